@@ -1,0 +1,55 @@
+-- The ten forms of an expression, and how a table's words stand for them (01, "The grammar table").
+-- A table is the list of its words, "four words a node: kind, a, b, relation", and "nodes count from 0".
+use Prim.Native.Nat.{ℕ, zero, suc, _+_, _*_, _/_}
+use mathlib.Core.List.{List}
+use lib.ListN.{length, getD}
+
+-- The forms in 01's order. Terminals, rules, nodes and relations are numbers.
+pub data Form : Type 0 where
+  empty : Form
+  terminal : ℕ → Form
+  rule : ℕ → Form
+  sequence choice : ℕ → ℕ → Form
+  not repeat : ℕ → Form
+  indent position : ℕ → ℕ → Form
+  align : ℕ → Form
+  other : Form
+
+-- 01's table of kinds: kind, a, b, relation. A kind over 9 is no form (`other`).
+abbrev pub decode : ℕ → ℕ → ℕ → ℕ → Form
+decode zero a b r = empty
+decode (suc zero) a b r = terminal a
+decode (suc (suc zero)) a b r = rule a
+decode (suc (suc (suc zero))) a b r = sequence a b
+decode (suc (suc (suc (suc zero)))) a b r = choice a b
+decode (suc (suc (suc (suc (suc zero))))) a b r = not a
+decode (suc (suc (suc (suc (suc (suc zero)))))) a b r = repeat a
+decode (suc (suc (suc (suc (suc (suc (suc zero))))))) a b r = indent a r
+decode (suc (suc (suc (suc (suc (suc (suc (suc zero)))))))) a b r = position a r
+decode (suc (suc (suc (suc (suc (suc (suc (suc (suc zero))))))))) a b r = align a
+decode (suc (suc (suc (suc (suc (suc (suc (suc (suc (suc k)))))))))) a b r = other
+
+-- The four words of node n.
+abbrev pub kindOf : List ℕ → ℕ → ℕ
+kindOf nodes n = getD nodes (n * 4) 0
+
+abbrev pub aOf : List ℕ → ℕ → ℕ
+aOf nodes n = getD nodes (n * 4 + 1) 0
+
+abbrev pub bOf : List ℕ → ℕ → ℕ
+bOf nodes n = getD nodes (n * 4 + 2) 0
+
+abbrev pub relationOf : List ℕ → ℕ → ℕ
+relationOf nodes n = getD nodes (n * 4 + 3) 0
+
+-- The form of node n.
+unfoldable pub form : List ℕ → ℕ → Form
+form nodes n = decode (kindOf nodes n) (aOf nodes n) (bOf nodes n) (relationOf nodes n)
+
+-- How many nodes a table has.
+abbrev pub nodeCount : List ℕ → ℕ
+nodeCount nodes = length nodes / 4
+
+-- "A second u16 slice holds for each rule the node that it stands for."
+abbrev pub standsFor : List ℕ → ℕ → ℕ
+standsFor rules r = getD rules r 0

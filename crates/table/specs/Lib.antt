@@ -1,0 +1,5 @@
+pub mod Answer
+pub mod Every
+pub mod Limits
+pub mod Form
+pub mod Checks
