@@ -1,8 +1,9 @@
 -- Laws of `every`: one number more, a number that fails, and two tests that agree.
-use Prim.Native.Nat.{ℕ, zero, suc, _+_, _≤_, _<_}
-use mathlib.Core.Path.{_≡_, refl, sym, ap, ap₂, _∙_}
+use Prim.Native.Nat.{ℕ, zero, suc, _+_, _<_}
+use mathlib.Core.Path.{_≡_, refl, ap₂}
 use mathlib.Core.Bool.{Bool, true, false, _&&_, and-false}
-use mathlib.Core.Logic.{_⊎_, inl, inr, ⊎-elim}
+use mathlib.Core.Logic.{⊎-elim}
+use native.Mathlib.Nat.{eq-or-lt-of-le, le-of-suc-le-suc}
 use native.Mathlib.Omega.{arith}
 use native.Mathlib.Numerals.{add-one}
 use Rattle.table.specs.Every.{every}
@@ -12,23 +13,12 @@ pub every-more : (n : ℕ) (test : ℕ → Bool) → every n test ≡ true → t
 unfolding every
 every-more n test h e = rw add-one (rw (h, e) refl)
 
--- Of two numbers, the first is below the second plus one: below it, or equal to it.
-below-or-equal : (i n : ℕ) → i < suc n → (i < n) ⊎ (i ≡ n)
-below-or-equal zero zero h = inr refl
-below-or-equal zero (suc n) h = inl (omega arith)
-below-or-equal (suc i) zero h = absurd (omega arith)
-below-or-equal (suc i) (suc n) h = later (below-or-equal i n (omega arith))
-  where
-    later : (i < n) ⊎ (i ≡ n) → (suc i < suc n) ⊎ (suc i ≡ suc n)
-    later (inl a) = inl (omega arith)
-    later (inr e) = inr (ap suc e)
-
 -- One number that fails is enough.
 pub every-fails : (n : ℕ) (test : ℕ → Bool) (i : ℕ) → i < n → test i ≡ false → every n test ≡ false
 unfolding every
 every-fails zero test i h e = absurd (omega arith)
 every-fails (suc n) test i h e =
-    ⊎-elim (λ a. rw (every-fails n test i a e) refl) (λ p. rw (← p, e) (and-false (every i test))) (below-or-equal i n h)
+    ⊎-elim (λ p. rw (← p, e) (and-false (every i test))) (λ a. rw (every-fails n test i a e) refl) (eq-or-lt-of-le (le-of-suc-le-suc h))
 
 -- Two tests that agree below n.
 pub every-same : (n : ℕ) (p q : ℕ → Bool) → ((i : ℕ) → i < n → p i ≡ q i) → every n p ≡ every n q
@@ -36,11 +26,11 @@ unfolding every
 every-same zero p q h = refl
 every-same (suc n) p q h = ap₂ _&&_ (every-same n p q (λ i a. h i (omega arith))) (h n (omega arith))
 
-and-left : (a b : Bool) → (a && b) ≡ true → a ≡ true
+pub and-left : (a b : Bool) → (a && b) ≡ true → a ≡ true
 and-left true b e = refl
 and-left false b e = e
 
-and-right : (a b : Bool) → (a && b) ≡ true → b ≡ true
+pub and-right : (a b : Bool) → (a && b) ≡ true → b ≡ true
 and-right true b e = e
 and-right false true e = refl
 and-right false false e = e
@@ -50,4 +40,4 @@ pub every-at : (n : ℕ) (test : ℕ → Bool) → every n test ≡ true → (i 
 unfolding every
 every-at zero test e i h = absurd (omega arith)
 every-at (suc n) test e i h =
-    ⊎-elim (λ a. every-at n test (and-left (every n test) (test n) e) i a) (λ p. rw p (and-right (every n test) (test n) e)) (below-or-equal i n h)
+    ⊎-elim (λ p. rw p (and-right (every n test) (test n) e)) (λ a. every-at n test (and-left (every n test) (test n) e) i a) (eq-or-lt-of-le (le-of-suc-le-suc h))

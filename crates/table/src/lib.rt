@@ -5,6 +5,7 @@ ghost use Rattle.table.specs.Checks.{numbers, tableAnswer, rightWords, f
 
 // The most nodes and rules of a table.
 pub const NODES: usize = 512;
+
 pub const RULES: usize = 128;
 
 // The last terminal.
@@ -60,7 +61,14 @@ fn node_wrong(nodes: &[u16], rules: &[u16]) -> bool
     let mut n = 0;
     while n < count {
         let at = n * 4;
-        if !words_right(rules.len(), n, nodes[at], nodes[at + 1], nodes[at + 2], nodes[at + 3]) {
+        if !words_right(
+            rules.len(),
+            n,
+            nodes[at],
+            nodes[at + 1],
+            nodes[at + 2],
+            nodes[at + 3],
+        ) {
             return true;
         }
         n += 1;

@@ -1,22 +1,15 @@
+-- `table::node_wrong` meets its contract.
 use Rattle.table.proofs.node_wrong.Statement.{statement}
 use Rattle.table.proofs.node_wrong.Tie as tie
-use Rattle.table.proofs.node_wrong.Reads as reads
-use Rattle.table.proofs.node_wrong.Lts as lts
-use Rattle.table.proofs.words_right.Reads as words-right-reads
-use borrow.Author.Needs.{needs}
-use borrow.Author.Tests.{not-true, not-false, le-ltb, lt-ltb}
-use Prim.Native.Nat.{ℕ, _-_, _≤_}
-use mathlib.Core.Path.{_≡_, refl, sym, _∙_}
-use mathlib.Core.Bool.{true}
+use borrow.Author.Tests.{not-true, not-false}
+use Prim.Native.Nat.{_-_, _≤_, _/_}
+use mathlib.Core.Path.{_≡_, refl, sym, _∙_, ap}
+use mathlib.Core.Bool.{true, not}
 use native.Mathlib.Omega.{arith}
 use lib.ListN.{length}
 use Rattle.table.specs.Every.{every}
 use Rattle.table.proofs.Every.{every-more, every-fails}
-use Rattle.table.specs.Checks.{rightNode}
-use Prim.Native.Nat.{_/_}
-use mathlib.Core.Path.{ap}
-use mathlib.Core.Bool.{not}
-use Rattle.table.specs.Checks.{fails4}
+use Rattle.table.specs.Checks.{rightNode, fails4}
 
 abbrev Inv-loop : tie.InvT-loop
 Inv-loop nodes rules count n₀ n = (n ≤ count) × (every n (rightNode nodes rules) ≡ true)
@@ -24,81 +17,62 @@ Inv-loop nodes rules count n₀ n = (n ≤ count) × (every n (rightNode nodes r
 abbrev μ-loop : tie.MeasureT-loop
 μ-loop nodes rules count n₀ n = count - n
 
--- src/lib.rt:68:5
 loop-holds : tie.Need-loop-holds Inv-loop μ-loop
 unfolding every
 loop-holds c = (omega arith, refl)
 
--- src/lib.rt:69:18
 mul-at : tie.Need-mul-at Inv-loop μ-loop
 mul-at c = omega arith
 
--- src/lib.rt:70:41
 mul-words-right : tie.Need-mul-words-right Inv-loop μ-loop
 mul-words-right c = omega arith
 
--- src/lib.rt:70:41
 shared-slice-read-words-right : tie.Need-shared-slice-read-words-right Inv-loop μ-loop
 shared-slice-read-words-right c = omega arith
 
--- src/lib.rt:70:58
 add-words-right : tie.Need-add-words-right Inv-loop μ-loop
 add-words-right c = omega arith
 
--- src/lib.rt:70:52
 mul-words-right-2 : tie.Need-mul-words-right-2 Inv-loop μ-loop
 mul-words-right-2 c = omega arith
 
--- src/lib.rt:70:52
 shared-slice-read-words-right-2 : tie.Need-shared-slice-read-words-right-2 Inv-loop μ-loop
 shared-slice-read-words-right-2 c = omega arith
 
--- src/lib.rt:70:73
 add-words-right-2 : tie.Need-add-words-right-2 Inv-loop μ-loop
 add-words-right-2 c = omega arith
 
--- src/lib.rt:70:67
 mul-words-right-3 : tie.Need-mul-words-right-3 Inv-loop μ-loop
 mul-words-right-3 c = omega arith
 
--- src/lib.rt:70:67
 shared-slice-read-words-right-3 : tie.Need-shared-slice-read-words-right-3 Inv-loop μ-loop
 shared-slice-read-words-right-3 c = omega arith
 
--- src/lib.rt:70:88
 add-words-right-3 : tie.Need-add-words-right-3 Inv-loop μ-loop
 add-words-right-3 c = omega arith
 
--- src/lib.rt:70:82
 mul-words-right-4 : tie.Need-mul-words-right-4 Inv-loop μ-loop
 mul-words-right-4 c = omega arith
 
--- src/lib.rt:70:82
 shared-slice-read-words-right-4 : tie.Need-shared-slice-read-words-right-4 Inv-loop μ-loop
 shared-slice-read-words-right-4 c = omega arith
 
--- src/lib.rt:70:13
 words-right-requires : tie.Need-words-right-requires Inv-loop μ-loop
 words-right-requires c κs = tt
 
--- src/lib.rt:71:13
 returns : tie.Need-returns Inv-loop μ-loop
 unfolding fails4
 returns c = sym (ap not (every-fails _ _ (c .before .before .before .before .before .before .before .loop .n) (c .before .before .before .before .before .before .loop-test .taken) (sym (c .before .words-right .ensures) ∙ not-true _ (c .if1 .taken))))
 
--- src/lib.rt:73:9
 add-n : tie.Need-add-n Inv-loop μ-loop
 add-n c = omega arith
 
--- src/lib.rt:68:5
 loop-less : tie.Need-loop-less Inv-loop μ-loop
 loop-less c = omega arith
 
--- src/lib.rt:68:5
 loop-again : tie.Need-loop-again Inv-loop μ-loop
 loop-again c = (omega arith, every-more _ _ (c .before .before .before .before .before .before .before .loop .inv .1) (sym (c .before .words-right .ensures) ∙ not-false _ (c .if1 .left)))
 
--- src/lib.rt:63:1
 returns-2 : tie.Need-returns-2 Inv-loop μ-loop
 unfolding fails4
 returns-2 c = let e : c .before .loop .n ≡ length (c .before .before .before .before .args .nodes .now) / 4 = omega arith in rw (← e) (sym (ap not (c .before .loop .inv .1)))

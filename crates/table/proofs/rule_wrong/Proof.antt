@@ -1,20 +1,16 @@
+-- `table::rule_wrong` meets its contract.
 use Rattle.table.proofs.rule_wrong.Statement.{statement}
 use Rattle.table.proofs.rule_wrong.Tie as tie
-use Rattle.table.proofs.rule_wrong.Reads as reads
-use Rattle.table.proofs.rule_wrong.Lts as lts
-use borrow.Author.Needs.{needs}
-use borrow.Author.Tests.{not-true, not-false, le-ltb, lt-ltb}
-use Prim.Native.Nat.{ℕ, _-_, _≤_}
-use mathlib.Core.Path.{_≡_, refl, sym, _∙_}
-use mathlib.Core.Bool.{true}
+use borrow.Author.Tests.{le-ltb, lt-ltb}
+use Prim.Native.Nat.{_-_, _≤_}
+use mathlib.Core.Path.{_≡_, refl, sym, ap}
+use mathlib.Core.Bool.{true, not}
 use native.Mathlib.Omega.{arith}
 use lib.ListN.{length}
 use Rattle.table.specs.Every.{every}
 use Rattle.table.proofs.Every.{every-more, every-fails}
 use Rattle.table.specs.Form.{nodeCount, standsFor}
 use lib.Dec.{ltb}
-use mathlib.Core.Path.{ap}
-use mathlib.Core.Bool.{not}
 use Rattle.table.specs.Checks.{fails5}
 
 abbrev Inv-loop : tie.InvT-loop
@@ -23,41 +19,32 @@ Inv-loop nodes rules count k₀ k = (k ≤ length rules) × (every k (λ r. ltb 
 abbrev μ-loop : tie.MeasureT-loop
 μ-loop nodes rules count k₀ k = length rules - k
 
--- src/lib.rt:101:5
 loop-holds : tie.Need-loop-holds Inv-loop μ-loop
 unfolding every
 loop-holds c = (omega arith, refl)
 
--- src/lib.rt:102:12
 mul-if1 : tie.Need-mul-if1 Inv-loop μ-loop
 mul-if1 c = omega arith
 
--- src/lib.rt:102:12
 shared-slice-read-if1 : tie.Need-shared-slice-read-if1 Inv-loop μ-loop
 shared-slice-read-if1 c = omega arith
 
--- src/lib.rt:102:12
 cast-if1 : tie.Need-cast-if1 Inv-loop μ-loop
 cast-if1 c = omega (arith, c .shared-slice-known .given (c .before .before .loop .k))
 
--- src/lib.rt:103:13
 returns : tie.Need-returns Inv-loop μ-loop
 unfolding fails5
 returns c = sym (ap not (every-fails _ _ (c .before .before .before .loop .k) (c .before .before .loop-test .taken) (le-ltb _ _ (c .if1 .taken))))
 
--- src/lib.rt:105:9
 add-k : tie.Need-add-k Inv-loop μ-loop
 add-k c = omega arith
 
--- src/lib.rt:101:5
 loop-less : tie.Need-loop-less Inv-loop μ-loop
 loop-less c = omega arith
 
--- src/lib.rt:101:5
 loop-again : tie.Need-loop-again Inv-loop μ-loop
 loop-again c = (omega arith, every-more _ _ (c .before .before .before .loop .inv .1) (lt-ltb _ _ (c .if1 .left)))
 
--- src/lib.rt:94:1
 returns-2 : tie.Need-returns-2 Inv-loop μ-loop
 unfolding fails5
 returns-2 c = let e : c .before .loop .k ≡ length (c .before .before .args .rules .now) = omega arith in rw (← e) (sym (ap not (c .before .loop .inv .1)))

@@ -1,13 +1,10 @@
+-- `table::words_right` meets its contract.
 use borrow.Author.Needs.{needs}
 use Rattle.table.proofs.words_right.Statement.{statement}
 use Rattle.table.proofs.words_right.Tie as tie
-use Rattle.table.proofs.words_right.Reads as reads
-use Rattle.table.proofs.words_right.Lts as lts
-use Rattle.table.proofs.all.Reads as all-reads
 use mathlib.Core.Path.{_≡_, refl, sym}
-use mathlib.Core.Bool.{Bool, false}
-use Prim.Native.Nat.{ℕ, zero, suc, _<_}
-use native.Mathlib.Omega.{arith}
+use mathlib.Core.Bool.{false}
+use Prim.Native.Nat.{ℕ, zero, suc}
 use Rattle.table.specs.Checks.{rightWords}
 
 -- A kind that is none of 0 to 9 is never right.
@@ -28,97 +25,76 @@ no-kind rules n (suc (suc (suc (suc (suc (suc (suc (suc zero)))))))) a b r h = a
 no-kind rules n (suc (suc (suc (suc (suc (suc (suc (suc (suc zero))))))))) a b r h = absurd (h .1 refl)
 no-kind rules n (suc (suc (suc (suc (suc (suc (suc (suc (suc (suc k)))))))))) a b r h = refl
 
--- src/lib.rt:83:14
 all-requires : tie.Need-all-requires
 all-requires c κs = search needs
 
--- src/lib.rt:84:14
 all-requires-2 : tie.Need-all-requires-2
 all-requires-2 c κs = search needs
 
--- src/lib.rt:85:14
 all-requires-3 : tie.Need-all-requires-3
 all-requires-3 c κs = search needs
 
--- src/lib.rt:86:14
 all-requires-4 : tie.Need-all-requires-4
 all-requires-4 c κs = search needs
 
--- src/lib.rt:87:14
 all-requires-5 : tie.Need-all-requires-5
 all-requires-5 c κs = search needs
 
--- src/lib.rt:88:14
 all-requires-6 : tie.Need-all-requires-6
 all-requires-6 c κs = search needs
 
--- src/lib.rt:89:14
 all-requires-7 : tie.Need-all-requires-7
 all-requires-7 c κs = search needs
 
--- src/lib.rt:90:14
 all-requires-8 : tie.Need-all-requires-8
 all-requires-8 c κs = search needs
 
--- src/lib.rt:91:14
 all-requires-9 : tie.Need-all-requires-9
 all-requires-9 c κs = search needs
 
--- src/lib.rt:92:14
 all-requires-10 : tie.Need-all-requires-10
 all-requires-10 c κs = search needs
 
--- src/lib.rt:79:1
 returns : tie.Need-returns
 unfolding rightWords
 returns c = rw (c .before .match .keys1) (c .all .ensures)
 
--- src/lib.rt:79:1
 returns-2 : tie.Need-returns-2
 unfolding rightWords
 returns-2 c = rw (c .before .match .keys2) (c .all2 .ensures)
 
--- src/lib.rt:79:1
 returns-3 : tie.Need-returns-3
 unfolding rightWords
 returns-3 c = rw (c .before .match .keys3) (c .all3 .ensures)
 
--- src/lib.rt:79:1
 returns-4 : tie.Need-returns-4
 unfolding rightWords
 returns-4 c = rw (c .before .match .keys4) (c .all4 .ensures)
 
--- src/lib.rt:79:1
 returns-5 : tie.Need-returns-5
 unfolding rightWords
 returns-5 c = rw (c .before .match .keys5) (c .all5 .ensures)
 
--- src/lib.rt:79:1
 returns-6 : tie.Need-returns-6
 unfolding rightWords
 returns-6 c = rw (c .before .match .keys6) (c .all6 .ensures)
 
--- src/lib.rt:79:1
 returns-7 : tie.Need-returns-7
 unfolding rightWords
 returns-7 c = rw (c .before .match .keys7) (c .all7 .ensures)
 
--- src/lib.rt:79:1
 returns-8 : tie.Need-returns-8
 unfolding rightWords
 returns-8 c = rw (c .before .match .keys8) (c .all8 .ensures)
 
--- src/lib.rt:79:1
 returns-9 : tie.Need-returns-9
 unfolding rightWords
 returns-9 c = rw (c .before .match .keys9) (c .all9 .ensures)
 
--- src/lib.rt:79:1
 returns-10 : tie.Need-returns-10
 unfolding rightWords
 returns-10 c = rw (c .before .match .keys10) (c .all10 .ensures)
 
--- src/lib.rt:79:1
 returns-11 : tie.Need-returns-11
 unfolding NoKind
 returns-11 c = sym (no-kind _ _ _ _ _ _ (c .match .rest))

@@ -1,0 +1,9 @@
+pub mod Lists
+pub mod FieldLaws
+pub mod Offsets
+pub mod OrderLaws
+pub mod ShapeLaws
+pub mod TableLaws
+pub mod PartLaws
+pub mod ReadLaws
+pub mod SpellingLaws

@@ -1,0 +1,121 @@
+-- The answers, lookups and lent words of an inspected file.
+use Prim.Native.Nat.{ℕ, _*_, _/_, _≤_, _<_}
+use mathlib.Core.Path.{_≡_, sym, ap, ap₂, subst, _∙_}
+use mathlib.Core.Bool.{Bool, _||_, or-true}
+use mathlib.Core.List.{List, [], _++_, map}
+use lib.ListN.{length, getD, drop, List·getD-eq-default}
+use lib.Dec.{ltb}
+use native.Mathlib.Nat.{le-trans, le-of-eq}
+use native.Mathlib.Omega.{arith}
+use borrow.Author.Tests.{le-ltb, lt-ltb}
+use Rattle.table.specs.Answer.{Answer, given, refused, refuseIf, afterwards}
+use Rattle.grammar_file.specs.File.{Contents, keywords, ruleNames, ruleNode, ruleList, wordsOf, nodeTable, fieldsOf, fails6, contents, checks1to5, fileAnswer, readAnswer, partOf, keywordBytes, nameBytes}
+use Rattle.grammar_file.specs.Offsets.{valueAt, offsetOf, fieldsFrom}
+use Rattle.grammar_file.specs.InternalShape.{Parts, Inspects}
+use Rattle.grammar_file.specs.declared.shape.Shape.{Shape}
+use Rattle.grammar_file.specs.declared.Inspected.{Inspected}
+use Rattle.grammar_file.specs.declared.Inspected.the-variants.{Whole, Refused}
+use Rattle.grammar_file.proofs.Offsets.{length-spellings, spelling-from}
+use Rattle.grammar_file.proofs.TableLaws.{length-nodes}
+use Rattle.grammar_file.proofs.PartLaws.{keywords-are, names-are, rules-are, nodes-are, keyword-count, rule-count}
+
+module _ (file : List ℕ) {r : Inspected} (i : Inspects file r) where
+  -- A file that one of 1 to 5 refuses.
+  module _ (n : ℕ) (e : r ≡ Refused n) where
+    pub refuses : (next : Answer Contents) → refused n ≡ checks1to5 file next
+    refuses next = sym (subst (Inspects file) e i next)
+
+    no-part : (part : List ℕ) → [] ≡ partOf (fileAnswer file) part
+    unfolding fileAnswer
+    no-part part = ap (λ (a : Answer Contents). partOf a part) (refuses (given (contents (fieldsOf file))))
+
+    pub no-keyword : (k : ℕ) → [] ≡ keywordBytes file k
+    unfolding keywordBytes
+    no-keyword k = no-part (getD (keywords (fieldsOf file)) k [])
+
+    pub no-name : (k : ℕ) → [] ≡ nameBytes file k
+    unfolding nameBytes
+    no-name k = no-part (getD (ruleNames (fieldsOf file)) k [])
+
+  -- A file that passes them.
+  module _ (s : Shape) (e : r ≡ Whole s) where
+    pub parts : Parts file s
+    parts = subst (Inspects file) e i .0
+
+    pub passes : (next : Answer Contents) → next ≡ checks1to5 file next
+    passes next = sym (subst (Inspects file) e i .1 next)
+
+    a-part : (part : List ℕ) → part ≡ partOf (fileAnswer file) part
+    unfolding fileAnswer
+    a-part part = ap (λ (a : Answer Contents). partOf a part) (passes (given (contents (fieldsOf file))))
+
+    pub keyword-at : (k : ℕ) → k < s .keywords → {part : List ℕ} → part ≡ valueAt file (offsetOf file 4 k) → part ≡ keywordBytes file k
+    unfolding keywordBytes
+    keyword-at k h q =
+        q
+        ∙ sym (spelling-from file 4 (s .keywords) 0 k h)
+        ∙ ap (λ (l : List (List ℕ)). getD l k []) (sym (keywords-are file s parts))
+        ∙ a-part (getD (keywords (fieldsOf file)) k [])
+
+    pub keyword-past : (k : ℕ) → s .keywords ≤ k → [] ≡ keywordBytes file k
+    unfolding keywordBytes
+    keyword-past k h =
+        sym (List·getD-eq-default (keywords (fieldsOf file)) [] (le-trans (le-of-eq (keyword-count file s parts)) h))
+        ∙ a-part (getD (keywords (fieldsOf file)) k [])
+
+    pub name-at : (k : ℕ) → k < s .rules .count → {part : List ℕ} → part ≡ drop 2 (valueAt file (offsetOf file (s .rules .at) k)) → part ≡ nameBytes file k
+    unfolding nameBytes
+    name-at k h q =
+        q
+        ∙ sym (spelling-from file (s .rules .at) (s .rules .count) 2 k h)
+        ∙ ap (λ (l : List (List ℕ)). getD l k []) (sym (names-are file s parts))
+        ∙ a-part (getD (ruleNames (fieldsOf file)) k [])
+
+    pub name-past : (k : ℕ) → s .rules .count ≤ k → [] ≡ nameBytes file k
+    unfolding nameBytes
+    name-past k h =
+        sym (List·getD-eq-default (ruleNames (fieldsOf file)) [] (le-trans (le-of-eq names-length) h))
+        ∙ a-part (getD (ruleNames (fieldsOf file)) k [])
+      where
+        names-length : length (ruleNames (fieldsOf file)) ≡ s .rules .count
+        names-length = ap length (names-are file s parts) ∙ length-spellings file (s .rules .at) (s .rules .count) 2
+
+    table-length : length (nodeTable (fieldsOf file)) ≡ s .nodes .count * 4
+    table-length = ap length (nodes-are file s parts) ∙ length-nodes file (s .nodes .at) (s .nodes .count)
+
+    -- Number 6: too little room for the nodes, for the rules, and enough for both.
+    pub short-nodes : (n m : ℕ) → n / 4 < s .nodes .count → refused 6 ≡ readAnswer file n m
+    unfolding readAnswer fails6
+    short-nodes n m h =
+        ap (λ (b : Bool). refuseIf (b || ltb m (length (ruleList (fieldsOf file)))) 6 (given (contents (fieldsOf file)))) (sym (lt-ltb n (length (nodeTable (fieldsOf file))) (omega (arith, table-length))))
+        ∙ passes _
+
+    pub short-rules : (n m : ℕ) → m < s .rules .count → refused 6 ≡ readAnswer file n m
+    unfolding readAnswer fails6
+    short-rules n m h =
+        ap (λ (b : Bool). refuseIf b 6 (given (contents (fieldsOf file))))
+        (sym (ap (λ (b : Bool). ltb n (length (nodeTable (fieldsOf file))) || b) (lt-ltb m (length (ruleList (fieldsOf file))) (omega (arith, rule-count file s parts))) ∙ or-true (ltb n (length (nodeTable (fieldsOf file))))))
+        ∙ passes _
+
+    pub enough : (n m : ℕ) → s .nodes .count ≤ n / 4 → s .rules .count ≤ m → given (contents (fieldsOf file)) ≡ readAnswer file n m
+    unfolding readAnswer fails6
+    enough n m a b =
+        ap₂ (λ (c d : Bool). refuseIf (c || d) 6 (given (contents (fieldsOf file))))
+        (sym (le-ltb n (length (nodeTable (fieldsOf file))) (omega (arith, table-length))))
+        (sym (le-ltb m (length (ruleList (fieldsOf file))) (omega (arith, rule-count file s parts))))
+        ∙ passes _
+
+    -- The lent words after a read.
+    pub nodes-after : {a : Answer Contents} → a ≡ given (contents (fieldsOf file)) → (old : List ℕ) {out : List ℕ}
+        → out ≡ wordsOf (fieldsFrom file (s .nodes .at) (s .nodes .count)) ++ drop (s .nodes .count * 4) old → out ≡ afterwards a (nodeTable (fieldsOf file)) old
+    nodes-after h old q =
+        q
+        ∙ ap₂ (λ (l : List ℕ) (k : ℕ). l ++ drop k old) (sym (nodes-are file s parts)) (sym table-length)
+        ∙ ap (λ (b : Answer Contents). afterwards b (nodeTable (fieldsOf file)) old) (sym h)
+
+    pub rules-after : {a : Answer Contents} → a ≡ given (contents (fieldsOf file)) → (old : List ℕ) {out : List ℕ}
+        → out ≡ map ruleNode (fieldsFrom file (s .rules .at) (s .rules .count)) ++ drop (s .rules .count) old → out ≡ afterwards a (ruleList (fieldsOf file)) old
+    rules-after h old q =
+        q
+        ∙ ap₂ (λ (l : List ℕ) (k : ℕ). l ++ drop k old) (sym (rules-are file s parts)) (sym (rule-count file s parts))
+        ∙ ap (λ (b : Answer Contents). afterwards b (ruleList (fieldsOf file)) old) (sym h)

@@ -1,0 +1,101 @@
+-- The words of a table and its rules, written field by field.
+use Prim.Native.Nat.{ℕ, _+_, _*_, _%_, _<_}
+use mathlib.Core.Path.{_≡_, refl, sym, ap, ap₂, _∙_}
+use mathlib.Core.List.{List, [], _∷_, _++_, map, map-append, append-assoc}
+use native.Mathlib.Omega.{arith}
+use borrow.Author.Tests.{lt-leb, lt-ltb}
+use mathlib.Core.Bool.{not, _&&_, _||_, and-false, or-true}
+use lib.Dec.{leb, eqb}
+use lib.Seq.{take-at}
+use Rattle.table.specs.Answer.{refused}
+use Rattle.table.specs.Limits.{mostNodes, mostRules}
+use Rattle.table.specs.Form.{nodeCount}
+use Rattle.table.specs.Checks.{fails3, tableAnswer}
+use lib.ListN.{length, take, drop, set, length-append, length-map}
+use Rattle.grammar_file.specs.Fields.{Field}
+use Rattle.grammar_file.specs.File.{ruleNode, fourWords, wordsOf}
+use Rattle.grammar_file.specs.Offsets.{fieldAt, offsetOf, fieldsFrom}
+use Rattle.grammar_file.proofs.Lists.{write-next}
+use Rattle.grammar_file.proofs.Offsets.{length-from, from-next}
+
+-- The words of fields one list behind the other, and how many there are.
+words-append : (xs ys : List Field) → wordsOf (xs ++ ys) ≡ wordsOf xs ++ wordsOf ys
+unfolding wordsOf
+words-append [] ys = refl
+words-append (f ∷ xs) ys = ap (λ (l : List ℕ). fourWords f ++ l) (words-append xs ys)
+
+pub length-words : (fs : List Field) → length (wordsOf fs) ≡ length fs * 4
+unfolding wordsOf
+length-words [] = refl
+length-words (f ∷ fs) = omega (arith, length-words fs)
+
+module _ (file : List ℕ) (first : ℕ) where
+  pub length-nodes : (k : ℕ) → length (wordsOf (fieldsFrom file first k)) ≡ k * 4
+  length-nodes k = length-words (fieldsFrom file first k) ∙ ap (λ (n : ℕ). n * 4) (length-from file first k)
+
+  pub length-rules : (k : ℕ) → length (map ruleNode (fieldsFrom file first k)) ≡ k
+  length-rules k = length-map (fieldsFrom file first k) ruleNode ∙ length-from file first k
+
+  -- One rule more.
+  pub rule-next : (k : ℕ) (old out : List ℕ) (v : ℕ) → out ≡ map ruleNode (fieldsFrom file first k) ++ drop k old → k < length old
+      → v ≡ ruleNode (fieldAt file (offsetOf file first k)) → set out k v ≡ map ruleNode (fieldsFrom file first (k + 1)) ++ drop (k + 1) old
+  rule-next k old out v e h p =
+      ap (λ (l : List ℕ). set l k v) e
+      ∙ write-next (map ruleNode (fieldsFrom file first k)) old k (k + 1) v 0 (length-rules k) h refl
+      ∙ ap (λ (l : List ℕ). l ++ drop (k + 1) old)
+      (ap (λ (w : ℕ). map ruleNode (fieldsFrom file first k) ++ (w ∷ [])) p
+      ∙ sym (map-append ruleNode (fieldsFrom file first k) (fieldAt file (offsetOf file first k) ∷ []))
+      ∙ ap (map ruleNode) (sym (from-next file first k)))
+
+-- Four words more.
+four-more : (p old : List ℕ) (n : ℕ) (a b c d : ℕ) → length p ≡ n → n + 3 < length old
+    → set (set (set (set (p ++ drop n old) n a) (n + 1) b) (n + 2) c) (n + 3) d ≡ (p ++ (a ∷ b ∷ c ∷ d ∷ [])) ++ drop (n + 4) old
+four-more p old n a b c d e h =
+    let one : List ℕ = p ++ (a ∷ []) in
+    let two : List ℕ = one ++ (b ∷ []) in
+    let three : List ℕ = two ++ (c ∷ []) in
+    ap (λ (l : List ℕ). set (set (set l (n + 1) b) (n + 2) c) (n + 3) d) (write-next p old n (n + 1) a 0 e (omega arith) refl)
+    ∙ ap (λ (l : List ℕ). set (set l (n + 2) c) (n + 3) d) (write-next one old (n + 1) (n + 2) b 0 (simp length-append (omega arith)) (omega arith) (omega arith))
+    ∙ ap (λ (l : List ℕ). set l (n + 3) d) (write-next two old (n + 2) (n + 3) c 0 (simp length-append (omega arith)) (omega arith) (omega arith))
+    ∙ write-next three old (n + 3) (n + 4) d 0 (simp length-append (omega arith)) h (omega arith)
+    ∙ ap (λ (l : List ℕ). l ++ drop (n + 4) old) joined
+  where
+    joined : (((p ++ (a ∷ [])) ++ (b ∷ [])) ++ (c ∷ [])) ++ (d ∷ []) ≡ p ++ (a ∷ b ∷ c ∷ d ∷ [])
+    joined = simp append-assoc
+
+-- One node more.
+pub node-next : (file : List ℕ) (first k : ℕ) (old out : List ℕ) (a b c d : ℕ) → out ≡ wordsOf (fieldsFrom file first k) ++ drop (k * 4) old → k * 4 + 3 < length old
+    → (a ∷ b ∷ c ∷ d ∷ []) ≡ fourWords (fieldAt file (offsetOf file first k))
+    → set (set (set (set out (k * 4) a) (k * 4 + 1) b) (k * 4 + 2) c) (k * 4 + 3) d ≡ wordsOf (fieldsFrom file first (k + 1)) ++ drop ((k + 1) * 4) old
+unfolding wordsOf
+node-next file first k old out a b c d e h p =
+    let n : k * 4 + 4 ≡ (k + 1) * 4 = omega arith in
+    ap (λ (l : List ℕ). set (set (set (set l (k * 4) a) (k * 4 + 1) b) (k * 4 + 2) c) (k * 4 + 3) d) e
+    ∙ four-more (wordsOf (fieldsFrom file first k)) old (k * 4) a b c d (length-nodes file first k) h
+    ∙ ap₂ (λ (l : List ℕ) (m : ℕ). l ++ drop m old)
+    (ap (λ (l : List ℕ). wordsOf (fieldsFrom file first k) ++ l) p
+    ∙ sym (words-append (fieldsFrom file first k) (fieldAt file (offsetOf file first k) ∷ []))
+    ∙ ap wordsOf (sym (from-next file first k))) n
+
+-- What was written stands in front.
+module _ (file : List ℕ) (first k : ℕ) where
+  pub nodes-front : (rest : List ℕ) {out : List ℕ} → out ≡ wordsOf (fieldsFrom file first k) ++ rest → take (k * 4) out ≡ wordsOf (fieldsFrom file first k)
+  nodes-front rest e = ap (take (k * 4)) e ∙ take-at (wordsOf (fieldsFrom file first k)) rest (k * 4) (length-nodes file first k)
+
+  pub rules-front : (rest : List ℕ) {out : List ℕ} → out ≡ map ruleNode (fieldsFrom file first k) ++ rest → take k out ≡ map ruleNode (fieldsFrom file first k)
+  rules-front rest e = ap (take k) e ∙ take-at (map ruleNode (fieldsFrom file first k)) rest k (length-rules file first k)
+
+  -- A table of k node fields has k nodes.
+  pub count-nodes : nodeCount (wordsOf (fieldsFrom file first k)) ≡ k
+  count-nodes = omega (arith, length-nodes file first k)
+
+-- More nodes or rules than the limits are number 3.
+pub many-nodes : (nodes rules : List ℕ) → mostNodes < nodeCount nodes → tableAnswer nodes rules ≡ refused 3
+unfolding tableAnswer fails3
+many-nodes nodes rules h =
+    rw (lt-leb (nodeCount nodes) mostNodes h, and-false (leb 1 (nodeCount nodes)), or-true (not (eqb (length nodes % 4) 0))) refl
+
+pub many-rules : (nodes rules : List ℕ) → mostRules < length rules → tableAnswer nodes rules ≡ refused 3
+unfolding tableAnswer fails3
+many-rules nodes rules h =
+    rw (lt-ltb mostRules (length rules) h, or-true (not (eqb (length nodes % 4) 0) || not (leb 1 (nodeCount nodes) && leb (nodeCount nodes) mostNodes))) refl

@@ -1,0 +1,39 @@
+-- `grammar_file::check` meets its contract.
+use borrow.Author.Needs.{needs}
+use Rattle.grammar_file.proofs.check.Statement.{statement}
+use Rattle.grammar_file.proofs.check.Tie as tie
+use mathlib.Core.Path.{_∙_}
+use Rattle.table.specs.Answer.{given}
+use Rattle.grammar_file.specs.File.{fieldsOf, contents, fileAnswer}
+use Rattle.grammar_file.proofs.ReadLaws.{refuses, parts, passes}
+
+inspect-requires : tie.Need-inspect-requires
+inspect-requires c κs = search needs
+
+enum-known-found : tie.Need-enum-known-found
+enum-known-found c = search needs
+
+enum-known-found-2 : tie.Need-enum-known-found-2
+enum-known-found-2 c = search needs
+
+counts-requires : tie.Need-counts-requires
+counts-requires c κs = parts (c .before .before .before .before .before .args .file .now) (c .before .before .before .inspect .ensures) (c .before .found2 .given .0 .0) (c .before .found2 .given .1)
+
+returns : tie.Need-returns
+unfolding fileAnswer
+returns c = refuses (c .before .before .before .before .before .args .file .now) (c .before .before .before .inspect .ensures) (c .before .found .given .0 .0) (c .before .found .given .1) (given (contents (fieldsOf (c .before .before .before .before .before .args .file .now))))
+
+returns-2 : tie.Need-returns-2
+unfolding fileAnswer
+returns-2 c = c .counts .ensures ∙ passes (c .before .before .before .before .before .before .args .file .now) (c .before .before .before .before .inspect .ensures) (c .before .before .found2 .given .0 .0) (c .before .before .found2 .given .1) (given (contents (fieldsOf (c .before .before .before .before .before .before .args .file .now))))
+
+pub check-spec : {M : Type 1} → statement M
+check-spec =
+    tie.close
+    (tie.spec
+    inspect-requires
+    enum-known-found
+    enum-known-found-2
+    counts-requires
+    returns
+    returns-2)

@@ -1,0 +1,20 @@
+-- `grammar_file::counts` meets its contract.
+use borrow.Author.Needs.{needs}
+use Rattle.grammar_file.proofs.counts.Statement.{statement}
+use Rattle.grammar_file.proofs.counts.Tie as tie
+use Rattle.grammar_file.proofs.PartLaws.{counted}
+
+value-at-requires : tie.Need-value-at-requires
+value-at-requires c κs = search needs
+
+number-in-requires : tie.Need-number-in-requires
+number-in-requires c κs = search needs
+
+byte-in-requires : tie.Need-byte-in-requires
+byte-in-requires c κs = search needs
+
+returns : tie.Need-returns
+returns c = counted (c .before .before .before .before .before .before .args .file .now) (c .before .before .before .before .before .before .args .s) (c .before .before .before .before .before .before .pre) (c .before .before .value-at .ensures) (c .before .number-in .ensures) (c .byte-in .ensures .0)
+
+pub counts-spec : {M : Type 1} → statement M
+counts-spec = tie.close (tie.spec value-at-requires number-in-requires byte-in-requires returns)

@@ -1,0 +1,67 @@
+-- `grammar_file::shape::framed` meets its contract.
+use Rattle.grammar_file.proofs.shape.framed.Statement.{statement}
+use Rattle.grammar_file.proofs.shape.framed.Tie as tie
+use native.Mathlib.Omega.{arith}
+use Prim.Native.Nat.{ℕ, _≤_}
+use mathlib.Core.Path.{_≡_, refl, sym, _∙_}
+use mathlib.Core.List.{List}
+use mathlib.Core.Bool.{true}
+use borrow.Author.Tests.{le-leb, lt-leb, ne-eqb, eq-eqb, not-true, not-false, eqb-true}
+use lib.ListN.{length}
+use Rattle.grammar_file.specs.File.{rightLength}
+use Rattle.grammar_file.specs.Offsets.{lengthAt}
+use Rattle.grammar_file.specs.InternalShape.{rightAt, framedBy}
+use Rattle.grammar_file.proofs.OrderLaws.{whole, its-length}
+
+-- A file that begins with a right tag 1 has four bytes at least.
+four : (file : List ℕ) → rightAt file 0 1 ≡ true → 4 ≤ length file
+unfolding rightLength
+four file h =
+    let n : lengthAt file 0 ≡ 1 = eqb-true (lengthAt file 0) 1 (its-length file 0 1 h) in
+    omega (arith, whole file 0 1 h)
+
+returns : tie.Need-returns
+unfolding framedBy
+returns c = rw (lt-leb (length (c .before .before .args .file .now)) 65535 (c .if1 .taken)) refl
+
+right-at-requires : tie.Need-right-at-requires
+right-at-requires c κs = tt
+
+returns-2 : tie.Need-returns-2
+unfolding framedBy
+returns-2 c = rw (le-leb (length (c .before .before .before .before .args .file .now)) 65535 (c .before .before .if1 .left), sym (c .before .right-at .ensures) ∙ not-true _ (c .if2 .taken)) refl
+
+shared-slice-read-if3 : tie.Need-shared-slice-read-if3
+shared-slice-read-if3 c = omega (arith, four (c .before .before .before .before .before .args .file .now) (sym (c .before .before .right-at .ensures) ∙ not-false _ (c .before .if2 .left)))
+
+returns-3 : tie.Need-returns-3
+unfolding framedBy
+returns-3 c = rw (le-leb (length (c .before .before .before .before .before .before .args .file .now)) 65535 (c .before .before .before .before .if1 .left), sym (c .before .before .before .right-at .ensures) ∙ not-false _ (c .before .before .if2 .left), ne-eqb _ _ (c .if3 .taken)) refl
+
+right-at-requires-2 : tie.Need-right-at-requires-2
+right-at-requires-2 c κs = tt
+
+returns-4 : tie.Need-returns-4
+unfolding framedBy
+returns-4 c = rw (le-leb (length (c .before .before .before .before .before .before .before .before .args .file .now)) 65535 (c .before .before .before .before .before .before .if1 .left), sym (c .before .before .before .before .before .right-at .ensures) ∙ not-false _ (c .before .before .before .before .if2 .left), eq-eqb _ _ (c .before .before .if3 .left), sym (c .before .right-at2 .ensures) ∙ not-true _ (c .if4 .taken)) refl
+
+next-at-requires : tie.Need-next-at-requires
+next-at-requires c κs = tt
+
+returns-5 : tie.Need-returns-5
+unfolding framedBy
+returns-5 c = rw (le-leb (length (c .before .before .before .before .before .before .before .before .before .args .file .now)) 65535 (c .before .before .before .before .before .before .before .if1 .left), sym (c .before .before .before .before .before .before .right-at .ensures) ∙ not-false _ (c .before .before .before .before .before .if2 .left), eq-eqb _ _ (c .before .before .before .if3 .left), sym (c .before .before .right-at2 .ensures) ∙ not-false _ (c .before .if4 .left), ← c .next-at .ensures) refl
+
+pub framed-spec : {M : Type 1} → statement M
+framed-spec =
+    tie.close
+    (tie.spec
+    returns
+    right-at-requires
+    returns-2
+    shared-slice-read-if3
+    returns-3
+    right-at-requires-2
+    returns-4
+    next-at-requires
+    returns-5)

@@ -1,0 +1,68 @@
+-- `grammar_file::tables::check_tables` meets its contract.
+use borrow.Author.Needs.{needs}
+use Rattle.grammar_file.proofs.tables.check_tables.Statement.{statement}
+use Rattle.grammar_file.proofs.tables.check_tables.Tie as tie
+use mathlib.Core.Path.{sym, ap, ap₂, _∙_}
+use mathlib.Core.List.{map}
+use lib.ListN.{length}
+use Rattle.table.specs.Checks.{tableAnswer}
+use Rattle.grammar_file.specs.File.{ruleNode, wordsOf}
+use Rattle.grammar_file.specs.Offsets.{fieldsFrom}
+use Rattle.grammar_file.proofs.TableLaws.{length-nodes, length-rules, nodes-front, rules-front, count-nodes, many-nodes, many-rules}
+
+returns : tie.Need-returns
+returns c = sym (many-nodes (wordsOf (fieldsFrom (c .before .before .args .file .now) (c .before .before .args .nodes-at) (c .before .before .args .node-count))) (map ruleNode (fieldsFrom (c .before .before .args .file .now) (c .before .before .args .rules-at) (c .before .before .args .rule-count))) (rw (count-nodes (c .before .before .args .file .now) (c .before .before .args .nodes-at) (c .before .before .args .node-count)) (c .if1 .taken)))
+
+returns-2 : tie.Need-returns-2
+returns-2 c = sym (many-rules (wordsOf (fieldsFrom (c .before .before .before .args .file .now) (c .before .before .before .args .nodes-at) (c .before .before .before .args .node-count))) (map ruleNode (fieldsFrom (c .before .before .before .args .file .now) (c .before .before .before .args .rules-at) (c .before .before .before .args .rule-count))) (rw (length-rules (c .before .before .before .args .file .now) (c .before .before .before .args .rules-at) (c .before .before .before .args .rule-count)) (c .if2 .taken)))
+
+slice-aggregate-write-nodes : tie.Need-slice-aggregate-write-nodes
+slice-aggregate-write-nodes c = search needs
+
+write-nodes-requires : tie.Need-write-nodes-requires
+write-nodes-requires c κs = search needs
+
+slice-aggregate-write-rules : tie.Need-slice-aggregate-write-rules
+slice-aggregate-write-rules c = search needs
+
+write-rules-requires : tie.Need-write-rules-requires
+write-rules-requires c κs = search needs
+
+mul-words : tie.Need-mul-words
+mul-words c = search needs
+
+array-share-prefix-nodes : tie.Need-array-share-prefix-nodes
+array-share-prefix-nodes c = search needs
+
+slice-aggregate-check : tie.Need-slice-aggregate-check
+slice-aggregate-check c = sym (ap length (nodes-front (c .before .before .before .before .before .before .before .before .before .before .args .file .now) (c .before .before .before .before .before .before .before .before .before .before .args .nodes-at) (c .before .before .before .before .before .before .before .before .before .before .args .node-count) _ (c .before .before .before .before .before .write-nodes .ensures)) ∙ length-nodes (c .before .before .before .before .before .before .before .before .before .before .args .file .now) (c .before .before .before .before .before .before .before .before .before .before .args .nodes-at) (c .before .before .before .before .before .before .before .before .before .before .args .node-count))
+
+array-share-prefix-rules : tie.Need-array-share-prefix-rules
+array-share-prefix-rules c = search needs
+
+slice-aggregate-check-2 : tie.Need-slice-aggregate-check-2
+slice-aggregate-check-2 c = sym (ap length (rules-front (c .before .before .before .before .before .before .before .before .before .before .before .args .file .now) (c .before .before .before .before .before .before .before .before .before .before .before .args .rules-at) (c .before .before .before .before .before .before .before .before .before .before .before .args .rule-count) _ (c .before .before .before .write-rules .ensures)) ∙ length-rules (c .before .before .before .before .before .before .before .before .before .before .before .args .file .now) (c .before .before .before .before .before .before .before .before .before .before .before .args .rules-at) (c .before .before .before .before .before .before .before .before .before .before .before .args .rule-count))
+
+check-requires : tie.Need-check-requires
+check-requires c κs = search needs
+
+returns-3 : tie.Need-returns-3
+returns-3 c = c .check .ensures ∙ ap₂ tableAnswer (nodes-front (c .before .before .before .before .before .before .before .before .before .before .before .before .args .file .now) (c .before .before .before .before .before .before .before .before .before .before .before .before .args .nodes-at) (c .before .before .before .before .before .before .before .before .before .before .before .before .args .node-count) _ (c .before .before .before .before .before .before .before .write-nodes .ensures)) (rules-front (c .before .before .before .before .before .before .before .before .before .before .before .before .args .file .now) (c .before .before .before .before .before .before .before .before .before .before .before .before .args .rules-at) (c .before .before .before .before .before .before .before .before .before .before .before .before .args .rule-count) _ (c .before .before .before .before .write-rules .ensures))
+
+pub check-tables-spec : {M : Type 1} → statement M
+check-tables-spec =
+    tie.close
+    (tie.spec
+    returns
+    returns-2
+    slice-aggregate-write-nodes
+    write-nodes-requires
+    slice-aggregate-write-rules
+    write-rules-requires
+    mul-words
+    array-share-prefix-nodes
+    slice-aggregate-check
+    array-share-prefix-rules
+    slice-aggregate-check-2
+    check-requires
+    returns-3)

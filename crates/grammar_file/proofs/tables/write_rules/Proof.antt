@@ -1,0 +1,72 @@
+-- `grammar_file::tables::write_rules` meets its contract.
+use Rattle.grammar_file.proofs.tables.write_rules.Statement.{statement}
+use Rattle.grammar_file.proofs.tables.write_rules.Tie as tie
+use native.Mathlib.Omega.{arith}
+use Prim.Native.Nat.{ℕ, _-_, _≤_}
+use mathlib.Core.Path.{_≡_, refl, sym, ap, _∙_}
+use mathlib.Core.List.{List, _++_, map}
+use lib.ListN.{length, drop, getD}
+use Rattle.grammar_file.specs.File.{ruleNode}
+use Rattle.grammar_file.specs.Offsets.{nextAt, offsetOf, fieldsFrom, valueAt}
+use Rattle.grammar_file.specs.Fields.{twoBytes}
+use Rattle.grammar_file.proofs.Lists.{length-written}
+use Rattle.grammar_file.proofs.TableLaws.{length-rules, rule-next}
+use Rattle.grammar_file.proofs.Offsets.{offset-next}
+
+abbrev Inv-loop : tie.InvT-loop
+Inv-loop file first count out₀ at₀ i₀ out at i = (i ≤ count) × (at ≡ offsetOf file first i) × (out ≡ map ruleNode (fieldsFrom file first i) ++ drop i out₀)
+
+abbrev μ-loop : tie.MeasureT-loop
+μ-loop file first count out₀ at₀ i₀ out at i = count - i
+
+loop-holds : tie.Need-loop-holds Inv-loop μ-loop
+unfolding fieldsFrom offsetOf
+loop-holds c = (omega arith, refl, refl)
+
+value-at-requires : tie.Need-value-at-requires Inv-loop μ-loop
+value-at-requires c κs = tt
+
+number-in-requires : tie.Need-number-in-requires Inv-loop μ-loop
+number-in-requires c κs = omega arith
+
+mul-out : tie.Need-mul-out Inv-loop μ-loop
+mul-out c = omega arith
+
+slice-write-out : tie.Need-slice-write-out Inv-loop μ-loop
+slice-write-out c = omega (arith, (ap length (c .before .before .before .loop .inv .2) ∙ length-written (map ruleNode (fieldsFrom (c .before .before .before .before .before .before .args .file .now) (c .before .before .before .before .before .before .args .first) (c .before .before .before .loop .i))) (c .before .before .before .before .before .before .args .out .now) (c .before .before .before .loop .i) (length-rules (c .before .before .before .before .before .before .args .file .now) (c .before .before .before .before .before .before .args .first) (c .before .before .before .loop .i)) (omega arith)))
+
+next-at-requires : tie.Need-next-at-requires Inv-loop μ-loop
+next-at-requires c κs = tt
+
+add-i : tie.Need-add-i Inv-loop μ-loop
+add-i c = omega arith
+
+loop-less : tie.Need-loop-less Inv-loop μ-loop
+loop-less c = omega arith
+
+loop-again : tie.Need-loop-again Inv-loop μ-loop
+loop-again c = (omega arith, c .next-at .ensures ∙ ap (nextAt (c .before .before .before .before .before .before .before .args .file .now)) (c .before .before .before .before .loop .inv .1) ∙ sym (offset-next (c .before .before .before .before .before .before .before .args .file .now) (c .before .before .before .before .before .before .before .args .first) (c .before .before .before .before .loop .i)), rule-next (c .before .before .before .before .before .before .before .args .file .now) (c .before .before .before .before .before .before .before .args .first) (c .before .before .before .before .loop .i) (c .before .before .before .before .before .before .before .args .out .now) (c .before .before .before .before .loop .out) (c .before .number-in .result) (c .before .before .before .before .loop .inv .2) (omega arith) (c .before .number-in .ensures ∙ ap (λ (l : List ℕ). twoBytes (getD l 0 0) (getD l 1 0)) (c .before .before .value-at .ensures ∙ ap (valueAt (c .before .before .before .before .before .before .before .args .file .now)) (c .before .before .before .before .loop .inv .1))))
+
+same-length : tie.Need-same-length Inv-loop μ-loop
+same-length c = (ap length (c .before .loop .inv .2) ∙ length-written (map ruleNode (fieldsFrom (c .before .before .before .before .args .file .now) (c .before .before .before .before .args .first) (c .before .loop .i))) (c .before .before .before .before .args .out .now) (c .before .loop .i) (length-rules (c .before .before .before .before .args .file .now) (c .before .before .before .before .args .first) (c .before .loop .i)) (omega arith))
+
+returns : tie.Need-returns Inv-loop μ-loop
+returns c = let e : (c .before .loop .i) ≡ c .before .before .before .before .args .count = omega arith in c .before .loop .inv .2 ∙ rw e refl
+
+pub write-rules-spec : {M : Type 1} → statement M
+write-rules-spec =
+    tie.close
+    (tie.spec
+    Inv-loop
+    μ-loop
+    loop-holds
+    value-at-requires
+    number-in-requires
+    mul-out
+    slice-write-out
+    next-at-requires
+    add-i
+    loop-less
+    loop-again
+    same-length
+    returns)

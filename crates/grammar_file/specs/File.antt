@@ -1,0 +1,174 @@
+-- What a grammar file stands for, and numbers 1 to 6 of the file reader (01, "The grammar file" and "Turned-down calls").
+use Prim.Native.Nat.{ℕ, zero, suc}
+use mathlib.Core.Bool.{Bool, true, false, not, _&&_, _||_}
+use mathlib.Core.List.{List, [], _∷_, _++_, map}
+use mathlib.Core.Option.{Option, some, none, Option·getD}
+use lib.ListN.{length, getD, drop}
+use lib.Dec.{leb, ltb, eqb}
+use Rattle.table.specs.Answer.{Answer, given, refused, refuseIf}
+use Rattle.table.specs.Every.{every}
+use Rattle.table.specs.Limits.{relationCount}
+use Rattle.table.specs.Form.{nodeCount}
+use Rattle.table.specs.Checks.{fails3, fails4, fails5}
+use Rattle.grammar_file.specs.Fields.{Field, twoBytes, fields, inOrder, tagged}
+use Rattle.grammar_file.specs.Spellings.{singleAlone, rightSpellings}
+use Rattle.grammar_file.specs.declared.FileRead.{FileRead}
+use Rattle.grammar_file.specs.declared.FileRead.the-variants.{Read, Refused}
+
+-- "At most 65,535 bytes"
+abbrev pub mostBytes : ℕ
+mostBytes = 65535
+
+-- "At most 253 keywords"
+abbrev pub mostKeywords : ℕ
+mostKeywords = 253
+
+-- The length of a tag's value: tag 1 has one byte, a keyword any number, a rule "two-byte node number, then its name",
+-- a node "kind (one byte), a (two), b (two), relation (one)", tag 5 "start node (two bytes), start mode (one)". No
+-- other tag is known.
+unfoldable pub rightLength : ℕ → ℕ → Bool
+rightLength zero n = false
+rightLength (suc zero) n = eqb n 1
+rightLength (suc (suc zero)) n = true
+rightLength (suc (suc (suc zero))) n = leb 2 n
+rightLength (suc (suc (suc (suc zero)))) n = eqb n 6
+rightLength (suc (suc (suc (suc (suc zero))))) n = eqb n 3
+rightLength (suc (suc (suc (suc (suc (suc t)))))) n = false
+
+-- A value has its tag's length, and tag 1's is "the byte 1".
+unfoldable pub rightValue : Field → Bool
+rightValue f = rightLength (f .tag) (length (f .value)) && (not (eqb (f .tag) 1) || eqb (getD (f .value) 0 0) 1)
+
+unfoldable pub rightValues : List Field → Bool
+rightValues [] = true
+rightValues (f ∷ fs) = rightValue f && rightValues fs
+
+-- "tag 2, a keyword"
+unfoldable pub keywords : List Field → List (List ℕ)
+keywords fs = map (λ f. f .value) (tagged 2 fs)
+
+-- "tag 3, a rule: two-byte node number, then its name"
+abbrev pub ruleNode : Field → ℕ
+ruleNode f = twoBytes (getD (f .value) 0 0) (getD (f .value) 1 0)
+
+-- The rule list: the node of each rule.
+unfoldable pub ruleList : List Field → List ℕ
+ruleList fs = map ruleNode (tagged 3 fs)
+
+unfoldable pub ruleNames : List Field → List (List ℕ)
+ruleNames fs = map (λ f. drop 2 (f .value)) (tagged 3 fs)
+
+-- "tag 4, a node: kind (one byte), a (two), b (two), relation (one)": its four words.
+abbrev pub fourWords : Field → List ℕ
+fourWords f =
+    getD (f .value) 0 0
+    ∷ twoBytes (getD (f .value) 1 0) (getD (f .value) 2 0)
+    ∷ twoBytes (getD (f .value) 3 0) (getD (f .value) 4 0)
+    ∷ getD (f .value) 5 0
+    ∷ []
+
+-- The words of node fields, one field behind the other.
+unfoldable pub wordsOf : List Field → List ℕ
+wordsOf [] = []
+wordsOf (f ∷ fs) = fourWords f ++ wordsOf fs
+
+-- The table.
+unfoldable pub nodeTable : List Field → List ℕ
+nodeTable fs = wordsOf (tagged 4 fs)
+
+-- "tag 5, once and last: start node (two bytes), start mode (one)"
+unfoldable pub startValue : List Field → List ℕ
+startValue fs = getD (map (λ f. f .value) (tagged 5 fs)) 0 []
+
+abbrev pub startNode : List Field → ℕ
+startNode fs = twoBytes (getD (startValue fs) 0 0) (getD (startValue fs) 1 0)
+
+abbrev pub startMode : List Field → ℕ
+startMode fs = getD (startValue fs) 2 0
+
+-- The fields of a file; none where one is cut short.
+abbrev pub fieldsOf : List ℕ → List Field
+fieldsOf file = Option·getD (fields file) []
+
+-- 1: "a field cut short, tag missing, out of order or unknown, wrong value length .., tag 1's value not 1, over 253 keywords"
+unfoldable pub unreadable : Option (List Field) → Bool
+unreadable none = true
+unreadable (some fs) = not (inOrder fs) || not (rightValues fs) || ltb mostKeywords (length (keywords fs))
+
+-- 1: "file over length", and the others.
+unfoldable pub fails1 : List ℕ → Bool
+fails1 file = ltb mostBytes (length file) || unreadable (fields file)
+
+-- 2: "keyword or name breaks its rules, length too"
+unfoldable pub fails2 : List Field → Bool
+fails2 fs =
+    not (rightSpellings (keywords fs)
+    && every (length (keywords fs)) (λ k. singleAlone (getD (keywords fs) k []))
+    && rightSpellings (ruleNames fs))
+
+-- 5: "a rule's node, or a file's start node, not in the table; file's mode over 3"
+unfoldable pub fails5ByFile : List Field → Bool
+fails5ByFile fs =
+    fails5 (nodeTable fs) (ruleList fs)
+    || not (ltb (startNode fs) (nodeCount (nodeTable fs)))
+    || not (ltb (startMode fs) relationCount)
+
+-- 6: "a lent slice too short for what is to be written": the numbers of words lent for the nodes and for the rules.
+unfoldable pub fails6 : List Field → ℕ → ℕ → Bool
+fails6 fs nodesLent rulesLent = ltb nodesLent (length (nodeTable fs)) || ltb rulesLent (length (ruleList fs))
+
+-- "A read answers the counts of nodes, rules and keywords and the start."
+pub record Contents : Type 0 where
+  pub nodes : ℕ
+  pub rules : ℕ
+  pub keywords : ℕ
+  pub start : ℕ
+  pub mode : ℕ
+
+unfoldable pub contents : List Field → Contents
+contents fs =
+    record {
+      nodes = nodeCount (nodeTable fs);
+      rules = length (ruleList fs);
+      keywords = length (keywords fs);
+      start = startNode fs;
+      mode = startMode fs;
+    }
+
+-- Numbers 1 to 5 of a file, and behind them what follows. Numbers 3 and 4 are those of the file's table and rule list.
+unfoldable pub checks1to5 : List ℕ → Answer Contents → Answer Contents
+checks1to5 file next =
+    refuseIf (fails1 file) 1
+    (refuseIf (fails2 (fieldsOf file)) 2
+    (refuseIf (fails3 (nodeTable (fieldsOf file)) (ruleList (fieldsOf file))) 3
+    (refuseIf (fails4 (nodeTable (fieldsOf file)) (ruleList (fieldsOf file))) 4
+    (refuseIf (fails5ByFile (fieldsOf file)) 5
+    next))))
+
+-- What a file stands for, or the first of 1 to 5 that fails.
+unfoldable pub fileAnswer : List ℕ → Answer Contents
+fileAnswer file = checks1to5 file (given (contents (fieldsOf file)))
+
+-- What the file reader answers: the first of 1 to 6 that fails, or the counts and the start.
+unfoldable pub readAnswer : List ℕ → ℕ → ℕ → Answer Contents
+readAnswer file nodesLent rulesLent =
+    checks1to5 file
+    (refuseIf (fails6 (fieldsOf file) nodesLent rulesLent) 6
+    (given (contents (fieldsOf file))))
+
+-- 01's number and values for each case of `FileRead`.
+abbrev pub numbers : FileRead → Answer Contents
+numbers (Read n r k s m) = given (record { nodes = n; rules = r; keywords = k; start = s; mode = m })
+numbers (Refused n) = refused n
+
+-- A part of a file that passes 1 to 5; nothing of any other.
+abbrev pub partOf : Answer Contents → List ℕ → List ℕ
+partOf (given c) part = part
+partOf (refused n) part = []
+
+-- The bytes of keyword k, and of rule r's name; none where there is no such keyword or rule.
+unfoldable pub keywordBytes : List ℕ → ℕ → List ℕ
+keywordBytes file k = partOf (fileAnswer file) (getD (keywords (fieldsOf file)) k [])
+
+unfoldable pub nameBytes : List ℕ → ℕ → List ℕ
+nameBytes file r = partOf (fileAnswer file) (getD (ruleNames (fieldsOf file)) r [])

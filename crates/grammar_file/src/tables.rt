@@ -1,0 +1,71 @@
+// The table and the rule list that a file's fields stand for.
+ghost use mathlib.Core.Path.{_≡_};
+ghost use mathlib.Core.List.{_++_, map};
+ghost use Prim.Native.Nat.{_*_, _≤_};
+ghost use lib.ListN.{length, drop};
+ghost use Rattle.table.specs.Checks.{tableAnswer};
+ghost use Rattle.table.specs.Checks.{numbers as checkedNumbers};
+ghost use Rattle.grammar_file.specs.File.{ruleNode, wordsOf};
+ghost use Rattle.grammar_file.specs.Offsets.{fieldsFrom};
+use crate::fields::byte_in;
+use crate::fields::next_at;
+use crate::fields::number_in;
+use crate::fields::value_at;
+use table::Checked;
+
+// Writes the words of count node fields from an offset on.
+pub(crate) fn write_nodes(file: &[u8], first: usize, count: usize, out: &mut [u16])
+    requires { ⌜ count * 4 ≤ length (now out) ⌝ }
+    ensures { λ _. ⌜ now (out .exit) ≡ wordsOf (fieldsFrom (now (file .entry)) first count) ++ drop (count * 4) (now (out .entry)) ⌝ }
+{
+    let mut at = first;
+    let mut i = 0;
+    while i < count {
+        let value = value_at(file, at);
+        let to = i * 4;
+        out[to] = byte_in(value, 0);
+        out[to + 1] = number_in(value, 1);
+        out[to + 2] = number_in(value, 3);
+        out[to + 3] = byte_in(value, 5);
+        at = next_at(file, at);
+        i += 1;
+    }
+}
+
+// Writes the nodes of count rule fields from an offset on.
+pub(crate) fn write_rules(file: &[u8], first: usize, count: usize, out: &mut [u16])
+    requires { ⌜ count ≤ length (now out) ⌝ }
+    ensures { λ _. ⌜ now (out .exit) ≡ map ruleNode (fieldsFrom (now (file .entry)) first count) ++ drop count (now (out .entry)) ⌝ }
+{
+    let mut at = first;
+    let mut i = 0;
+    while i < count {
+        out[i] = number_in(value_at(file, at), 0);
+        at = next_at(file, at);
+        i += 1;
+    }
+}
+
+// Numbers 3, 4 and 5 of the table and rules that stand at two offsets.
+pub(crate) fn check_tables(
+    file: &[u8],
+    nodes_at: usize,
+    node_count: usize,
+    rules_at: usize,
+    rule_count: usize,
+) -> Checked
+    ensures { λ r. ⌜ checkedNumbers r ≡ tableAnswer (wordsOf (fieldsFrom (now (file .entry)) «nodes_at» «node_count»)) (map ruleNode (fieldsFrom (now (file .entry)) «rules_at» «rule_count»)) ⌝ }
+{
+    if node_count > table::NODES {
+        return Checked::Refused(3);
+    }
+    if rule_count > table::RULES {
+        return Checked::Refused(3);
+    }
+    let mut nodes = [0u16; 2048];
+    let mut rules = [0u16; 128];
+    write_nodes(file, nodes_at, node_count, &mut nodes);
+    write_rules(file, rules_at, rule_count, &mut rules);
+    let words = node_count * 4;
+    table::check(&nodes[..words], &rules[..rule_count])
+}
