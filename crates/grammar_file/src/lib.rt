@@ -43,7 +43,7 @@ enum Inspected {
     Refused(u8),
 }
 
-// Where the offset of the first keyword is.
+// The offset of the first keyword, where there is one: behind tag 1's four bytes.
 pub const FIRST_KEYWORD: usize = 4;
 
 // Writes the table and the rule list of a file that passes 1 to 6, and answers its counts and its start.
