@@ -7,3 +7,4 @@ pub mod TableLaws
 pub mod PartLaws
 pub mod ReadLaws
 pub mod SpellingLaws
+pub mod CheckLaws

@@ -1,7 +1,7 @@
 -- Facts about numbers and about parts of lists.
 use Prim.Native.Nat.{ℕ, suc, _+_, _-_, _≤_, _<_}
-use mathlib.Core.Path.{_≡_, sym, ap, _∙_}
-use mathlib.Core.List.{List, [], _∷_, _++_}
+use mathlib.Core.Path.{_≡_, refl, sym, ap, _∙_}
+use mathlib.Core.List.{List, [], _∷_, _++_, append-assoc}
 use mathlib.Core.Logic.{_⊎_, inl, inr}
 use native.Mathlib.Decide.{decLe}
 use native.Mathlib.Omega.{arith}
@@ -36,3 +36,19 @@ write-next p old n m v d e h k =
     ∙ set-at p (getD old n d) (drop (suc n) old) v n e
     ∙ sym (append-snoc p v (drop (suc n) old))
     ∙ ap (λ (j : ℕ). (p ++ (v ∷ [])) ++ drop j old) (sym (k ∙ add-one n))
+
+-- Four words more.
+pub four-more : (p old : List ℕ) (n : ℕ) (a b c d : ℕ) → length p ≡ n → n + 3 < length old
+    → set (set (set (set (p ++ drop n old) n a) (n + 1) b) (n + 2) c) (n + 3) d ≡ (p ++ (a ∷ b ∷ c ∷ d ∷ [])) ++ drop (n + 4) old
+four-more p old n a b c d e h =
+    let one : List ℕ = p ++ (a ∷ []) in
+    let two : List ℕ = one ++ (b ∷ []) in
+    let three : List ℕ = two ++ (c ∷ []) in
+    ap (λ (l : List ℕ). set (set (set l (n + 1) b) (n + 2) c) (n + 3) d) (write-next p old n (n + 1) a 0 e (omega arith) refl)
+    ∙ ap (λ (l : List ℕ). set (set l (n + 2) c) (n + 3) d) (write-next one old (n + 1) (n + 2) b 0 (simp length-append (omega arith)) (omega arith) (omega arith))
+    ∙ ap (λ (l : List ℕ). set l (n + 3) d) (write-next two old (n + 2) (n + 3) c 0 (simp length-append (omega arith)) (omega arith) (omega arith))
+    ∙ write-next three old (n + 3) (n + 4) d 0 (simp length-append (omega arith)) h (omega arith)
+    ∙ ap (λ (l : List ℕ). l ++ drop (n + 4) old) joined
+  where
+    joined : (((p ++ (a ∷ [])) ++ (b ∷ [])) ++ (c ∷ [])) ++ (d ∷ []) ≡ p ++ (a ∷ b ∷ c ∷ d ∷ [])
+    joined = simp append-assoc

@@ -1,20 +1,23 @@
 -- What a file whose fields are known by offset stands for.
-use Prim.Native.Nat.{ℕ}
+use Prim.Native.Nat.{ℕ, _≤_}
 use mathlib.Core.Path.{_≡_, refl, sym, ap, ap₂, _∙_}
-use mathlib.Core.Bool.{Bool, true, false, not, _&&_, _||_}
+use mathlib.Core.Bool.{true≢false, Bool, true, false, not, _&&_, _||_}
 use mathlib.Core.List.{List, [], map}
 use lib.ListN.{length, getD, drop}
 use lib.Dec.{ltb}
+use mathlib.Core.Option.{Option, some, none, Option·getD}
+use native.Mathlib.Nat.{le-trans, le-of-eq}
+use borrow.Author.Tests.{ltb-false}
 use native.Mathlib.Omega.{arith}
 use Rattle.table.specs.Answer.{Answer, given, refused, refuseIf}
 use Rattle.table.specs.Every.{every}
 use Rattle.table.specs.Limits.{relationCount}
 use Rattle.table.specs.Form.{nodeCount}
 use Rattle.table.specs.Checks.{tableAnswer, fails3, fails4, fails5}
-use Rattle.grammar_file.specs.Fields.{Field, twoBytes}
+use Rattle.grammar_file.specs.Fields.{fields, inOrder, Field, twoBytes}
 use Rattle.grammar_file.specs.Spellings.{singleAlone, rightSpellings}
-use Rattle.grammar_file.specs.File.{Contents, keywords, ruleNames, ruleNode, ruleList, wordsOf, nodeTable, startValue, startNode, startMode, fieldsOf, fails2, fails5ByFile, contents, checks1to5, numbers}
-use Rattle.grammar_file.specs.Offsets.{valueAt, fieldsFrom}
+use Rattle.grammar_file.specs.File.{mostBytes, mostKeywords, rightValues, unreadable, fails1, Contents, keywords, ruleNames, ruleNode, ruleList, wordsOf, nodeTable, startValue, startNode, startMode, fieldsOf, fails2, fails5ByFile, contents, checks1to5, numbers}
+use Rattle.grammar_file.specs.Offsets.{keywordsFrom, valueAt, fieldsFrom}
 use Rattle.grammar_file.specs.InternalShape.{spellingsFrom, Parts}
 use Rattle.grammar_file.specs.declared.shape.Shape.{Shape}
 use Rattle.grammar_file.specs.declared.FileRead.the-variants.{Read}
@@ -69,6 +72,22 @@ module _ (file : List ℕ) (s : Shape) (p : Parts file s) where
       let x' = x ∙ ap (λ (l : List ℕ). twoBytes (getD l 0 0) (getD l 1 0)) f in
       let y' = y ∙ ap (λ (l : List ℕ). getD l 2 0) f in
       λ i. given (record { nodes = sym node-count i; rules = sym rule-count i; keywords = sym keyword-count i; start = x' i; mode = y' i })
+
+-- A file that number 1 passes has no more than 253 keywords.
+no-test : (a b : Bool) → (a || b) ≡ false → b ≡ false
+no-test false b e = e
+no-test true b e = absurd (true≢false e)
+
+few-keywords : (o : Option (List Field)) → unreadable o ≡ false → length (keywords (Option·getD o [])) ≤ mostKeywords
+unfolding unreadable
+few-keywords none e = absurd (true≢false e)
+few-keywords (some fs) e = ltb-false mostKeywords (length (keywords fs)) (no-test (not (inOrder fs) || not (rightValues fs)) (ltb mostKeywords (length (keywords fs))) e)
+
+-- Its keywords, by offset.
+pub keywords-stand : (file : List ℕ) (s : Shape) → Parts file s → (keywords (fieldsOf file) ≡ keywordsFrom file (s .keywords)) × (s .keywords ≤ mostKeywords)
+unfolding fails1 keywordsFrom spellingsFrom
+keywords-stand file s p =
+    (keywords-are file s p, le-trans (le-of-eq (sym (keyword-count file s p))) (few-keywords (fields file) (no-test (ltb mostBytes (length file)) (unreadable (fields file)) (p .passes))))
 
 -- Numbers 3, 4 and 5 of a table, and number 5 with two tests more.
 tests-refuse : (f3 f4 f5 a b : Bool) (n : ℕ) (next : Answer Contents) → _≡_ {A = Answer Unit} (refuseIf f3 3 (refuseIf f4 4 (refuseIf f5 5 (given tt)))) (refused n)

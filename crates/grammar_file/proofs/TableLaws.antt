@@ -15,7 +15,7 @@ use lib.ListN.{length, take, drop, set, length-append, length-map}
 use Rattle.grammar_file.specs.Fields.{Field}
 use Rattle.grammar_file.specs.File.{ruleNode, fourWords, wordsOf}
 use Rattle.grammar_file.specs.Offsets.{fieldAt, offsetOf, fieldsFrom}
-use Rattle.grammar_file.proofs.Lists.{write-next}
+use Rattle.grammar_file.proofs.Lists.{write-next, four-more}
 use Rattle.grammar_file.proofs.Offsets.{length-from, from-next}
 
 -- The words of fields one list behind the other, and how many there are.
@@ -46,22 +46,6 @@ module _ (file : List ℕ) (first : ℕ) where
       (ap (λ (w : ℕ). map ruleNode (fieldsFrom file first k) ++ (w ∷ [])) p
       ∙ sym (map-append ruleNode (fieldsFrom file first k) (fieldAt file (offsetOf file first k) ∷ []))
       ∙ ap (map ruleNode) (sym (from-next file first k)))
-
--- Four words more.
-four-more : (p old : List ℕ) (n : ℕ) (a b c d : ℕ) → length p ≡ n → n + 3 < length old
-    → set (set (set (set (p ++ drop n old) n a) (n + 1) b) (n + 2) c) (n + 3) d ≡ (p ++ (a ∷ b ∷ c ∷ d ∷ [])) ++ drop (n + 4) old
-four-more p old n a b c d e h =
-    let one : List ℕ = p ++ (a ∷ []) in
-    let two : List ℕ = one ++ (b ∷ []) in
-    let three : List ℕ = two ++ (c ∷ []) in
-    ap (λ (l : List ℕ). set (set (set l (n + 1) b) (n + 2) c) (n + 3) d) (write-next p old n (n + 1) a 0 e (omega arith) refl)
-    ∙ ap (λ (l : List ℕ). set (set l (n + 2) c) (n + 3) d) (write-next one old (n + 1) (n + 2) b 0 (simp length-append (omega arith)) (omega arith) (omega arith))
-    ∙ ap (λ (l : List ℕ). set l (n + 3) d) (write-next two old (n + 2) (n + 3) c 0 (simp length-append (omega arith)) (omega arith) (omega arith))
-    ∙ write-next three old (n + 3) (n + 4) d 0 (simp length-append (omega arith)) h (omega arith)
-    ∙ ap (λ (l : List ℕ). l ++ drop (n + 4) old) joined
-  where
-    joined : (((p ++ (a ∷ [])) ++ (b ∷ [])) ++ (c ∷ [])) ++ (d ∷ []) ≡ p ++ (a ∷ b ∷ c ∷ d ∷ [])
-    joined = simp append-assoc
 
 -- One node more.
 pub node-next : (file : List ℕ) (first k : ℕ) (old out : List ℕ) (a b c d : ℕ) → out ≡ wordsOf (fieldsFrom file first k) ++ drop (k * 4) old → k * 4 + 3 < length old

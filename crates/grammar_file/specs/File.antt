@@ -1,5 +1,6 @@
 -- What a grammar file stands for, and numbers 1 to 6 of the file reader (01, "The grammar file" and "Turned-down calls").
-use Prim.Native.Nat.{ℕ, zero, suc}
+use Prim.Native.Nat.{ℕ, zero, suc, _≤_}
+use mathlib.Core.Path.{_≡_}
 use mathlib.Core.Bool.{Bool, true, false, not, _&&_, _||_}
 use mathlib.Core.List.{List, [], _∷_, _++_, map}
 use mathlib.Core.Option.{Option, some, none, Option·getD}
@@ -11,6 +12,7 @@ use Rattle.table.specs.Limits.{relationCount}
 use Rattle.table.specs.Form.{nodeCount}
 use Rattle.table.specs.Checks.{fails3, fails4, fails5}
 use Rattle.grammar_file.specs.Fields.{Field, twoBytes, fields, inOrder, tagged}
+use Rattle.grammar_file.specs.Offsets.{keywordsFrom}
 use Rattle.grammar_file.specs.Spellings.{singleAlone, rightSpellings}
 use Rattle.grammar_file.specs.declared.FileRead.{FileRead}
 use Rattle.grammar_file.specs.declared.FileRead.the-variants.{Read, Refused}
@@ -136,7 +138,7 @@ contents fs =
     }
 
 -- Numbers 1 to 5 of a file, and behind them what follows. Numbers 3 and 4 are those of the file's table and rule list.
-unfoldable pub checks1to5 : List ℕ → Answer Contents → Answer Contents
+unfoldable pub checks1to5 : {A : Type 0} → List ℕ → Answer A → Answer A
 checks1to5 file next =
     refuseIf (fails1 file) 1
     (refuseIf (fails2 (fieldsOf file)) 2
@@ -160,6 +162,11 @@ readAnswer file nodesLent rulesLent =
 abbrev pub numbers : FileRead → Answer Contents
 numbers (Read n r k s m) = given (record { nodes = n; rules = r; keywords = k; start = s; mode = m })
 numbers (Refused n) = refused n
+
+-- The keywords of a file that is read stand one behind the other from offset 4 on, for lookups by offset.
+abbrev pub KeywordsStand : List ℕ → FileRead → Type 0
+KeywordsStand file (Read n r k s m) = (keywords (fieldsOf file) ≡ keywordsFrom file k) × (k ≤ mostKeywords)
+KeywordsStand file (Refused n) = Unit
 
 -- A part of a file that passes 1 to 5; nothing of any other.
 abbrev pub partOf : Answer Contents → List ℕ → List ℕ

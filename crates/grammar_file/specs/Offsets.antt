@@ -1,7 +1,7 @@
 -- Fields by their offset in a byte list, total on all bytes and offsets: the byte past the end reads as 0, and what is
 -- cut short ends at the end.
 use Prim.Native.Nat.{ℕ, zero, suc, _+_, min}
-use mathlib.Core.List.{List, [], _∷_, _++_}
+use mathlib.Core.List.{List, [], _∷_, _++_, map}
 use lib.ListN.{length, getD, take, drop}
 use Rattle.grammar_file.specs.Fields.{Field, twoBytes}
 
@@ -30,3 +30,7 @@ offsetOf file at (suc k) = nextAt file (offsetOf file at k)
 unfoldable pub fieldsFrom : List ℕ → ℕ → ℕ → List Field
 fieldsFrom file at zero = []
 fieldsFrom file at (suc k) = fieldsFrom file at k ++ (fieldAt file (offsetOf file at k) ∷ [])
+
+-- The spellings of count keywords, the first of them at offset 4.
+unfoldable pub keywordsFrom : List ℕ → ℕ → List (List ℕ)
+keywordsFrom file count = map (λ f. f .value) (fieldsFrom file 4 count)

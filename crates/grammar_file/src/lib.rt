@@ -8,7 +8,7 @@ mod tables;
 ghost use mathlib.Core.Path.{_≡_};
 ghost use lib.ListN.{length};
 ghost use Rattle.table.specs.Answer.{given, afterwards};
-ghost use Rattle.grammar_file.specs.File.{numbers, contents, fieldsOf, fails2, fileAnswer, readAnswer, nodeTable, ruleList, keywordBytes, nameBytes};
+ghost use Rattle.grammar_file.specs.File.{numbers, contents, fieldsOf, fails2, fileAnswer, KeywordsStand, readAnswer, nodeTable, ruleList, keywordBytes, nameBytes};
 ghost use Rattle.grammar_file.specs.InternalShape.{Parts, Inspects};
 use fields::byte_in;
 use fields::number_in;
@@ -76,6 +76,7 @@ pub fn read(file: &[u8], nodes: &mut [u16], rules: &mut [u16]) -> FileRead
 // The counts and the start of a file that passes 1 to 5, or the first of these numbers that fails.
 pub fn check(file: &[u8]) -> FileRead
     ensures { λ r. ⌜ numbers r ≡ fileAnswer (now (file .entry)) ⌝ }
+    ensures { λ r. ⌜ KeywordsStand (now (file .entry)) r ⌝ }
 {
     let found = inspect(file);
     match found {
@@ -168,6 +169,7 @@ fn names_wrong(file: &[u8], s: Shape) -> bool
 fn counts(file: &[u8], s: Shape) -> FileRead
     requires { ⌜ Parts (now file) s ⌝ }
     ensures { λ r. ⌜ numbers r ≡ given (contents (fieldsOf (now (file .entry)))) ⌝ }
+    ensures { λ r. ⌜ KeywordsStand (now (file .entry)) r ⌝ }
 {
     let nodes = s.nodes;
     let rules = s.rules;

@@ -21,11 +21,11 @@ counts-requires c κs = parts (c .before .before .before .before .before .args .
 
 returns : tie.Need-returns
 unfolding fileAnswer
-returns c = refuses (c .before .before .before .before .before .args .file .now) (c .before .before .before .inspect .ensures) (c .before .found .given .0 .0) (c .before .found .given .1) (given (contents (fieldsOf (c .before .before .before .before .before .args .file .now))))
+returns c = (refuses (c .before .before .before .before .before .args .file .now) (c .before .before .before .inspect .ensures) (c .before .found .given .0 .0) (c .before .found .given .1) (given (contents (fieldsOf (c .before .before .before .before .before .args .file .now)))), tt)
 
 returns-2 : tie.Need-returns-2
 unfolding fileAnswer
-returns-2 c = c .counts .ensures ∙ passes (c .before .before .before .before .before .before .args .file .now) (c .before .before .before .before .inspect .ensures) (c .before .before .found2 .given .0 .0) (c .before .before .found2 .given .1) (given (contents (fieldsOf (c .before .before .before .before .before .before .args .file .now))))
+returns-2 c = (c .counts .ensures .0 ∙ passes (c .before .before .before .before .before .before .args .file .now) (c .before .before .before .before .inspect .ensures) (c .before .before .found2 .given .0 .0) (c .before .before .found2 .given .1) (given (contents (fieldsOf (c .before .before .before .before .before .before .args .file .now)))), c .counts .ensures .1)
 
 pub check-spec : {M : Type 1} → statement M
 check-spec =

@@ -2,7 +2,7 @@
 use borrow.Author.Needs.{needs}
 use Rattle.grammar_file.proofs.counts.Statement.{statement}
 use Rattle.grammar_file.proofs.counts.Tie as tie
-use Rattle.grammar_file.proofs.PartLaws.{counted}
+use Rattle.grammar_file.proofs.PartLaws.{counted, keywords-stand}
 
 value-at-requires : tie.Need-value-at-requires
 value-at-requires c κs = search needs
@@ -14,7 +14,7 @@ byte-in-requires : tie.Need-byte-in-requires
 byte-in-requires c κs = search needs
 
 returns : tie.Need-returns
-returns c = counted (c .before .before .before .before .before .before .args .file .now) (c .before .before .before .before .before .before .args .s) (c .before .before .before .before .before .before .pre) (c .before .before .value-at .ensures) (c .before .number-in .ensures) (c .byte-in .ensures .0)
+returns c = (counted (c .before .before .before .before .before .before .args .file .now) (c .before .before .before .before .before .before .args .s) (c .before .before .before .before .before .before .pre) (c .before .before .value-at .ensures) (c .before .number-in .ensures) (c .byte-in .ensures .0), keywords-stand (c .before .before .before .before .before .before .args .file .now) (c .before .before .before .before .before .before .args .s) (c .before .before .before .before .before .before .pre))
 
 pub counts-spec : {M : Type 1} → statement M
 counts-spec = tie.close (tie.spec value-at-requires number-in-requires byte-in-requires returns)
