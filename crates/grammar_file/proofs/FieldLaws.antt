@@ -51,7 +51,7 @@ fields-first t bytes =
     (λ rest h. bound-same (length bytes) (length rest) rest (omega arith) (omega arith))
 
 -- The bytes from an offset on, where one, two or three of them are left.
-from-one : (file : List ℕ) (at : ℕ) → at < length file → drop at file ≡ getD file at 0 ∷ drop (at + 1) file
+pub from-one : (file : List ℕ) (at : ℕ) → at < length file → drop at file ≡ getD file at 0 ∷ drop (at + 1) file
 from-one file at h = rw (add-one, drop-cons file at 0) refl
 
 from-two : (file : List ℕ) (at : ℕ) → at + 1 < length file → drop at file ≡ getD file at 0 ∷ getD file (at + 1) 0 ∷ drop (at + 2) file

@@ -1,0 +1,176 @@
+-- Where the next token stands: bytes that are passed over, a run, a line's end and a single byte, by class; and the room
+-- for columns.
+use Prim.Native.Nat.{ℕ, suc, _+_, _-_, _≤_, _<_}
+use mathlib.Core.Path.{_≡_, refl, sym, ap, _∙_}
+use mathlib.Core.Bool.{Bool, true, false, true≢false, false≢true}
+use mathlib.Core.List.{List, [], _∷_}
+use mathlib.Core.Option.{some}
+use lib.ListN.{length, getD, take, drop, drop-of-length-le}
+use native.Mathlib.Nat.{le-of-eq}
+use native.Mathlib.Omega.{arith}
+use Rattle.grammar_file.specs.Bytes.{classOf}
+use Rattle.grammar_file.specs.declared.bytes.Class.{Class}
+use Rattle.grammar_file.specs.declared.bytes.Class.the-variants.{Break, Tab, Blank, Single, Digit, Run, Refused}
+use Rattle.grammar_file.proofs.FieldLaws.{from-one}
+use Rattle.scanner.specs.Columns.{columnBy, columnAfter, columnOver}
+use Rattle.scanner.specs.Places.{runClass, inRun, runLength}
+use Rattle.scanner.specs.Steps.{Position, position, Move, move, moveBy, nextPlace, nextIn}
+use Rattle.scanner.specs.InternalFind.{passedBy, passedOver, breakClass, isBreak, Room, Skipped, RunEnd, moveOf}
+use Rattle.scanner.specs.declared.find.Spot.{Spot}
+use Rattle.scanner.specs.declared.find.Found.{Found}
+
+-- A byte moves the column by 8 at most.
+column-by : (k : Class) (c : ℕ) → columnBy k c ≤ c + 8
+column-by Break c = omega arith
+column-by Tab c = omega arith
+column-by Blank c = omega arith
+column-by Single c = omega arith
+column-by Digit c = omega arith
+column-by Run c = omega arith
+column-by Refused c = omega arith
+
+pub column-grows : (b c : ℕ) → columnAfter b c ≤ c + 8
+unfolding columnAfter
+column-grows b c = column-by (classOf b) c
+
+-- One byte on there is room still.
+pub room-next : {text : List ℕ} {at c : ℕ} → Room text at c → at < length text → {d : ℕ} (b : ℕ) → d ≡ columnAfter b c → Room text (at + 1) d
+room-next {c = c} r h b e = record { within = omega arith; fits = omega (arith, column-grows b c, r .fits) }
+
+module _ (o c next n after : ℕ) (rest : Move) where
+  -- A byte that is passed over, a byte of a run, a break and a single byte, by class.
+  over-class : (k : Class) (m : Bool) → passedBy k m ≡ true → moveBy k m o c next n after rest ≡ rest
+  over-class Break true e = absurd (false≢true e)
+  over-class Break false e = refl
+  over-class Tab m e = refl
+  over-class Blank m e = refl
+  over-class Single m e = absurd (false≢true e)
+  over-class Digit m e = absurd (false≢true e)
+  over-class Run m e = absurd (false≢true e)
+  over-class Refused m e = refl
+
+  run-class : (k : Class) (m : Bool) → runClass k ≡ true → moveBy k m o c next n after rest ≡ move false c o n (position (o + n) after true)
+  run-class Break m e = absurd (false≢true e)
+  run-class Tab m e = absurd (false≢true e)
+  run-class Blank m e = absurd (false≢true e)
+  run-class Single m e = absurd (false≢true e)
+  run-class Digit m e = refl
+  run-class Run m e = refl
+  run-class Refused m e = absurd (false≢true e)
+
+  break-class : (k : Class) (m : Bool) → breakClass k ≡ true → passedBy k m ≡ false → moveBy k m o c next n after rest ≡ move true c o 0 (position (o + 1) 0 false)
+  break-class Break true e p = refl
+  break-class Break false e p = absurd (true≢false p)
+  break-class Tab m e p = absurd (false≢true e)
+  break-class Blank m e p = absurd (false≢true e)
+  break-class Single m e p = absurd (false≢true e)
+  break-class Digit m e p = absurd (false≢true e)
+  break-class Run m e p = absurd (false≢true e)
+  break-class Refused m e p = absurd (false≢true e)
+
+  single-class : (k : Class) (m : Bool) → runClass k ≡ false → breakClass k ≡ false → passedBy k m ≡ false → moveBy k m o c next n after rest ≡ move false c o 1 (position (o + 1) next true)
+  single-class Break m e b p = absurd (true≢false b)
+  single-class Tab m e b p = absurd (true≢false p)
+  single-class Blank m e b p = absurd (true≢false p)
+  single-class Single m e b p = refl
+  single-class Digit m e b p = absurd (true≢false e)
+  single-class Run m e b p = absurd (true≢false e)
+  single-class Refused m e b p = absurd (true≢false p)
+
+-- At the first of some bytes.
+module _ (b : ℕ) (bytes : List ℕ) (o c : ℕ) (m : Bool) where
+  abbrev size : ℕ
+  size = runLength (b ∷ bytes)
+
+  abbrev beyond : ℕ
+  beyond = columnOver (take (runLength (b ∷ bytes)) (b ∷ bytes)) c
+
+  abbrev behind : Move
+  behind = nextPlace bytes (o + 1) (columnAfter b c) m
+
+  pub over-move : passedOver b m ≡ true → nextPlace (b ∷ bytes) o c m ≡ nextPlace bytes (o + 1) (columnAfter b c) m
+  unfolding passedOver nextPlace
+  over-move e = over-class o c (columnAfter b c) size beyond behind (classOf b) m e
+
+  pub run-move : inRun b ≡ true → nextPlace (b ∷ bytes) o c m ≡ move false c o (runLength (b ∷ bytes)) (position (o + runLength (b ∷ bytes)) (columnOver (take (runLength (b ∷ bytes)) (b ∷ bytes)) c) true)
+  unfolding inRun nextPlace
+  run-move e = run-class o c (columnAfter b c) size beyond behind (classOf b) m e
+
+  pub break-move : isBreak b ≡ true → passedOver b m ≡ false → nextPlace (b ∷ bytes) o c m ≡ move true c o 0 (position (o + 1) 0 false)
+  unfolding isBreak passedOver nextPlace
+  break-move e p = break-class o c (columnAfter b c) size beyond behind (classOf b) m e p
+
+  pub single-move : inRun b ≡ false → isBreak b ≡ false → passedOver b m ≡ false → nextPlace (b ∷ bytes) o c m ≡ move false c o 1 (position (o + 1) (columnAfter b c) true)
+  unfolding inRun isBreak passedOver nextPlace
+  single-move e k p = single-class o c (columnAfter b c) size beyond behind (classOf b) m e k p
+
+-- From a position in a text whose byte is known.
+pub at-byte : (text : List ℕ) (at c : ℕ) (m : Bool) → at < length text → nextIn text (position at c m) ≡ nextPlace (getD text at 0 ∷ drop (at + 1) text) at c m
+at-byte text at c m h = ap (λ (l : List ℕ). nextPlace l at c m) (from-one text at h)
+
+-- At the end of a text.
+pub at-end : (text : List ℕ) (at c : ℕ) (m : Bool) → length text ≤ at → nextIn text (position at c m) ≡ nextPlace [] at c m
+at-end text at c m h = ap (λ (l : List ℕ). nextPlace l at c m) (drop-of-length-le text h)
+
+-- A byte more of a run, and where a run ends.
+pub run-more : (b : ℕ) (bytes : List ℕ) (c : ℕ) → inRun b ≡ true
+    → (runLength (b ∷ bytes) ≡ suc (runLength bytes)) × (columnOver (take (runLength (b ∷ bytes)) (b ∷ bytes)) c ≡ columnOver (take (runLength bytes) bytes) (columnAfter b c))
+unfolding runLength columnOver
+run-more b bytes c e = (rw e refl, rw e refl)
+
+pub run-none : (b : ℕ) (bytes : List ℕ) (c : ℕ) → inRun b ≡ false → (runLength (b ∷ bytes) ≡ 0) × (columnOver (take (runLength (b ∷ bytes)) (b ∷ bytes)) c ≡ c)
+unfolding runLength columnOver
+run-none b bytes c e = (rw e refl, rw e refl)
+
+pub run-empty : (c : ℕ) → (runLength [] ≡ 0) × (columnOver (take (runLength []) []) c ≡ c)
+unfolding runLength columnOver
+run-empty c = (refl, refl)
+
+-- What was found behind the bytes that were passed over, by the byte there.
+module _ (text : List ℕ) (first start : ℕ) (m : Bool) (s : Spot) (k : Skipped text first start m s) where
+  abbrev from : Position
+  from = position first start m
+
+  pub found-end : s .at ≡ length text → {f : Found} → f ≡ record { any = m; ends = true; column = s .column; offset = s .at; length = 0; at = s .at; reached = s .column; mark = false }
+      → moveOf f ≡ nextIn text (position first start m)
+  unfolding nextPlace
+  found-end h e = ap moveOf e ∙ by-mark m ∙ sym (at-end text (s .at) (s .column) m (le-of-eq (sym h))) ∙ sym (k .same)
+    where
+      by-mark : (n : Bool) → moveOf (record { any = n; ends = true; column = s .column; offset = s .at; length = 0; at = s .at; reached = s .column; mark = false }) ≡ nextPlace [] (s .at) (s .column) n
+      by-mark true = refl
+      by-mark false = refl
+
+  module _ (h : s .at < length text) where
+    abbrev byte : ℕ
+    byte = getD text (s .at) 0
+
+    abbrev rest : List ℕ
+    rest = drop (s .at + 1) text
+
+    back : nextPlace (byte ∷ rest) (s .at) (s .column) m ≡ nextIn text (position first start m)
+    back = sym (at-byte text (s .at) (s .column) m h) ∙ sym (k .same)
+
+    pub found-run : inRun (getD text (s .at) 0) ≡ true → {e : Spot} → RunEnd text (s .at) (s .column) e → {f : Found}
+        → f ≡ record { any = true; ends = false; column = s .column; offset = s .at; length = e .at - s .at; at = e .at; reached = e .column; mark = true }
+        → moveOf f ≡ nextIn text (position first start m)
+    found-run q {e} r g =
+        let n : e .at - s .at ≡ runLength (drop (s .at) text) = omega (arith, r .ends) in
+        ap moveOf g
+        ∙ (λ i. move false (s .column) (s .at) (n i) (position (r .ends i) (r .column i) true))
+        ∙ ap (λ (l : List ℕ). move false (s .column) (s .at) (runLength l) (position (s .at + runLength l) (columnOver (take (runLength l) l) (s .column)) true)) (from-one text (s .at) h)
+        ∙ sym (run-move byte rest (s .at) (s .column) m q)
+        ∙ back
+
+    pub found-break : isBreak (getD text (s .at) 0) ≡ true → {f : Found}
+        → f ≡ record { any = true; ends = true; column = s .column; offset = s .at; length = 0; at = s .at + 1; reached = 0; mark = false }
+        → moveOf f ≡ nextIn text (position first start m)
+    found-break q g = ap moveOf g ∙ sym (break-move byte rest (s .at) (s .column) m q (k .stops h)) ∙ back
+
+    pub found-single : inRun (getD text (s .at) 0) ≡ false → isBreak (getD text (s .at) 0) ≡ false → {d : ℕ} → d ≡ columnAfter (getD text (s .at) 0) (s .column) → {f : Found}
+        → f ≡ record { any = true; ends = false; column = s .column; offset = s .at; length = 1; at = s .at + 1; reached = d; mark = true }
+        → moveOf f ≡ nextIn text (position first start m)
+    found-single q b e g =
+        ap moveOf g
+        ∙ ap (λ (d : ℕ). move false (s .column) (s .at) 1 (position (s .at + 1) d true)) e
+        ∙ sym (single-move byte rest (s .at) (s .column) m q b (k .stops h))
+        ∙ back

@@ -1,0 +1,5 @@
+pub mod FindLaws
+pub mod PlaceLaws
+pub mod LoopLaws
+pub mod StepLaws
+pub mod HandedLaws

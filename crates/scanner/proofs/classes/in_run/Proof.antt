@@ -1,0 +1,79 @@
+-- `scanner::classes::in_run` meets its contract.
+use Prim.Native.Nat.{ℕ}
+use mathlib.Core.Path.{_≡_, sym, ap, _∙_}
+use borrow.Author.Needs.{needs}
+use Rattle.grammar_file.specs.Bytes.{classOf}
+use Rattle.grammar_file.specs.declared.bytes.Class.{Class}
+use Rattle.scanner.specs.Places.{runClass, inRun}
+use Rattle.scanner.proofs.classes.in_run.Statement.{statement}
+use Rattle.scanner.proofs.classes.in_run.Tie as tie
+
+-- What the function says of a class it says of a byte that has it.
+by-class : (b : ℕ) {r k : Class} → r ≡ classOf b → r ≡ k → runClass k ≡ inRun b
+unfolding inRun
+by-class b e given = ap runClass (sym given ∙ e)
+
+class-of-requires : tie.Need-class-of-requires
+class-of-requires c κs = search needs
+
+enum-told : tie.Need-enum-told
+enum-told c = search needs
+
+enum-told-2 : tie.Need-enum-told-2
+enum-told-2 c = search needs
+
+enum-told-3 : tie.Need-enum-told-3
+enum-told-3 c = search needs
+
+enum-told-4 : tie.Need-enum-told-4
+enum-told-4 c = search needs
+
+enum-told-5 : tie.Need-enum-told-5
+enum-told-5 c = search needs
+
+enum-told-6 : tie.Need-enum-told-6
+enum-told-6 c = search needs
+
+enum-told-7 : tie.Need-enum-told-7
+enum-told-7 c = search needs
+
+returns : tie.Need-returns
+returns c = by-class _ (c .before .before .class-of .ensures) (c .enum-told .given .1)
+
+returns-2 : tie.Need-returns-2
+returns-2 c = by-class _ (c .before .before .class-of .ensures) (c .enum-told2 .given .1)
+
+returns-3 : tie.Need-returns-3
+returns-3 c = by-class _ (c .before .before .class-of .ensures) (c .enum-told3 .given .1)
+
+returns-4 : tie.Need-returns-4
+returns-4 c = by-class _ (c .before .before .class-of .ensures) (c .enum-told4 .given .1)
+
+returns-5 : tie.Need-returns-5
+returns-5 c = by-class _ (c .before .before .class-of .ensures) (c .enum-told5 .given .1)
+
+returns-6 : tie.Need-returns-6
+returns-6 c = by-class _ (c .before .before .class-of .ensures) (c .enum-told6 .given .1)
+
+returns-7 : tie.Need-returns-7
+returns-7 c = by-class _ (c .before .before .class-of .ensures) (c .enum-told7 .given .1)
+
+pub in-run-spec : {M : Type 1} → statement M
+in-run-spec =
+    tie.close
+    (tie.spec
+    class-of-requires
+    enum-told
+    enum-told-2
+    enum-told-3
+    enum-told-4
+    enum-told-5
+    enum-told-6
+    enum-told-7
+    returns
+    returns-2
+    returns-3
+    returns-4
+    returns-5
+    returns-6
+    returns-7)

@@ -1,0 +1,94 @@
+-- `scanner::find::run_end` meets its contract.
+use Rattle.scanner.proofs.find.run_end.Statement.{statement}
+use Rattle.scanner.proofs.find.run_end.Tie as tie
+use native.Mathlib.Omega.{arith}
+use borrow.Author.Tests.{not-true, not-false}
+use Prim.Native.Nat.{ℕ, suc, _+_, _-_, _≤_, _<_}
+use mathlib.Core.Path.{_≡_, refl, sym, _∙_}
+use mathlib.Core.Bool.{true, false}
+use mathlib.Core.List.{List}
+use lib.ListN.{length, getD, take, drop, drop-of-length-le}
+use Rattle.scanner.specs.InternalFind.{Room, RunEnd}
+use Rattle.scanner.specs.Columns.{columnAfter, columnOver}
+use Rattle.scanner.specs.Places.{inRun, runLength}
+use Rattle.grammar_file.proofs.FieldLaws.{from-one}
+use Rattle.scanner.proofs.FindLaws.{room-next, run-more, run-none, run-empty}
+
+-- The run and its last column, from what is left of it.
+abbrev Running : List ℕ → ℕ → ℕ → ℕ → ℕ → Type 0
+Running text first start at column =
+    Room text at column
+    × (first + runLength (drop first text) ≡ at + runLength (drop at text))
+    × (columnOver (take (runLength (drop first text)) (drop first text)) start ≡ columnOver (take (runLength (drop at text)) (drop at text)) column)
+
+module _ (text : List ℕ) (first start at column : ℕ) (r : Running text first start at column) where
+  -- Nothing of the run is left.
+  ended : runLength (drop at text) ≡ 0 → columnOver (take (runLength (drop at text)) (drop at text)) column ≡ column → RunEnd text first start (record { at = at; column = column })
+  ended n e = record { ends = omega (arith, r .1); within = r .0 .within; column = sym (r .2 ∙ e) }
+
+  run-stops : at < length text → inRun (getD text at 0) ≡ false → RunEnd text first start (record { at = at; column = column })
+  run-stops h e = let n = run-none (getD text at 0) (drop (at + 1) text) column e in ended (rw (from-one text at h) (n .0)) (rw (from-one text at h) (n .1))
+
+  run-over : length text ≤ at → RunEnd text first start (record { at = at; column = column })
+  run-over h = let n = run-empty column in ended (rw (drop-of-length-le text h) (n .0)) (rw (drop-of-length-le text h) (n .1))
+
+  -- One byte on.
+  run-goes : at < length text → inRun (getD text at 0) ≡ true → {next : ℕ} → next ≡ columnAfter (getD text at 0) column → Running text first start (at + 1) next
+  run-goes h e {next} q =
+      let n = run-more (getD text at 0) (drop (at + 1) text) column e in
+      let a : runLength (drop at text) ≡ suc (runLength (drop (at + 1) text)) = rw (from-one text at h) (n .0) in
+      let b : columnOver (take (runLength (drop at text)) (drop at text)) column ≡ columnOver (take (runLength (drop (at + 1) text)) (drop (at + 1) text)) (columnAfter (getD text at 0) column) = rw (from-one text at h) (n .1) in
+      (room-next (r .0) h (getD text at 0) q, omega (arith, r .1), r .2 ∙ b ∙ rw q refl)
+
+abbrev Inv-loop : tie.InvT-loop
+Inv-loop report first start at₀ column₀ at column = Running report first start at column
+
+abbrev μ-loop : tie.MeasureT-loop
+μ-loop report first start at₀ column₀ at column = length report - at
+
+loop-holds : tie.Need-loop-holds Inv-loop μ-loop
+loop-holds c = (c .before .pre, refl, refl)
+
+shared-slice-read-in-run : tie.Need-shared-slice-read-in-run Inv-loop μ-loop
+shared-slice-read-in-run c = omega arith
+
+in-run-requires : tie.Need-in-run-requires Inv-loop μ-loop
+in-run-requires c κs = tt
+
+returns : tie.Need-returns Inv-loop μ-loop
+returns c = run-stops (c .before .before .before .before .before .before .args .report .now) (c .before .before .before .before .before .before .args .first) (c .before .before .before .before .before .before .args .start) (c .before .before .before .before .loop .at) (c .before .before .before .before .loop .column) (c .before .before .before .before .loop .inv) (c .before .before .before .loop-test .taken) (sym (c .before .in-run .ensures) ∙ not-true _ (c .if1 .taken))
+
+shared-slice-read-column-after : tie.Need-shared-slice-read-column-after Inv-loop μ-loop
+shared-slice-read-column-after c = omega arith
+
+column-after-requires : tie.Need-column-after-requires Inv-loop μ-loop
+column-after-requires c κs = omega (arith, c .before .before .before .before .before .loop .inv .0 .fits, c .before .before .before .before .before .loop .inv .0 .within)
+
+add-at : tie.Need-add-at Inv-loop μ-loop
+add-at c = omega arith
+
+loop-less : tie.Need-loop-less Inv-loop μ-loop
+loop-less c = omega arith
+
+loop-again : tie.Need-loop-again Inv-loop μ-loop
+loop-again c = run-goes (c .before .before .before .before .before .before .before .before .args .report .now) (c .before .before .before .before .before .before .before .before .args .first) (c .before .before .before .before .before .before .before .before .args .start) (c .before .before .before .before .before .before .loop .at) (c .before .before .before .before .before .before .loop .column) (c .before .before .before .before .before .before .loop .inv) (c .before .before .before .before .before .loop-test .taken) (sym (c .before .before .before .in-run .ensures) ∙ not-false _ (c .before .before .if1 .left)) (c .column-after .ensures)
+
+returns-2 : tie.Need-returns-2 Inv-loop μ-loop
+returns-2 c = run-over (c .before .before .before .args .report .now) (c .before .before .before .args .first) (c .before .before .before .args .start) (c .before .loop .at) (c .before .loop .column) (c .before .loop .inv) (c .loop-test .left)
+
+pub run-end-spec : {M : Type 1} → statement M
+run-end-spec =
+    tie.close
+    (tie.spec
+    Inv-loop
+    μ-loop
+    loop-holds
+    shared-slice-read-in-run
+    in-run-requires
+    returns
+    shared-slice-read-column-after
+    column-after-requires
+    add-at
+    loop-less
+    loop-again
+    returns-2)

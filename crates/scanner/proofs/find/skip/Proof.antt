@@ -1,0 +1,64 @@
+-- `scanner::find::skip` meets its contract.
+use Rattle.scanner.proofs.find.skip.Statement.{statement}
+use Rattle.scanner.proofs.find.skip.Tie as tie
+use native.Mathlib.Omega.{arith}
+use borrow.Author.Tests.{not-true, not-false}
+use Prim.Native.Nat.{ℕ, _+_, _-_}
+use mathlib.Core.Path.{_≡_, refl, sym, ap, _∙_}
+use lib.ListN.{length, getD, drop}
+use Rattle.scanner.specs.InternalFind.{Room}
+use Rattle.scanner.specs.Steps.{position, nextIn}
+use Rattle.scanner.proofs.FindLaws.{at-byte, over-move, room-next}
+
+abbrev Inv-loop : tie.InvT-loop
+Inv-loop report first start mark at₀ column₀ at column = Room report at column × (nextIn report (position first start mark) ≡ nextIn report (position at column mark))
+
+abbrev μ-loop : tie.MeasureT-loop
+μ-loop report first start mark at₀ column₀ at column = length report - at
+
+loop-holds : tie.Need-loop-holds Inv-loop μ-loop
+loop-holds c = (c .before .pre, refl)
+
+shared-slice-read-passes : tie.Need-shared-slice-read-passes Inv-loop μ-loop
+shared-slice-read-passes c = omega arith
+
+passes-requires : tie.Need-passes-requires Inv-loop μ-loop
+passes-requires c κs = tt
+
+returns : tie.Need-returns Inv-loop μ-loop
+returns c = record { room = c .before .before .before .before .loop .inv .0; same = c .before .before .before .before .loop .inv .1; stops = λ _. sym (c .before .passes .ensures) ∙ not-true _ (c .if1 .taken) }
+
+shared-slice-read-column-after : tie.Need-shared-slice-read-column-after Inv-loop μ-loop
+shared-slice-read-column-after c = omega arith
+
+column-after-requires : tie.Need-column-after-requires Inv-loop μ-loop
+column-after-requires c κs = omega (arith, c .before .before .before .before .before .loop .inv .0 .fits, c .before .before .before .before .before .loop .inv .0 .within)
+
+add-at : tie.Need-add-at Inv-loop μ-loop
+add-at c = omega arith
+
+loop-less : tie.Need-loop-less Inv-loop μ-loop
+loop-less c = omega arith
+
+loop-again : tie.Need-loop-again Inv-loop μ-loop
+loop-again c = (room-next (c .before .before .before .before .before .before .loop .inv .0) (c .before .before .before .before .before .loop-test .taken) (getD (c .before .before .before .before .before .before .before .before .args .report .now) (c .before .before .before .before .before .before .loop .at) 0) (c .column-after .ensures), c .before .before .before .before .before .before .loop .inv .1 ∙ at-byte (c .before .before .before .before .before .before .before .before .args .report .now) (c .before .before .before .before .before .before .loop .at) (c .before .before .before .before .before .before .loop .column) (c .before .before .before .before .before .before .before .before .args .mark) (c .before .before .before .before .before .loop-test .taken) ∙ over-move (getD (c .before .before .before .before .before .before .before .before .args .report .now) (c .before .before .before .before .before .before .loop .at) 0) (drop ((c .before .before .before .before .before .before .loop .at) + 1) (c .before .before .before .before .before .before .before .before .args .report .now)) (c .before .before .before .before .before .before .loop .at) (c .before .before .before .before .before .before .loop .column) (c .before .before .before .before .before .before .before .before .args .mark) (sym (c .before .before .before .passes .ensures) ∙ not-false _ (c .before .before .if1 .left)) ∙ ap (λ (d : ℕ). nextIn (c .before .before .before .before .before .before .before .before .args .report .now) (position ((c .before .before .before .before .before .before .loop .at) + 1) d (c .before .before .before .before .before .before .before .before .args .mark))) (sym (c .column-after .ensures)))
+
+returns-2 : tie.Need-returns-2 Inv-loop μ-loop
+returns-2 c = record { room = c .before .loop .inv .0; same = c .before .loop .inv .1; stops = λ h. absurd (omega (arith, c .loop-test .left)) }
+
+pub skip-spec : {M : Type 1} → statement M
+skip-spec =
+    tie.close
+    (tie.spec
+    Inv-loop
+    μ-loop
+    loop-holds
+    shared-slice-read-passes
+    passes-requires
+    returns
+    shared-slice-read-column-after
+    column-after-requires
+    add-at
+    loop-less
+    loop-again
+    returns-2)

@@ -1,0 +1,49 @@
+-- `scanner::measure` meets its contract.
+use Rattle.scanner.proofs.measure.Statement.{statement}
+use Rattle.scanner.proofs.measure.Tie as tie
+use native.Mathlib.Omega.{arith}
+use borrow.Author.Tests.{not-true, not-false}
+use Rattle.scanner.specs.Steps.{position}
+use Rattle.scanner.proofs.LoopLaws.{Counting, counting-start, counting-ends, counting-less, counting-next}
+use Rattle.scanner.proofs.PlaceLaws.{left}
+
+abbrev Inv-loop : tie.InvT-loop
+Inv-loop report count₀ over₀ at₀ column₀ mark₀ count over at column mark = Counting report count over (position at column mark)
+
+abbrev μ-loop : tie.MeasureT-loop
+μ-loop report count₀ over₀ at₀ column₀ mark₀ count over at column mark = left report (position at column mark)
+
+loop-holds : tie.Need-loop-holds Inv-loop μ-loop
+loop-holds c = counting-start (c .before .args .report .now) (c .before .pre)
+
+find-requires : tie.Need-find-requires Inv-loop μ-loop
+find-requires c κs = c .loop .inv .room
+
+returns : tie.Need-returns Inv-loop μ-loop
+returns c = counting-ends (c .before .before .before .before .before .args .report .now) (c .before .before .before .loop .count) (c .before .before .before .loop .over) (position (c .before .before .before .loop .at) (c .before .before .before .loop .column) (c .before .before .before .loop .mark)) (c .before .before .before .loop .inv) (c .before .before .find .result) (c .before .before .find .ensures) (not-true _ (c .if1 .taken))
+
+wider-requires : tie.Need-wider-requires Inv-loop μ-loop
+wider-requires c κs = tt
+
+add-count : tie.Need-add-count Inv-loop μ-loop
+add-count c = omega (arith, c .before .before .before .before .loop .inv .fits, c .before .before .before .before .before .before .pre)
+
+loop-less : tie.Need-loop-less Inv-loop μ-loop
+loop-less c = counting-less (c .before .before .before .before .before .before .args .report .now) (c .before .before .before .before .loop .count) (c .before .before .before .before .loop .over) (position (c .before .before .before .before .loop .at) (c .before .before .before .before .loop .column) (c .before .before .before .before .loop .mark)) (c .before .before .before .before .loop .inv) (c .before .before .before .find .result) (c .before .before .before .find .ensures) (not-false _ (c .before .if1 .left))
+
+loop-again : tie.Need-loop-again Inv-loop μ-loop
+loop-again c = counting-next (c .before .before .before .before .before .before .args .report .now) (c .before .before .before .before .loop .count) (c .before .before .before .before .loop .over) (position (c .before .before .before .before .loop .at) (c .before .before .before .before .loop .column) (c .before .before .before .before .loop .mark)) (c .before .before .before .before .loop .inv) (c .before .before .before .find .result) (c .before .before .before .find .ensures) (not-false _ (c .before .if1 .left)) (c .wider .ensures)
+
+pub measure-spec : {M : Type 1} → statement M
+measure-spec =
+    tie.close
+    (tie.spec
+    Inv-loop
+    μ-loop
+    loop-holds
+    find-requires
+    returns
+    wider-requires
+    add-count
+    loop-less
+    loop-again)

@@ -1,0 +1,74 @@
+-- `scanner::terminals::digits_end` meets its contract. The loop's invariant: what is left behind the digits from
+-- `from` on is what is left behind those from `i` on.
+use Prim.Native.Nat.{ℕ, _+_, _-_, _≤_, _<_}
+use mathlib.Core.Path.{_≡_, refl, sym, _∙_}
+use mathlib.Core.Bool.{true, false}
+use mathlib.Core.List.{List}
+use native.Mathlib.Omega.{arith}
+use native.Mathlib.Numerals.{add-one}
+use borrow.Author.Tests.{not-true, not-false}
+use lib.ListN.{length, getD, drop, drop-of-length-le}
+use lib.Seq.{drop-cons}
+use Rattle.scanner.specs.Tokens.{isDigit, afterDigits}
+use Rattle.scanner.proofs.terminals.digits_end.Statement.{statement}
+use Rattle.scanner.proofs.terminals.digits_end.Tie as tie
+
+-- A byte that is no digit ends the digits.
+stop : (s : List ℕ) (i : ℕ) → i < length s → isDigit (getD s i 0) ≡ false → afterDigits (drop i s) ≡ drop i s
+unfolding afterDigits
+stop s i h e = rw (drop-cons s i 0, e)
+
+-- So does the end.
+past : (s : List ℕ) (i : ℕ) → length s ≤ i → afterDigits (drop i s) ≡ drop i s
+unfolding afterDigits
+past s i h = rw (drop-of-length-le s h)
+
+-- A digit is passed.
+more : (s : List ℕ) (i : ℕ) → i < length s → isDigit (getD s i 0) ≡ true → afterDigits (drop i s) ≡ afterDigits (drop (i + 1) s)
+unfolding afterDigits
+more s i h e = rw (add-one, drop-cons s i 0, e)
+
+abbrev Inv-loop : tie.InvT-loop
+Inv-loop s from i₀ i = (from ≤ i) × (i ≤ length s) × (afterDigits (drop from s) ≡ afterDigits (drop i s))
+
+abbrev μ-loop : tie.MeasureT-loop
+μ-loop s from i₀ i = length s - i
+
+loop-holds : tie.Need-loop-holds Inv-loop μ-loop
+loop-holds c = (omega arith, omega arith, refl)
+
+shared-slice-read-is-digit : tie.Need-shared-slice-read-is-digit Inv-loop μ-loop
+shared-slice-read-is-digit c = omega arith
+
+is-digit-requires : tie.Need-is-digit-requires Inv-loop μ-loop
+is-digit-requires c κs = tt
+
+returns : tie.Need-returns Inv-loop μ-loop
+returns c = (omega arith, omega arith, sym (c .before .before .before .before .loop .inv .2 ∙ stop _ _ (c .before .before .before .loop-test .taken) (sym (c .before .is-digit .ensures) ∙ not-true _ (c .if1 .taken))))
+
+add-i : tie.Need-add-i Inv-loop μ-loop
+add-i c = omega arith
+
+loop-less : tie.Need-loop-less Inv-loop μ-loop
+loop-less c = omega arith
+
+loop-again : tie.Need-loop-again Inv-loop μ-loop
+loop-again c = (omega arith, omega arith, c .before .before .before .before .loop .inv .2 ∙ more _ _ (c .before .before .before .loop-test .taken) (sym (c .before .is-digit .ensures) ∙ not-false _ (c .if1 .left)))
+
+returns-2 : tie.Need-returns-2 Inv-loop μ-loop
+returns-2 c = (omega arith, omega arith, sym (c .before .loop .inv .2 ∙ past _ _ (c .loop-test .left)))
+
+pub digits-end-spec : {M : Type 1} → statement M
+digits-end-spec =
+    tie.close
+    (tie.spec
+    Inv-loop
+    μ-loop
+    loop-holds
+    shared-slice-read-is-digit
+    is-digit-requires
+    returns
+    add-i
+    loop-less
+    loop-again
+    returns-2)

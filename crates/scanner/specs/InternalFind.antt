@@ -1,0 +1,87 @@
+-- What the scanner's private functions promise one another. No public promise rests on this file, but for `positionOf`,
+-- a step's position as a record.
+use Prim.Native.Nat.{ℕ, _+_, _-_, _*_, _^_, _≤_, _<_}
+use mathlib.Core.Path.{_≡_}
+use mathlib.Core.Bool.{Bool, true, false, cond, not}
+use mathlib.Core.List.{List}
+use mathlib.Core.Option.{some, none, Option·map}
+use lib.ListN.{length, getD, take, drop}
+use Rattle.table.specs.Answer.{given}
+use Rattle.grammar_file.specs.Bytes.{classOf}
+use Rattle.grammar_file.specs.declared.bytes.Class.{Class}
+use Rattle.grammar_file.specs.declared.bytes.Class.the-variants.{Break, Tab, Blank, Single, Digit, Run, Refused}
+use Rattle.scanner.specs.Columns.{columnOver}
+use Rattle.scanner.specs.Places.{runLength, places}
+use Rattle.scanner.specs.Tokens.{tokenOf}
+use Rattle.scanner.specs.Scan.{overColumn}
+use Rattle.scanner.specs.Steps.{Position, position, Move, nextIn, numbers}
+use Rattle.scanner.specs.declared.Tally.{Tally}
+use Rattle.scanner.specs.declared.Step.{Step}
+use Rattle.scanner.specs.declared.find.Spot.{Spot}
+use Rattle.scanner.specs.declared.find.Found.{Found}
+
+-- A byte that begins and ends no token.
+abbrev pub passedBy : Class → Bool → Bool
+passedBy Break m = not m
+passedBy Tab m = true
+passedBy Blank m = true
+passedBy Single m = false
+passedBy Digit m = false
+passedBy Run m = false
+passedBy Refused m = true
+
+unfoldable pub passedOver : ℕ → Bool → Bool
+passedOver byte m = passedBy (classOf byte) m
+
+abbrev pub breakClass : Class → Bool
+breakClass Break = true
+breakClass Tab = false
+breakClass Blank = false
+breakClass Single = false
+breakClass Digit = false
+breakClass Run = false
+breakClass Refused = false
+
+unfoldable pub isBreak : ℕ → Bool
+isBreak byte = breakClass (classOf byte)
+
+-- An offset in a text, and a column that no byte behind it makes too large.
+pub record Room (text : List ℕ) (at column : ℕ) : Type 0 where
+  pub within : at ≤ length text
+  pub fits : column + 8 * (length text - at) < 2 ^ 32
+
+pub record Skipped (text : List ℕ) (first start : ℕ) (mark : Bool) (s : Spot) : Type 0 where
+  pub room : Room text (s .at) (s .column)
+  pub same : nextIn text (position first start mark) ≡ nextIn text (position (s .at) (s .column) mark)
+  pub stops : s .at < length text → passedOver (getD text (s .at) 0) mark ≡ false
+
+pub record RunEnd (text : List ℕ) (first start : ℕ) (s : Spot) : Type 0 where
+  pub ends : s .at ≡ first + runLength (drop first text)
+  pub within : s .at ≤ length text
+  pub column : s .column ≡ columnOver (take (runLength (drop first text)) (drop first text)) start
+
+-- The move that was found.
+abbrev pub moveOf : Found → Move
+moveOf f =
+    record {
+      found = cond (f .any) (some (record { ends = f .ends; column = f .column; offset = f .offset; length = f .length })) none;
+      reached = position (f .at) (f .reached) (f .mark);
+    }
+
+-- A place that was found in a report within the limits.
+pub record Ready (text : List ℕ) (keywords : ℕ) (f : Found) : Type 0 where
+  pub few : keywords ≤ 253
+  pub short : length text ≤ 65535
+  pub inside : f .any ≡ true → f .offset + f .length ≤ length text
+
+-- A step's position.
+abbrev pub positionOf : Step → Position
+positionOf s = position (s .at) (s .column) (s .mark)
+
+pub record HandsOut (keywords : List (List ℕ)) (text : List ℕ) (f : Found) (s : Step) : Type 0 where
+  pub token : numbers (s .handed) ≡ given (Option·map (tokenOf keywords text) (moveOf f .found))
+  pub reached : positionOf s ≡ moveOf f .reached
+
+pub record Measured (text : List ℕ) (m : Tally) : Type 0 where
+  pub count : m .count ≡ length (places text)
+  pub over : m .over ≡ overColumn (places text)

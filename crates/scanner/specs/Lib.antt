@@ -1,0 +1,6 @@
+pub mod Columns
+pub mod Places
+pub mod Tokens
+pub mod Scan
+pub mod Steps
+pub mod InternalFind

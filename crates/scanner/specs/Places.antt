@@ -1,0 +1,88 @@
+-- Where the tokens of a report stand (01, "The scanner"): a token begins at a single byte, at the first byte of a
+-- longest run, and at the end of a line that has had a token.
+use Prim.Native.Nat.{ℕ, zero, suc}
+use mathlib.Core.Bool.{Bool, true, false, cond}
+use mathlib.Core.List.{List, [], _∷_, _++_}
+use lib.ListN.{length, getD, drop}
+use Rattle.grammar_file.specs.Bytes.{classOf}
+use Rattle.grammar_file.specs.declared.bytes.Class.{Class}
+use Rattle.grammar_file.specs.declared.bytes.Class.the-variants.{Break, Tab, Blank, Single, Digit, Run, Refused}
+use Rattle.scanner.specs.Columns.{columnAt}
+
+-- A token's place: its column, offset and length, and whether it is a line's end.
+pub record Place : Type 0 where
+  pub ends : Bool
+  pub column : ℕ
+  pub offset : ℕ
+  pub length : ℕ
+
+-- "other tokens are longest runs of the remaining bytes": a digit or a run byte.
+abbrev pub runClass : Class → Bool
+runClass Break = false
+runClass Tab = false
+runClass Blank = false
+runClass Single = false
+runClass Digit = true
+runClass Run = true
+runClass Refused = false
+
+unfoldable pub inRun : ℕ → Bool
+inRun byte = runClass (classOf byte)
+
+-- How long the longest run at the front is.
+unfoldable pub runLength : List ℕ → ℕ
+runLength [] = 0
+runLength (b ∷ bytes) = cond (inRun b) (suc (runLength bytes)) 0
+
+-- Whether the byte before an offset belongs to a run, so that no run begins there.
+unfoldable pub midRun : List ℕ → ℕ → Bool
+midRun text zero = false
+midRun text (suc i) = inRun (getD text i 0)
+
+-- Whether a line has had a token, behind a byte of a class: a line's end begins a new line, and single and run bytes
+-- are tokens.
+abbrev pub markBy : Class → Bool → Bool
+markBy Break m = false
+markBy Tab m = m
+markBy Blank m = m
+markBy Single m = true
+markBy Digit m = true
+markBy Run m = true
+markBy Refused m = m
+
+unfoldable pub markAfter : ℕ → Bool → Bool
+markAfter byte m = markBy (classOf byte) m
+
+unfoldable pub hadToken : List ℕ → ℕ → Bool
+hadToken text zero = false
+hadToken text (suc i) = markAfter (getD text i 0) (hadToken text i)
+
+-- "A line with a token ends in a token .. at the column and offset of the break or the end, length 0."
+abbrev pub lineEnd : Bool → ℕ → ℕ → List Place
+lineEnd had c o = cond had (record { ends = true; column = c; offset = o; length = 0 } ∷ []) []
+
+abbrev pub spelling : ℕ → ℕ → ℕ → List Place
+spelling c o n = record { ends = false; column = c; offset = o; length = n } ∷ []
+
+-- The token that begins at a byte of a class, if one does: whether the line has had a token, whether the byte before
+-- belongs to a run, the column, the offset and the length of the run that begins here.
+abbrev pub placeBy : Class → Bool → Bool → ℕ → ℕ → ℕ → List Place
+placeBy Break had mid c o n = lineEnd had c o
+placeBy Tab had mid c o n = []
+placeBy Blank had mid c o n = []
+placeBy Single had mid c o n = spelling c o 1
+placeBy Digit had mid c o n = cond mid [] (spelling c o n)
+placeBy Run had mid c o n = cond mid [] (spelling c o n)
+placeBy Refused had mid c o n = []
+
+unfoldable pub placeAt : List ℕ → ℕ → List Place
+placeAt text i = placeBy (classOf (getD text i 0)) (hadToken text i) (midRun text i) (columnAt text i) i (runLength (drop i text))
+
+-- The tokens that begin at n bytes from an offset on.
+unfoldable pub placesAt : List ℕ → ℕ → ℕ → List Place
+placesAt text i zero = []
+placesAt text i (suc n) = placeAt text i ++ placesAt text (suc i) n
+
+-- Those of a text: at each byte, and "also at the end of the text".
+unfoldable pub places : List ℕ → List Place
+places text = placesAt text 0 (length text) ++ lineEnd (hadToken text (length text)) (columnAt text (length text)) (length text)

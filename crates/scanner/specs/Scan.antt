@@ -1,0 +1,70 @@
+-- Numbers 8, 9 and 10, and what a whole scan answers (01, "The scanner" and "Turned-down calls").
+use Prim.Native.Nat.{ℕ, _*_}
+use mathlib.Core.Bool.{Bool, true, false, not, _||_}
+use mathlib.Core.List.{List, [], _∷_}
+use lib.ListN.{length, getD}
+use lib.Dec.{ltb}
+use Rattle.table.specs.Answer.{Answer, given, refused, refuseIf}
+use Rattle.table.specs.Every.{every}
+use Rattle.grammar_file.specs.Bytes.{classOf}
+use Rattle.grammar_file.specs.File.{keywords, fieldsOf, checks1to5}
+use Rattle.grammar_file.specs.declared.bytes.Class.{Class}
+use Rattle.grammar_file.specs.declared.bytes.Class.the-variants.{Break, Tab, Blank, Single, Digit, Run, Refused as RefusedByte}
+use Rattle.scanner.specs.Places.{Place, places}
+use Rattle.scanner.specs.Tokens.{Token, tokens}
+use Rattle.scanner.specs.declared.Scanned.{Scanned}
+use Rattle.scanner.specs.declared.Scanned.the-variants.{Tokens, Refused}
+
+-- "a report of at most 65,535 bytes"
+abbrev pub mostBytes : ℕ
+mostBytes = 65535
+
+-- "At most 4,096 tokens, columns at most 65,535."
+abbrev pub mostTokens : ℕ
+mostTokens = 4096
+
+abbrev pub mostColumn : ℕ
+mostColumn = 65535
+
+abbrev pub refusedClass : Class → Bool
+refusedClass Break = false
+refusedClass Tab = false
+refusedClass Blank = false
+refusedClass Single = false
+refusedClass Digit = false
+refusedClass Run = false
+refusedClass RefusedByte = true
+
+-- 8: "report over length or refused byte"
+unfoldable pub fails8 : List ℕ → Bool
+fails8 text = ltb mostBytes (length text) || not (every (length text) (λ i. not (refusedClass (classOf (getD text i 0)))))
+
+-- 9: "a token's column over 65,535"
+unfoldable pub overColumn : List Place → Bool
+overColumn [] = false
+overColumn (p ∷ ps) = ltb mostColumn (p .column) || overColumn ps
+
+unfoldable pub fails9 : List ℕ → Bool
+fails9 text = overColumn (places text)
+
+-- 10: "over 4,096 tokens, or too few words lent"
+unfoldable pub fails10 : List ℕ → ℕ → Bool
+fails10 text lent = ltb mostTokens (length (places text)) || ltb lent (length (places text) * 4)
+
+-- The tokens of a report by a grammar file's keywords.
+abbrev pub scanTokens : List ℕ → List ℕ → List Token
+scanTokens file text = tokens (keywords (fieldsOf file)) text
+
+-- What a scan answers: the first of 1 to 5, 8, 9 and 10 that fails, or how many tokens there are.
+unfoldable pub scanAnswer : List ℕ → List ℕ → ℕ → Answer ℕ
+scanAnswer file text lent =
+    checks1to5 file
+    (refuseIf (fails8 text) 8
+    (refuseIf (fails9 text) 9
+    (refuseIf (fails10 text lent) 10
+    (given (length (places text))))))
+
+-- 01's number and value for each case of `Scanned`.
+abbrev pub numbers : Scanned → Answer ℕ
+numbers (Tokens n) = given n
+numbers (Refused n) = refused n

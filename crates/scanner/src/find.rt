@@ -1,0 +1,116 @@
+// Where the next token of a report stands.
+ghost use mathlib.Core.Path.{_≡_};
+ghost use mathlib.Core.Bool.{true, false};
+ghost use Rattle.scanner.specs.Steps.{position, nextIn};
+ghost use Rattle.scanner.specs.InternalFind.{Room, RunEnd, Skipped, moveOf};
+use crate::classes::column_after;
+use crate::classes::in_run;
+use crate::classes::is_break;
+use crate::classes::passes;
+
+// An offset with its column.
+pub(crate) struct Spot {
+    pub at: usize,
+    pub column: u32,
+}
+
+// A token's place, if there is one, and the offset, column and mark behind it.
+pub(crate) struct Found {
+    pub any: bool,
+    pub ends: bool,
+    pub column: u32,
+    pub offset: usize,
+    pub length: usize,
+    pub at: usize,
+    pub reached: u32,
+    pub mark: bool,
+}
+
+// The first offset from one on whose byte is not passed over, or the end.
+fn skip(report: &[u8], first: usize, start: u32, mark: bool) -> Spot
+    requires { ⌜ Room (now report) first start ⌝ }
+    ensures { λ r. ⌜ Skipped (now (report .entry)) first start mark r ⌝ }
+{
+    let mut at = first;
+    let mut column = start;
+    while at < report.len() {
+        if !passes(report[at], mark) {
+            return Spot { at, column };
+        }
+        column = column_after(report[at], column);
+        at += 1;
+    }
+    Spot { at, column }
+}
+
+// Where the run at an offset ends.
+fn run_end(report: &[u8], first: usize, start: u32) -> Spot
+    requires { ⌜ Room (now report) first start ⌝ }
+    ensures { λ r. ⌜ RunEnd (now (report .entry)) first start r ⌝ }
+{
+    let mut at = first;
+    let mut column = start;
+    while at < report.len() {
+        if !in_run(report[at]) {
+            return Spot { at, column };
+        }
+        column = column_after(report[at], column);
+        at += 1;
+    }
+    Spot { at, column }
+}
+
+// The next token's place from a position on.
+pub(crate) fn find(report: &[u8], at: usize, column: u32, mark: bool) -> Found
+    requires { ⌜ Room (now report) at column ⌝ }
+    ensures { λ r. ⌜ moveOf r ≡ nextIn (now (report .entry)) (position at column mark) ⌝ }
+{
+    let spot = skip(report, at, column, mark);
+    let offset = spot.at;
+    let place = spot.column;
+    if offset == report.len() {
+        return line_end(mark, place, offset, offset, place);
+    }
+    let b = report[offset];
+    if in_run(b) {
+        let end = run_end(report, offset, place);
+        let next = end.at;
+        return spelling(place, offset, next - offset, next, end.column);
+    }
+    if is_break(b) {
+        return line_end(true, place, offset, offset + 1, 0);
+    }
+    spelling(place, offset, 1, offset + 1, column_after(b, place))
+}
+
+// The end of a line that has had a token, or nothing.
+fn line_end(any: bool, column: u32, offset: usize, at: usize, reached: u32) -> Found
+    ensures { λ r. ⌜ r ≡ record { any = any; ends = true; column = column; offset = offset; length = 0; at = at; reached = reached; mark = false } ⌝ }
+{
+    Found {
+        any,
+        ends: true,
+        column,
+        offset,
+        length: 0,
+        at,
+        reached,
+        mark: false,
+    }
+}
+
+// A single byte or a run.
+fn spelling(column: u32, offset: usize, length: usize, at: usize, reached: u32) -> Found
+    ensures { λ r. ⌜ r ≡ record { any = true; ends = false; column = column; offset = offset; length = length; at = at; reached = reached; mark = true } ⌝ }
+{
+    Found {
+        any: true,
+        ends: false,
+        column,
+        offset,
+        length,
+        at,
+        reached,
+        mark: true,
+    }
+}

@@ -1,0 +1,268 @@
+// The report scanner: from the bytes of a report to tokens with columns (numbers 1 to 5 and 8 to 10).
+mod classes;
+mod find;
+mod terminals;
+
+ghost use mathlib.Core.Path.{_≡_};
+ghost use mathlib.Core.Bool.{true, _||_};
+ghost use lib.Dec.{ltb};
+ghost use mathlib.Core.List.{_++_};
+ghost use Prim.Native.Nat.{_*_, _≤_};
+ghost use lib.ListN.{length, drop};
+ghost use Rattle.table.specs.Answer.{afterwards};
+ghost use Rattle.grammar_file.specs.Offsets.{keywordsFrom};
+ghost use Rattle.scanner.specs.Places.{places};
+ghost use Rattle.scanner.specs.Tokens.{tokens as tokensOf, terminalAt, wordsOf};
+ghost use Rattle.scanner.specs.Scan.{fails8, scanTokens, scanAnswer};
+ghost use Rattle.scanner.specs.Scan.{numbers as scanNumbers};
+ghost use Rattle.scanner.specs.Steps.{position, stepFails9, stepAnswer, standing};
+ghost use Rattle.scanner.specs.Steps.{numbers as stepNumbers};
+ghost use Rattle.scanner.specs.InternalFind.{Measured, positionOf, moveOf, Ready, HandsOut};
+use classes::is_refused;
+use find::Found;
+use find::find;
+use grammar_file::FileRead;
+use terminals::terminal;
+
+// The most bytes of a report, the most tokens, the last column of a token, and the last column of a step.
+const BYTES: usize = 65535;
+
+const TOKENS: usize = 4096;
+
+const LAST_COLUMN: u32 = 65535;
+
+const LAST_STEP: u32 = 524280;
+
+// How many tokens were written, or the number of the first check that fails.
+pub enum Scanned {
+    Tokens(usize),
+    Refused(u8),
+}
+
+// What a step hands out.
+pub enum Handed {
+    Token {
+        terminal: u32,
+        column: u32,
+        offset: u32,
+        length: u32,
+    },
+    Nothing,
+    Refused(u8),
+}
+
+// What a step hands out, and the offset, column and mark that it reaches.
+pub struct Step {
+    pub handed: Handed,
+    pub at: usize,
+    pub column: u32,
+    pub mark: bool,
+}
+
+// How many tokens a report has, and whether the column of one is over the last.
+struct Tally {
+    count: usize,
+    over: bool,
+}
+
+// Writes the tokens of a report by a grammar file's keywords, four words each.
+pub fn scan(file: &[u8], report: &[u8], tokens: &mut [u32]) -> Scanned
+    ensures { λ r. ⌜ scanNumbers r ≡ scanAnswer (now (file .entry)) (now (report .entry)) (length (now (tokens .entry))) ⌝ }
+    ensures { λ r. ⌜ now (tokens .exit) ≡ afterwards (scanNumbers r) (wordsOf (scanTokens (now (file .entry)) (now (report .entry)))) (now (tokens .entry)) ⌝ }
+{
+    let read = grammar_file::check(file);
+    match read {
+        FileRead::Refused(n) => Scanned::Refused(n),
+        FileRead::Read {
+            nodes: _,
+            rules: _,
+            keywords,
+            start: _,
+            mode: _,
+        } => {
+            if refused(report) {
+                return Scanned::Refused(8);
+            }
+            let m = measure(report);
+            if m.over {
+                return Scanned::Refused(9);
+            }
+            let count = m.count;
+            if count > TOKENS {
+                return Scanned::Refused(10);
+            }
+            if tokens.len() / 4 < count {
+                return Scanned::Refused(10);
+            }
+            write(file, keywords, report, tokens);
+            Scanned::Tokens(count)
+        }
+    }
+}
+
+// The next token of a report from an offset, a column and a mark on, and the position behind it.
+pub fn next_token(file: &[u8], report: &[u8], at: usize, column: u32, mark: bool) -> Step
+    ensures { λ r. ⌜ stepNumbers (r .handed) ≡ stepAnswer (now (file .entry)) (now (report .entry)) (position at column mark) ⌝ }
+    ensures { λ r. ⌜ positionOf r ≡ standing (stepNumbers (r .handed)) (now (report .entry)) (position at column mark) ⌝ }
+{
+    let read = grammar_file::check(file);
+    match read {
+        FileRead::Refused(n) => stay(n, at, column, mark),
+        FileRead::Read {
+            nodes: _,
+            rules: _,
+            keywords,
+            start: _,
+            mode: _,
+        } => {
+            if refused(report) {
+                return stay(8, at, column, mark);
+            }
+            if report.len() < at {
+                return stay(8, at, column, mark);
+            }
+            if LAST_STEP < column {
+                return stay(8, at, column, mark);
+            }
+            let f = find(report, at, column, mark);
+            if too_wide(f) {
+                return stay(9, at, column, mark);
+            }
+            hand_out(file, keywords, report, f)
+        }
+    }
+}
+
+// A refused step: the position stays.
+fn stay(number: u8, at: usize, column: u32, mark: bool) -> Step
+    ensures { λ r. ⌜ r ≡ record { handed = Handed.Refused number; at = at; column = column; mark = mark } ⌝ }
+{
+    Step {
+        handed: Handed::Refused(number),
+        at,
+        column,
+        mark,
+    }
+}
+
+// Number 9 of a place that was found.
+fn too_wide(f: Found) -> bool
+    ensures { λ r. ⌜ r ≡ stepFails9 (moveOf f .found) ⌝ }
+{
+    if f.any { LAST_COLUMN < f.column } else { false }
+}
+
+// The step to a place that was found.
+fn hand_out(file: &[u8], keywords: usize, report: &[u8], f: Found) -> Step
+    requires { ⌜ Ready (now report) keywords f ⌝ }
+    ensures { λ r. ⌜ HandsOut (keywordsFrom (now (file .entry)) keywords) (now (report .entry)) f r ⌝ }
+{
+    if !f.any {
+        return Step {
+            handed: Handed::Nothing,
+            at: f.at,
+            column: f.reached,
+            mark: f.mark,
+        };
+    }
+    let handed = Handed::Token {
+        terminal: terminal_at(file, keywords, report, f),
+        column: f.column,
+        offset: f.offset as u32,
+        length: f.length as u32,
+    };
+    Step {
+        handed,
+        at: f.at,
+        column: f.reached,
+        mark: f.mark,
+    }
+}
+
+// The terminal of the token at a place: 2 at a line's end.
+fn terminal_at(file: &[u8], keywords: usize, report: &[u8], f: Found) -> u32
+    requires { ⌜ Ready (now report) keywords f ⌝ }
+    requires { ⌜ f .any ≡ true ⌝ }
+    ensures { λ r. ⌜ r ≡ terminalAt (keywordsFrom (now (file .entry)) keywords) (now (report .entry)) (f .ends) (f .offset) (f .length) ⌝ }
+{
+    if f.ends {
+        return 2;
+    }
+    let from = f.offset;
+    let end = from + f.length;
+    terminal(file, keywords, &report[from..end])
+}
+
+// Number 8 of a report.
+fn refused(report: &[u8]) -> bool
+    ensures { λ r. ⌜ r ≡ fails8 (now (report .entry)) ⌝ }
+{
+    if report.len() > BYTES {
+        return true;
+    }
+    let mut i = 0;
+    while i < report.len() {
+        if is_refused(report[i]) {
+            return true;
+        }
+        i += 1;
+    }
+    false
+}
+
+// Goes through the tokens of a report without their terminals.
+fn measure(report: &[u8]) -> Tally
+    requires { ⌜ length (now report) ≤ 65535 ⌝ }
+    ensures { λ r. ⌜ Measured (now (report .entry)) r ⌝ }
+{
+    let mut count = 0;
+    let mut over = false;
+    let mut at = 0;
+    let mut column = 0;
+    let mut mark = false;
+    loop {
+        let f = find(report, at, column, mark);
+        if !f.any {
+            return Tally { count, over };
+        }
+        over = wider(over, f.column);
+        count += 1;
+        at = f.at;
+        column = f.reached;
+        mark = f.mark;
+    }
+}
+
+// Whether a column is over the last, or one before it was.
+fn wider(over: bool, column: u32) -> bool
+    ensures { λ r. ⌜ r ≡ (over || ltb 65535 column) ⌝ }
+{
+    if over { true } else { LAST_COLUMN < column }
+}
+
+// Writes the tokens of a report.
+fn write(file: &[u8], keywords: usize, report: &[u8], tokens: &mut [u32])
+    requires { ⌜ keywords ≤ 253 ⌝ }
+    requires { ⌜ length (now report) ≤ 65535 ⌝ }
+    requires { ⌜ length (places (now report)) * 4 ≤ length (now tokens) ⌝ }
+    ensures { λ _. ⌜ now (tokens .exit) ≡ wordsOf (tokensOf (keywordsFrom (now (file .entry)) keywords) (now (report .entry))) ++ drop (length (places (now (report .entry))) * 4) (now (tokens .entry)) ⌝ }
+{
+    let mut to = 0;
+    let mut at = 0;
+    let mut column = 0;
+    let mut mark = false;
+    loop {
+        let f = find(report, at, column, mark);
+        if !f.any {
+            return;
+        }
+        tokens[to] = terminal_at(file, keywords, report, f);
+        tokens[to + 1] = f.column;
+        tokens[to + 2] = f.offset as u32;
+        tokens[to + 3] = f.length as u32;
+        to += 4;
+        at = f.at;
+        column = f.reached;
+        mark = f.mark;
+    }
+}
