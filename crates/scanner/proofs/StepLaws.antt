@@ -15,8 +15,8 @@ use Rattle.grammar_file.proofs.CheckLaws.{file-refuses, file-passes}
 use Rattle.scanner.specs.Places.{places}
 use Rattle.scanner.specs.Tokens.{tokenOf, tokens, wordsOf}
 use Rattle.scanner.specs.Scan.{mostBytes, mostTokens, fails8, fails9, fails10, scanTokens, scanAnswer}
-use Rattle.scanner.specs.Steps.{Position, nextIn, stepFails8, stepFails9, stepAnswer, standing, numbers}
-use Rattle.scanner.specs.InternalFind.{moveOf, positionOf, HandsOut}
+use Rattle.scanner.specs.Steps.{Position, nextIn, stepFails8, stepFails9, stepAnswer, standing, numbers, positionOf}
+use Rattle.scanner.specs.InternalFind.{moveOf, HandsOut}
 use Rattle.scanner.specs.declared.Step.{Step}
 use Rattle.scanner.specs.declared.Handed.the-variants.{Refused}
 use Rattle.scanner.specs.declared.find.Found.{Found}

@@ -1,5 +1,4 @@
--- What the scanner's private functions promise one another. No public promise rests on this file, but for `positionOf`,
--- a step's position as a record.
+-- What the scanner's private functions promise one another. No public promise rests on this file.
 use Prim.Native.Nat.{ℕ, _+_, _-_, _*_, _^_, _≤_, _<_}
 use mathlib.Core.Path.{_≡_}
 use mathlib.Core.Bool.{Bool, true, false, cond, not}
@@ -14,7 +13,7 @@ use Rattle.scanner.specs.Columns.{columnOver}
 use Rattle.scanner.specs.Places.{runLength, places}
 use Rattle.scanner.specs.Tokens.{tokenOf}
 use Rattle.scanner.specs.Scan.{overColumn}
-use Rattle.scanner.specs.Steps.{Position, position, Move, nextIn, numbers}
+use Rattle.scanner.specs.Steps.{position, Move, nextIn, positionOf, numbers}
 use Rattle.scanner.specs.declared.Tally.{Tally}
 use Rattle.scanner.specs.declared.Step.{Step}
 use Rattle.scanner.specs.declared.find.Spot.{Spot}
@@ -73,10 +72,6 @@ pub record Ready (text : List ℕ) (keywords : ℕ) (f : Found) : Type 0 where
   pub few : keywords ≤ 253
   pub short : length text ≤ 65535
   pub inside : f .any ≡ true → f .offset + f .length ≤ length text
-
--- A step's position.
-abbrev pub positionOf : Step → Position
-positionOf s = position (s .at) (s .column) (s .mark)
 
 pub record HandsOut (keywords : List (List ℕ)) (text : List ℕ) (f : Found) (s : Step) : Type 0 where
   pub token : numbers (s .handed) ≡ given (Option·map (tokenOf keywords text) (moveOf f .found))

@@ -15,6 +15,7 @@ use Rattle.scanner.specs.Columns.{columnAfter, columnOver}
 use Rattle.scanner.specs.Places.{Place, runLength}
 use Rattle.scanner.specs.Tokens.{Token, tokenOf}
 use Rattle.scanner.specs.Scan.{mostColumn, fails8}
+use Rattle.scanner.specs.declared.Step.{Step}
 use Rattle.scanner.specs.declared.Handed.{Handed}
 use Rattle.scanner.specs.declared.Handed.the-variants.{Token as HandedToken, Nothing, Refused}
 use Rattle.grammar_file.specs.declared.bytes.Class.the-variants.{Break, Tab, Blank, Single, Digit, Run}
@@ -81,6 +82,10 @@ stepAnswer file text p =
 abbrev pub standing : Answer (Option Token) → List ℕ → Position → Position
 standing (given t) text p = nextIn text p .reached
 standing (refused n) text p = p
+
+-- The position that a step answers.
+abbrev pub positionOf : Step → Position
+positionOf s = position (s .at) (s .column) (s .mark)
 
 -- 01's number and values for each case of `Handed`.
 abbrev pub numbers : Handed → Answer (Option Token)

@@ -15,9 +15,9 @@ ghost use Rattle.scanner.specs.Places.{places};
 ghost use Rattle.scanner.specs.Tokens.{tokens as tokensOf, terminalAt, wordsOf};
 ghost use Rattle.scanner.specs.Scan.{fails8, scanTokens, scanAnswer};
 ghost use Rattle.scanner.specs.Scan.{numbers as scanNumbers};
-ghost use Rattle.scanner.specs.Steps.{position, stepFails9, stepAnswer, standing};
+ghost use Rattle.scanner.specs.Steps.{position, stepFails9, stepAnswer, standing, positionOf};
 ghost use Rattle.scanner.specs.Steps.{numbers as stepNumbers};
-ghost use Rattle.scanner.specs.InternalFind.{Measured, positionOf, moveOf, Ready, HandsOut};
+ghost use Rattle.scanner.specs.InternalFind.{Measured, moveOf, Ready, HandsOut};
 use classes::is_refused;
 use find::Found;
 use find::find;
@@ -252,17 +252,17 @@ fn write(file: &[u8], keywords: usize, report: &[u8], tokens: &mut [u32])
     let mut column = 0;
     let mut mark = false;
     loop {
-        let f = find(report, at, column, mark);
-        if !f.any {
+        let place = find(report, at, column, mark);
+        if !place.any {
             return;
         }
-        tokens[to] = terminal_at(file, keywords, report, f);
-        tokens[to + 1] = f.column;
-        tokens[to + 2] = f.offset as u32;
-        tokens[to + 3] = f.length as u32;
+        tokens[to] = terminal_at(file, keywords, report, place);
+        tokens[to + 1] = place.column;
+        tokens[to + 2] = place.offset as u32;
+        tokens[to + 3] = place.length as u32;
         to += 4;
-        at = f.at;
-        column = f.reached;
-        mark = f.mark;
+        at = place.at;
+        column = place.reached;
+        mark = place.mark;
     }
 }
