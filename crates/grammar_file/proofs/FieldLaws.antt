@@ -13,7 +13,7 @@ use lib.Seq.{drop-cons, drop-drop}
 use lib.Dec.{leb}
 use Rattle.grammar_file.specs.Fields.{Field, twoBytes, before, firstField, fieldsUpTo, fields}
 use Rattle.grammar_file.specs.Offsets.{lengthAt, valueAt, nextAt, fieldAt}
-use Rattle.grammar_file.proofs.Lists.{le-or-lt}
+use Rattle.table.proofs.Orders.{le-or-lt}
 
 -- The first field asks the rest only about a shorter list.
 first-same : (bytes : List ℕ) (f g : List ℕ → Option (List Field)) → ((rest : List ℕ) → length rest < length bytes → f rest ≡ g rest) → firstField bytes f ≡ firstField bytes g

@@ -1,21 +1,11 @@
--- Facts about numbers and about parts of lists.
+-- Facts about parts of lists.
 use Prim.Native.Nat.{ℕ, suc, _+_, _-_, _≤_, _<_}
 use mathlib.Core.Path.{_≡_, refl, sym, ap, _∙_}
 use mathlib.Core.List.{List, [], _∷_, _++_, append-assoc}
-use mathlib.Core.Logic.{_⊎_, inl, inr}
-use native.Mathlib.Decide.{decLe}
 use native.Mathlib.Omega.{arith}
 use native.Mathlib.Numerals.{add-one}
 use lib.ListN.{length, getD, take, drop, set, length-append, length-drop, drop-of-length-le}
 use lib.Seq.{take-all, take-nil, drop-cons, set-at, append-snoc}
-
--- Of two numbers, the first is at most the second, or above it.
-pub le-or-lt : (a b : ℕ) → (a ≤ b) ⊎ (b < a)
-le-or-lt a b = by-answer (decLe a b)
-  where
-    by-answer : Dec (a ≤ b) → (a ≤ b) ⊎ (b < a)
-    by-answer (yes h) = inl h
-    by-answer (no h) = inr (omega arith)
 
 -- As many elements as are left, or more, are all that is left.
 pub take-rest : {A : Type 0} (n m : ℕ) (l : List A) → length l - m ≤ n → take n (drop m l) ≡ drop m l

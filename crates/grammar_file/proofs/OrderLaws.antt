@@ -17,7 +17,7 @@ use Rattle.grammar_file.specs.Fields.{Field, before, fields, laterTags}
 use Rattle.grammar_file.specs.File.{rightLength, rightValue, rightValues}
 use Rattle.grammar_file.specs.Offsets.{lengthAt, valueAt, nextAt, fieldAt}
 use Rattle.grammar_file.specs.InternalShape.{rightAt}
-use Rattle.grammar_file.proofs.Lists.{le-or-lt}
+use Rattle.table.proofs.Orders.{le-or-lt}
 use Rattle.grammar_file.proofs.FieldLaws.{fields-none, fields-whole, fields-cut}
 
 -- What number 1 asks of the fields behind tag 1, no tag below a number.

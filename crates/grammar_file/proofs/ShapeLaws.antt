@@ -18,7 +18,7 @@ use Rattle.grammar_file.specs.Offsets.{lengthAt, valueAt, nextAt, fieldA
 use Rattle.grammar_file.specs.InternalShape.{rightAt, framedBy, LongestRun, Shaped}
 use Rattle.grammar_file.specs.declared.shape.Run.{Run}
 use Rattle.grammar_file.specs.declared.shape.Shape.{Shape}
-use Rattle.grammar_file.proofs.Lists.{le-or-lt}
+use Rattle.table.proofs.Orders.{le-or-lt}
 use Rattle.grammar_file.proofs.FieldLaws.{fields-none, fields-whole, fields-cut}
 use Rattle.grammar_file.proofs.Offsets.{length-from}
 use Rattle.grammar_file.proofs.OrderLaws.{same-or-not, good, good-step, good-next, good-last, whole, its-tag, its-length, length-value, one-false}

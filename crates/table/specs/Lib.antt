@@ -3,3 +3,4 @@ pub mod Every
 pub mod Limits
 pub mod Form
 pub mod Checks
+pub mod InternalInside

@@ -1,0 +1,61 @@
+-- A table that passes 3, 4 and 5 has its children and rules inside.
+use Prim.Native.Nat.{ℕ, zero, suc, _<_}
+use mathlib.Core.Path.{_≡_, refl, ap, _∙_}
+use mathlib.Core.Bool.{Bool, true, false, not, _&&_, true≢false, false≢true, Bool·not-not}
+use mathlib.Core.List.{List}
+use lib.ListN.{length}
+use lib.Dec.{ltb}
+use native.Mathlib.Omega.{arith}
+use borrow.Author.Tests.{ltb-true}
+use Rattle.table.specs.Answer.{Answer, given, refused, refuseIf}
+use Rattle.table.specs.Every.{every}
+use Rattle.table.specs.Form.{decode, kindOf, aOf, bOf, relationOf, form, nodeCount, standsFor}
+use Rattle.table.specs.Checks.{fails3, fails4, fails5, unused, lower, isRelation, rightWords, rightNode, tableAnswer}
+use Rattle.table.specs.InternalInside.{Inside}
+use Rattle.table.proofs.Every.{every-at, and-left, and-right}
+
+-- Of three tests that hold, the first and the second.
+first : (a b c : Bool) → (a && b && c) ≡ true → a ≡ true
+first a b c e = and-left a b (and-left (a && b) c e)
+
+second : (a b c : Bool) → (a && b && c) ≡ true → b ≡ true
+second a b c e = and-right a b (and-left (a && b) c e)
+
+module _ (rules : List ℕ) (count n : ℕ) (h : n < count) (there : (k : ℕ) → k < length rules → standsFor rules k < count) where
+  below : {a : ℕ} → lower a n ≡ true → a < count
+  below {a} e = let k : a < n = ltb-true a n e in omega arith
+
+  words-inside : (kind a b r : ℕ) → rightWords (length rules) n kind a b r ≡ true → Inside rules count (decode kind a b r)
+  unfolding rightWords
+  words-inside zero a b r e = tt
+  words-inside (suc zero) a b r e = tt
+  words-inside (suc (suc zero)) a b r e = there a (ltb-true a (length rules) (first (ltb a (length rules)) (unused b) (unused r) e))
+  words-inside (suc (suc (suc zero))) a b r e = (below (first (lower a n) (lower b n) (unused r) e), below (second (lower a n) (lower b n) (unused r) e))
+  words-inside (suc (suc (suc (suc zero)))) a b r e = (below (first (lower a n) (lower b n) (unused r) e), below (second (lower a n) (lower b n) (unused r) e))
+  words-inside (suc (suc (suc (suc (suc zero))))) a b r e = below (first (lower a n) (unused b) (unused r) e)
+  words-inside (suc (suc (suc (suc (suc (suc zero)))))) a b r e = below (first (lower a n) (unused b) (unused r) e)
+  words-inside (suc (suc (suc (suc (suc (suc (suc zero))))))) a b r e = below (first (lower a n) (unused b) (isRelation r) e)
+  words-inside (suc (suc (suc (suc (suc (suc (suc (suc zero)))))))) a b r e = below (first (lower a n) (unused b) (isRelation r) e)
+  words-inside (suc (suc (suc (suc (suc (suc (suc (suc (suc zero))))))))) a b r e = below (first (lower a n) (unused b) (unused r) e)
+  words-inside (suc (suc (suc (suc (suc (suc (suc (suc (suc (suc k)))))))))) a b r e = absurd (false≢true e)
+
+-- None of the three numbers applies.
+none-fails : (a b c : Bool) → _≡_ {A = Answer Unit} (refuseIf a 3 (refuseIf b 4 (refuseIf c 5 (given tt)))) (given tt) → (a ≡ false) × (b ≡ false) × (c ≡ false)
+none-fails true b c e = absurd (let z : _≡_ {A = ℕ} 0 1 = cc in omega arith)
+none-fails false true c e = absurd (let z : _≡_ {A = ℕ} 0 1 = cc in omega arith)
+none-fails false false true e = absurd (let z : _≡_ {A = ℕ} 0 1 = cc in omega arith)
+none-fails false false false e = (refl, refl, refl)
+
+unnot : (b : Bool) → not b ≡ false → b ≡ true
+unnot true e = refl
+unnot false e = absurd (true≢false e)
+
+-- The law.
+pub inside-table : (nodes rules : List ℕ) → tableAnswer nodes rules ≡ given tt → (n : ℕ) → n < nodeCount nodes → Inside rules (nodeCount nodes) (form nodes n)
+unfolding tableAnswer fails4 fails5 form
+inside-table nodes rules e n h =
+    let ok = none-fails (fails3 nodes rules) (fails4 nodes rules) (fails5 nodes rules) e in
+    words-inside rules (nodeCount nodes) n h
+    (λ k l. ltb-true (standsFor rules k) (nodeCount nodes) (every-at (length rules) (λ r. ltb (standsFor rules r) (nodeCount nodes)) (unnot _ (ok .2)) k l))
+    (kindOf nodes n) (aOf nodes n) (bOf nodes n) (relationOf nodes n)
+    (every-at (nodeCount nodes) (rightNode nodes rules) (unnot _ (ok .1)) n h)

@@ -1,0 +1,3 @@
+pub mod RoundLaws
+pub mod FixpointLaws
+pub mod DecidedLaws

@@ -1,0 +1,1 @@
+// Ford's well-formedness: definitions. The check over a table comes next.
