@@ -10,6 +10,7 @@ use native.Mathlib.Nat.{le-trans, le-of-eq}
 use borrow.Author.Tests.{ltb-false}
 use native.Mathlib.Omega.{arith}
 use Rattle.table.specs.Answer.{Answer, given, refused, refuseIf}
+use Rattle.table.proofs.Every.{both-false}
 use Rattle.table.specs.Every.{every}
 use Rattle.table.specs.Limits.{relationCount}
 use Rattle.table.specs.Form.{nodeCount}
@@ -74,20 +75,16 @@ module _ (file : List ℕ) (s : Shape) (p : Parts file s) where
       λ i. given (record { nodes = sym node-count i; rules = sym rule-count i; keywords = sym keyword-count i; start = x' i; mode = y' i })
 
 -- A file that number 1 passes has no more than 253 keywords.
-no-test : (a b : Bool) → (a || b) ≡ false → b ≡ false
-no-test false b e = e
-no-test true b e = absurd (true≢false e)
-
 few-keywords : (o : Option (List Field)) → unreadable o ≡ false → length (keywords (Option·getD o [])) ≤ mostKeywords
 unfolding unreadable
 few-keywords none e = absurd (true≢false e)
-few-keywords (some fs) e = ltb-false mostKeywords (length (keywords fs)) (no-test (not (inOrder fs) || not (rightValues fs)) (ltb mostKeywords (length (keywords fs))) e)
+few-keywords (some fs) e = ltb-false mostKeywords (length (keywords fs)) (both-false (not (inOrder fs) || not (rightValues fs)) (ltb mostKeywords (length (keywords fs))) e .1)
 
 -- Its keywords, by offset.
 pub keywords-stand : (file : List ℕ) (s : Shape) → Parts file s → (keywords (fieldsOf file) ≡ keywordsFrom file (s .keywords)) × (s .keywords ≤ mostKeywords)
 unfolding fails1 keywordsFrom spellingsFrom
 keywords-stand file s p =
-    (keywords-are file s p, le-trans (le-of-eq (sym (keyword-count file s p))) (few-keywords (fields file) (no-test (ltb mostBytes (length file)) (unreadable (fields file)) (p .passes))))
+    (keywords-are file s p, le-trans (le-of-eq (sym (keyword-count file s p))) (few-keywords (fields file) (both-false (ltb mostBytes (length file)) (unreadable (fields file)) (p .passes) .1)))
 
 -- Numbers 3, 4 and 5 of a table, and number 5 with two tests more.
 tests-refuse : (f3 f4 f5 a b : Bool) (n : ℕ) (next : Answer Contents) → _≡_ {A = Answer Unit} (refuseIf f3 3 (refuseIf f4 4 (refuseIf f5 5 (given tt)))) (refused n)

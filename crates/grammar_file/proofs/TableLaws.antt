@@ -1,37 +1,27 @@
 -- The words of a table and its rules, written field by field.
 use Prim.Native.Nat.{ℕ, _+_, _*_, _%_, _<_}
 use mathlib.Core.Path.{_≡_, refl, sym, ap, ap₂, _∙_}
-use mathlib.Core.List.{List, [], _∷_, _++_, map, map-append, append-assoc}
+use mathlib.Core.List.{List, [], _∷_, _++_, map, map-append}
 use native.Mathlib.Omega.{arith}
 use borrow.Author.Tests.{lt-leb, lt-ltb}
 use mathlib.Core.Bool.{not, _&&_, _||_, and-false, or-true}
 use lib.Dec.{leb, eqb}
 use lib.Seq.{take-at}
+use Rattle.table.specs.Words.{eachWords}
+use Rattle.table.proofs.Words.{words-append, length-words}
 use Rattle.table.specs.Answer.{refused}
 use Rattle.table.specs.Limits.{mostNodes, mostRules}
 use Rattle.table.specs.Form.{nodeCount}
 use Rattle.table.specs.Checks.{fails3, tableAnswer}
-use lib.ListN.{length, take, drop, set, length-append, length-map}
-use Rattle.grammar_file.specs.Fields.{Field}
+use lib.ListN.{length, take, drop, set, length-map}
 use Rattle.grammar_file.specs.File.{ruleNode, fourWords, wordsOf}
 use Rattle.grammar_file.specs.Offsets.{fieldAt, offsetOf, fieldsFrom}
 use Rattle.grammar_file.proofs.Lists.{write-next, four-more}
 use Rattle.grammar_file.proofs.Offsets.{length-from, from-next}
 
--- The words of fields one list behind the other, and how many there are.
-words-append : (xs ys : List Field) → wordsOf (xs ++ ys) ≡ wordsOf xs ++ wordsOf ys
-unfolding wordsOf
-words-append [] ys = refl
-words-append (f ∷ xs) ys = ap (λ (l : List ℕ). fourWords f ++ l) (words-append xs ys)
-
-pub length-words : (fs : List Field) → length (wordsOf fs) ≡ length fs * 4
-unfolding wordsOf
-length-words [] = refl
-length-words (f ∷ fs) = omega (arith, length-words fs)
-
 module _ (file : List ℕ) (first : ℕ) where
   pub length-nodes : (k : ℕ) → length (wordsOf (fieldsFrom file first k)) ≡ k * 4
-  length-nodes k = length-words (fieldsFrom file first k) ∙ ap (λ (n : ℕ). n * 4) (length-from file first k)
+  length-nodes k = length-words fourWords (λ f. refl) (fieldsFrom file first k) ∙ ap (λ (n : ℕ). n * 4) (length-from file first k)
 
   pub length-rules : (k : ℕ) → length (map ruleNode (fieldsFrom file first k)) ≡ k
   length-rules k = length-map (fieldsFrom file first k) ruleNode ∙ length-from file first k
@@ -51,14 +41,14 @@ module _ (file : List ℕ) (first : ℕ) where
 pub node-next : (file : List ℕ) (first k : ℕ) (old out : List ℕ) (a b c d : ℕ) → out ≡ wordsOf (fieldsFrom file first k) ++ drop (k * 4) old → k * 4 + 3 < length old
     → (a ∷ b ∷ c ∷ d ∷ []) ≡ fourWords (fieldAt file (offsetOf file first k))
     → set (set (set (set out (k * 4) a) (k * 4 + 1) b) (k * 4 + 2) c) (k * 4 + 3) d ≡ wordsOf (fieldsFrom file first (k + 1)) ++ drop ((k + 1) * 4) old
-unfolding wordsOf
+unfolding eachWords
 node-next file first k old out a b c d e h p =
     let n : k * 4 + 4 ≡ (k + 1) * 4 = omega arith in
     ap (λ (l : List ℕ). set (set (set (set l (k * 4) a) (k * 4 + 1) b) (k * 4 + 2) c) (k * 4 + 3) d) e
     ∙ four-more (wordsOf (fieldsFrom file first k)) old (k * 4) a b c d (length-nodes file first k) h
     ∙ ap₂ (λ (l : List ℕ) (m : ℕ). l ++ drop m old)
     (ap (λ (l : List ℕ). wordsOf (fieldsFrom file first k) ++ l) p
-    ∙ sym (words-append (fieldsFrom file first k) (fieldAt file (offsetOf file first k) ∷ []))
+    ∙ sym (words-append fourWords (fieldsFrom file first k) (fieldAt file (offsetOf file first k) ∷ []))
     ∙ ap wordsOf (sym (from-next file first k))) n
 
 -- What was written stands in front.

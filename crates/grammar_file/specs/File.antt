@@ -2,12 +2,13 @@
 use Prim.Native.Nat.{ℕ, zero, suc, _≤_}
 use mathlib.Core.Path.{_≡_}
 use mathlib.Core.Bool.{Bool, true, false, not, _&&_, _||_}
-use mathlib.Core.List.{List, [], _∷_, _++_, map}
+use mathlib.Core.List.{List, [], _∷_, map}
 use mathlib.Core.Option.{Option, some, none, Option·getD}
 use lib.ListN.{length, getD, drop}
 use lib.Dec.{leb, ltb, eqb}
 use Rattle.table.specs.Answer.{Answer, given, refused, refuseIf}
 use Rattle.table.specs.Every.{every}
+use Rattle.table.specs.Words.{eachWords}
 use Rattle.table.specs.Limits.{relationCount}
 use Rattle.table.specs.Form.{nodeCount}
 use Rattle.table.specs.Checks.{fails3, fails4, fails5}
@@ -70,9 +71,8 @@ fourWords f =
     ∷ []
 
 -- The words of node fields, one field behind the other.
-unfoldable pub wordsOf : List Field → List ℕ
-wordsOf [] = []
-wordsOf (f ∷ fs) = fourWords f ++ wordsOf fs
+abbrev pub wordsOf : List Field → List ℕ
+wordsOf fs = eachWords fourWords fs
 
 -- The table.
 unfoldable pub nodeTable : List Field → List ℕ

@@ -1,13 +1,14 @@
 -- The tokens handed out one by one from the start are those that a scan writes, wherever the scan is not refused.
 use Prim.Native.Nat.{ℕ, zero, suc, _+_, _-_, _*_, _≤_}
 use mathlib.Core.Path.{_≡_, refl, sym, ap, ap₂, _∙_}
-use mathlib.Core.Bool.{Bool, true, false, _||_, true≢false}
+use mathlib.Core.Bool.{Bool, true, false}
 use mathlib.Core.List.{List, [], _∷_, map}
 use mathlib.Core.Option.{Option, some, none, Option·map}
 use lib.ListN.{length}
 use lib.Dec.{ltb}
 use native.Mathlib.Nat.{le-trans}
 use native.Mathlib.Omega.{arith}
+use Rattle.table.proofs.Every.{both-false}
 use Rattle.table.specs.Answer.{Answer, given, refused, refuseIf}
 use Rattle.grammar_file.specs.File.{Contents, keywords, fieldsOf, fileAnswer, checks1to5}
 use Rattle.grammar_file.proofs.CheckLaws.{file-refuses, file-passes}
@@ -33,10 +34,6 @@ module _ (file text : List ℕ) where
   file-first (refused k) g m next e = absurd (let f = file-refuses file k next g in let z : _≡_ {A = ℕ} 0 1 = cc in omega arith)
 
 -- Where a column is not over the last, none of the later ones is.
-both-false : (a b : Bool) → (a || b) ≡ false → (a ≡ false) × (b ≡ false)
-both-false false b e = (refl, e)
-both-false true b e = absurd (true≢false e)
-
 thin-next : (p : Place) (ps : List Place) → overColumn (p ∷ ps) ≡ false → (ltb mostColumn (p .column) ≡ false) × (overColumn ps ≡ false)
 unfolding overColumn
 thin-next p ps e = both-false (ltb mostColumn (p .column)) (overColumn ps) e

@@ -8,6 +8,8 @@ use lib.ListN.{length, drop, set, length-append, length-map}
 use lib.Dec.{ltb}
 use native.Mathlib.Omega.{arith}
 use Rattle.grammar_file.proofs.Lists.{four-more, length-written}
+use Rattle.table.specs.Words.{eachWords}
+use Rattle.table.proofs.Words.{words-append, length-words}
 use Rattle.scanner.specs.Places.{Place, places}
 use Rattle.scanner.specs.Tokens.{Token, tokenOf, terminalAt, tokens, tokenWords, wordsOf}
 use Rattle.scanner.specs.Scan.{mostColumn, overColumn}
@@ -93,16 +95,6 @@ module _ (text : List ℕ) (count : ℕ) (over : Bool) (p : Position) (k : Count
         }
 
 -- Writing the tokens: what was written, and the places that are left.
-words-append : (xs ys : List Token) → wordsOf (xs ++ ys) ≡ wordsOf xs ++ wordsOf ys
-unfolding wordsOf
-words-append [] ys = refl
-words-append (t ∷ xs) ys = ap (λ (l : List ℕ). tokenWords t ++ l) (words-append xs ys)
-
-pub length-words : (ts : List Token) → length (wordsOf ts) ≡ length ts * 4
-unfolding wordsOf
-length-words [] = refl
-length-words (t ∷ ts) = omega (arith, length-words ts)
-
 pub record Writing (keywords : List (List ℕ)) (text old : List ℕ) (p : Position) (to : ℕ) (out : List ℕ) : Type 0 where
   pub done : List Place
   pub room : Room text (p .offset) (p .column)
@@ -112,7 +104,7 @@ pub record Writing (keywords : List (List ℕ)) (text old : List ℕ) (p : Posit
 
 module _ (keywords : List (List ℕ)) (text old : List ℕ) where
   pub writing-start : length text ≤ 65535 → Writing keywords text old (position 0 0 false) 0 old
-  unfolding wordsOf
+  unfolding eachWords
   writing-start h = record { done = []; room = record { within = omega arith; fits = omega arith }; all = sym (places-from text); at = refl; words = refl }
 
   module _ (p : Position) (to : ℕ) (out : List ℕ) (k : Writing keywords text old p to out) where
@@ -120,7 +112,7 @@ module _ (keywords : List (List ℕ)) (text old : List ℕ) where
     total = ap length (sym (k .all)) ∙ length-append (k .done) (placesFrom text p)
 
     front : length (wordsOf (map (tokenOf keywords text) (k .done))) ≡ to
-    front = length-words (map (tokenOf keywords text) (k .done)) ∙ ap (λ (n : ℕ). n * 4) (length-map (k .done) (tokenOf keywords text)) ∙ sym (k .at)
+    front = length-words tokenWords (λ t. refl) (map (tokenOf keywords text) (k .done)) ∙ ap (λ (n : ℕ). n * 4) (length-map (k .done) (tokenOf keywords text)) ∙ sym (k .at)
 
     pub out-length : length (places text) * 4 ≤ length old → length out ≡ length old
     out-length h = ap length (k .words) ∙ length-written (wordsOf (map (tokenOf keywords text) (k .done))) old to front (omega (arith, total, k .at))
@@ -139,7 +131,7 @@ module _ (keywords : List (List ℕ)) (text old : List ℕ) where
 
         pub writing-next : {t : ℕ} → t ≡ terminalAt keywords text (f .ends) (f .offset) (f .length)
             → Writing keywords text old (behind f) (to + 4) (set (set (set (set out to t) (to + 1) (f .column)) (to + 2) (f .offset)) (to + 3) (f .length))
-        unfolding wordsOf
+        unfolding eachWords
         writing-next {t} q =
             let tok : Place → Token = tokenOf keywords text in
             record {
@@ -152,6 +144,6 @@ module _ (keywords : List (List ℕ)) (text old : List ℕ) where
                   ∙ four-more (wordsOf (map tok (k .done))) old to t (f .column) (f .offset) (f .length) front writing-room
                   ∙ ap (λ (l : List ℕ). l ++ drop (to + 4) old)
                   (ap (λ (u : ℕ). wordsOf (map tok (k .done)) ++ (u ∷ f .column ∷ f .offset ∷ f .length ∷ [])) q
-                  ∙ sym (words-append (map tok (k .done)) (tok (placeOf f) ∷ []))
+                  ∙ sym (words-append tokenWords (map tok (k .done)) (tok (placeOf f) ∷ []))
                   ∙ ap wordsOf (sym (map-append tok (k .done) (placeOf f ∷ []))));
             }

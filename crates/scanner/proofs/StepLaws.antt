@@ -5,15 +5,16 @@ use mathlib.Core.Bool.{Bool, true, false, not, _||_, or-true}
 use mathlib.Core.List.{List, _++_}
 use mathlib.Core.Option.{Option·map}
 use lib.ListN.{length, drop, length-map}
-use Rattle.scanner.proofs.LoopLaws.{length-words}
+use Rattle.table.proofs.Words.{length-words}
 use lib.Dec.{ltb}
 use native.Mathlib.Omega.{arith}
 use borrow.Author.Tests.{lt-ltb, le-ltb, ltb-false}
+use Rattle.table.proofs.Every.{both-false}
 use Rattle.table.specs.Answer.{given, refused, refuseIf, afterwards}
 use Rattle.grammar_file.specs.File.{Contents, keywords, fieldsOf, fileAnswer}
 use Rattle.grammar_file.proofs.CheckLaws.{file-refuses, file-passes}
 use Rattle.scanner.specs.Places.{places}
-use Rattle.scanner.specs.Tokens.{tokenOf, tokens, wordsOf}
+use Rattle.scanner.specs.Tokens.{tokenOf, tokens, tokenWords, wordsOf}
 use Rattle.scanner.specs.Scan.{mostBytes, mostTokens, fails8, fails9, fails10, scanTokens, scanAnswer}
 use Rattle.scanner.specs.Steps.{Position, nextIn, stepFails8, stepFails9, stepAnswer, standing, numbers, positionOf}
 use Rattle.scanner.specs.InternalFind.{moveOf, HandsOut}
@@ -22,13 +23,9 @@ use Rattle.scanner.specs.declared.Handed.the-variants.{Refused}
 use Rattle.scanner.specs.declared.find.Found.{Found}
 
 -- A report that number 8 passes is not over length.
-not-first : (a b : Bool) → (a || b) ≡ false → a ≡ false
-not-first false b e = refl
-not-first true b e = e
-
 pub short-report : (text : List ℕ) → false ≡ fails8 text → length text ≤ mostBytes
 unfolding fails8
-short-report text e = ltb-false mostBytes (length text) (not-first (ltb mostBytes (length text)) _ (sym e))
+short-report text e = ltb-false mostBytes (length text) (both-false (ltb mostBytes (length text)) _ (sym e) .0)
 
 -- Number 8 of a step: the text, the offset, the column, or none of them.
 module _ (text : List ℕ) (p : Position) where
@@ -116,5 +113,5 @@ pub words-after : (file text : List ℕ) (ks : List (List ℕ)) → keywords (fi
 unfolding tokens
 words-after file text ks q old n e =
     e
-    ∙ ap (λ (k : ℕ). wordsOf (tokens ks text) ++ drop k old) (sym (length-words (tokens ks text) ∙ ap (λ (k : ℕ). k * 4) (length-map (places text) (tokenOf ks text))))
+    ∙ ap (λ (k : ℕ). wordsOf (tokens ks text) ++ drop k old) (sym (length-words tokenWords (λ t. refl) (tokens ks text) ∙ ap (λ (k : ℕ). k * 4) (length-map (places text) (tokenOf ks text))))
     ∙ ap (λ (k : List (List ℕ)). wordsOf (tokens k text) ++ drop (length (wordsOf (tokens k text))) old) (sym q)

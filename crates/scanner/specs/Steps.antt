@@ -10,7 +10,7 @@ use Rattle.table.specs.Answer.{Answer, given, refused, refuseIf}
 use Rattle.grammar_file.specs.Bytes.{classOf}
 use Rattle.grammar_file.specs.File.{keywords, fieldsOf, checks1to5}
 use Rattle.grammar_file.specs.declared.bytes.Class.{Class}
-use Rattle.grammar_file.specs.declared.bytes.Class.the-variants.{Refused as RefusedByte}
+use Rattle.grammar_file.specs.declared.bytes.Class.the-variants.{Refused as RefusedByte, Break, Tab, Blank, Single, Digit, Run}
 use Rattle.scanner.specs.Columns.{columnAfter, columnOver}
 use Rattle.scanner.specs.Places.{Place, runLength}
 use Rattle.scanner.specs.Tokens.{Token, tokenOf}
@@ -18,7 +18,6 @@ use Rattle.scanner.specs.Scan.{mostColumn, fails8}
 use Rattle.scanner.specs.declared.Step.{Step}
 use Rattle.scanner.specs.declared.Handed.{Handed}
 use Rattle.scanner.specs.declared.Handed.the-variants.{Token as HandedToken, Nothing, Refused}
-use Rattle.grammar_file.specs.declared.bytes.Class.the-variants.{Break, Tab, Blank, Single, Digit, Run}
 
 -- Where a value stands: the offset and column reached and whether this line has had a token.
 pub record Position : Type 0 where
@@ -61,9 +60,13 @@ nextPlace (b ∷ bytes) o c m =
 abbrev pub nextIn : List ℕ → Position → Move
 nextIn text p = nextPlace (drop (p .offset) text) (p .offset) (p .column) (p .mark)
 
+-- The last column that a step begins at: 65,535 tabs of 8 columns.
+abbrev pub lastStepColumn : ℕ
+lastStepColumn = 524280
+
 -- 8, for a step: the whole text, and "an offset past the text or a column over 524,280 is 8 too".
 unfoldable pub stepFails8 : List ℕ → Position → Bool
-stepFails8 text p = fails8 text || ltb (length text) (p .offset) || ltb 524280 (p .column)
+stepFails8 text p = fails8 text || ltb (length text) (p .offset) || ltb lastStepColumn (p .column)
 
 -- 9, for a step: "the token handed out".
 unfoldable pub stepFails9 : Option Place → Bool

@@ -1,9 +1,10 @@
 -- Tokens: the terminal, column, offset and length of each place (01, "The scanner").
 use Prim.Native.Nat.{ℕ, suc, _+_}
 use mathlib.Core.Bool.{Bool, true, false, cond, not, _&&_}
-use mathlib.Core.List.{List, [], _∷_, _++_, map}
+use mathlib.Core.List.{List, [], _∷_, map}
 use lib.ListN.{take, drop}
 use lib.Dec.{eqb}
+use Rattle.table.specs.Words.{eachWords}
 use Rattle.grammar_file.specs.Bytes.{classOf}
 use Rattle.grammar_file.specs.Spellings.{sameBytes}
 use Rattle.grammar_file.specs.declared.bytes.Class.{Class}
@@ -84,6 +85,5 @@ tokens keywords text = map (tokenOf keywords text) (places text)
 abbrev pub tokenWords : Token → List ℕ
 tokenWords t = t .terminal ∷ t .column ∷ t .offset ∷ t .length ∷ []
 
-unfoldable pub wordsOf : List Token → List ℕ
-wordsOf [] = []
-wordsOf (t ∷ ts) = tokenWords t ++ wordsOf ts
+abbrev pub wordsOf : List Token → List ℕ
+wordsOf ts = eachWords tokenWords ts

@@ -1,14 +1,13 @@
 -- A table that passes 3, 4 and 5 has its children and rules inside.
 use Prim.Native.Nat.{ℕ, zero, suc, _<_}
-use mathlib.Core.Path.{_≡_, refl, ap, _∙_}
-use mathlib.Core.Bool.{Bool, true, false, not, _&&_, true≢false, false≢true, Bool·not-not}
+use mathlib.Core.Path.{_≡_, refl}
+use mathlib.Core.Bool.{Bool, true, false, not, _&&_, true≢false, false≢true}
 use mathlib.Core.List.{List}
 use lib.ListN.{length}
 use lib.Dec.{ltb}
 use native.Mathlib.Omega.{arith}
 use borrow.Author.Tests.{ltb-true}
-use Rattle.table.specs.Answer.{Answer, given, refused, refuseIf}
-use Rattle.table.specs.Every.{every}
+use Rattle.table.specs.Answer.{Answer, given, refuseIf}
 use Rattle.table.specs.Form.{decode, kindOf, aOf, bOf, relationOf, form, nodeCount, standsFor}
 use Rattle.table.specs.Checks.{fails3, fails4, fails5, unused, lower, isRelation, rightWords, rightNode, tableAnswer}
 use Rattle.table.specs.InternalInside.{Inside}

@@ -1,3 +1,4 @@
 pub mod Every
 pub mod Inside
 pub mod Orders
+pub mod Words

@@ -1,5 +1,6 @@
 pub mod Answer
 pub mod Every
+pub mod Words
 pub mod Limits
 pub mod Form
 pub mod Checks

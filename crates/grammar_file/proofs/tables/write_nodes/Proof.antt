@@ -7,6 +7,7 @@ use mathlib.Core.Path.{_≡_, refl, sym, ap, _∙_}
 use mathlib.Core.List.{List, [], _∷_, _++_}
 use lib.ListN.{length, getD, drop, length-set}
 use Rattle.grammar_file.specs.Fields.{twoBytes}
+use Rattle.table.specs.Words.{eachWords}
 use Rattle.grammar_file.specs.File.{wordsOf}
 use Rattle.grammar_file.specs.Offsets.{valueAt, nextAt, offsetOf, fieldsFrom}
 use Rattle.grammar_file.proofs.Lists.{length-written}
@@ -25,7 +26,7 @@ abbrev μ-loop : tie.MeasureT-loop
 μ-loop file first count out₀ at₀ i₀ out at i = count - i
 
 loop-holds : tie.Need-loop-holds Inv-loop μ-loop
-unfolding fieldsFrom offsetOf wordsOf
+unfolding fieldsFrom offsetOf eachWords
 loop-holds c = (omega arith, refl, refl)
 
 value-at-requires : tie.Need-value-at-requires Inv-loop μ-loop
