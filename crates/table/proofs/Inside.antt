@@ -1,17 +1,18 @@
 -- A table that passes 3, 4 and 5 has its children and rules inside.
-use Prim.Native.Nat.{ℕ, zero, suc, _<_}
+use Prim.Native.Nat.{ℕ, zero, suc, _<_, _≤_, _%_}
 use mathlib.Core.Path.{_≡_, refl}
-use mathlib.Core.Bool.{Bool, true, false, not, _&&_, true≢false, false≢true}
+use mathlib.Core.Bool.{Bool, true, false, not, _&&_, _||_, true≢false, false≢true}
 use mathlib.Core.List.{List}
 use lib.ListN.{length}
-use lib.Dec.{ltb}
+use lib.Dec.{leb, ltb, eqb}
 use native.Mathlib.Omega.{arith}
-use borrow.Author.Tests.{ltb-true}
+use borrow.Author.Tests.{ltb-true, ltb-false, leb-true, eqb-true}
 use Rattle.table.specs.Answer.{Answer, given, refuseIf}
+use Rattle.table.specs.Limits.{mostNodes, mostRules}
 use Rattle.table.specs.Form.{decode, kindOf, aOf, bOf, relationOf, form, nodeCount, standsFor}
 use Rattle.table.specs.Checks.{fails3, fails4, fails5, unused, lower, isRelation, rightWords, rightNode, tableAnswer}
 use Rattle.table.specs.InternalInside.{Inside}
-use Rattle.table.proofs.Every.{every-at, and-left, and-right}
+use Rattle.table.proofs.Every.{every-at, and-left, and-right, both-false}
 
 -- Of three tests that hold, the first and the second.
 first : (a b c : Bool) → (a && b && c) ≡ true → a ≡ true
@@ -58,3 +59,17 @@ inside-table nodes rules e n h =
     (λ k l. ltb-true (standsFor rules k) (nodeCount nodes) (every-at (length rules) (λ r. ltb (standsFor rules r) (nodeCount nodes)) (unnot _ (ok .2)) k l))
     (kindOf nodes n) (aOf nodes n) (bOf nodes n) (relationOf nodes n)
     (every-at (nodeCount nodes) (rightNode nodes rules) (unnot _ (ok .1)) n h)
+
+-- Its counts are within the limits, and its words are whole nodes.
+pub counts-inside : (nodes rules : List ℕ) → tableAnswer nodes rules ≡ given tt → (length nodes % 4 ≡ 0) × (nodeCount nodes ≤ mostNodes) × (length rules ≤ mostRules)
+unfolding tableAnswer fails3
+counts-inside nodes rules e =
+    let ok = none-fails (fails3 nodes rules) (fails4 nodes rules) (fails5 nodes rules) e .0 in
+    let whole = eqb (length nodes % 4) 0 in
+    let few = leb 1 (nodeCount nodes) && leb (nodeCount nodes) mostNodes in
+    let left = both-false (not whole || not few) (ltb mostRules (length rules)) ok in
+    let one = both-false (not whole) (not few) (left .0) in (
+      eqb-true (length nodes % 4) 0 (unnot whole (one .0)),
+      leb-true (nodeCount nodes) mostNodes (and-right (leb 1 (nodeCount nodes)) (leb (nodeCount nodes) mostNodes) (unnot few (one .1))),
+      ltb-false mostRules (length rules) (left .1),
+    )

@@ -2,3 +2,4 @@ pub mod Every
 pub mod Inside
 pub mod Orders
 pub mod Words
+pub mod NodeKinds

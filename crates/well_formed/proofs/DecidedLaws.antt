@@ -17,6 +17,7 @@ use Rattle.table.proofs.Inside.{inside-table}
 use Rattle.well_formed.specs.Facts.{Fact, nothing, something, fails, May}
 use Rattle.well_formed.specs.WellFormed.{WellFormed}
 use Rattle.well_formed.specs.Rounds.{succeeds, gives, knownAfter, passes, wellAfter}
+use Rattle.well_formed.specs.InternalPasses.{Cell, cell, factStep, wellStep}
 use Rattle.well_formed.proofs.RoundLaws.{one-of, known-true, all-known, well-true, all-found}
 use Rattle.well_formed.proofs.FixpointLaws.{Each, each-none, each-more, More, rounds, settled}
 
@@ -27,16 +28,8 @@ and-more a b c d f g e = ap₂ _&&_ (f (and-left a b e)) (g (and-right a b e))
 or-more : (a b c d : Bool) → (a ≡ true → c ≡ true) → (b ≡ true → d ≡ true) → (a || b) ≡ true → (c || d) ≡ true
 or-more a b c d f g e = ⊎-elim (λ h. ap (λ (x : Bool). x || d) (f h)) (λ h. ap (λ (x : Bool). c || x) (g h) ∙ or-true c) (one-of a b e)
 
--- A fact of a node.
-pub record Cell : Type 0 where
-  pub fact : Fact
-  pub node : ℕ
-
-abbrev cell : Fact → ℕ → Cell
-cell x n = record { fact = x; node = n }
-
 -- The facts of the nodes below a count.
-cellsBelow : ℕ → List Cell
+pub cellsBelow : ℕ → List Cell
 cellsBelow zero = []
 cellsBelow (suc n) = cell nothing n ∷ cell something n ∷ cell fails n ∷ cellsBelow n
 
@@ -50,7 +43,7 @@ unfolding cellsBelow
 each-cell P zero h = each-none
 each-cell P (suc n) h = each-more (h n (omega arith) nothing) (each-more (h n (omega arith) something) (each-more (h n (omega arith) fails) (each-cell P n (λ k l x. h k (omega arith) x))))
 
-cell-at : (P : Cell → Type 0) (count : ℕ) → Each P (cellsBelow count) → (n : ℕ) → n < count → (x : Fact) → P (cell x n)
+pub cell-at : (P : Cell → Type 0) (count : ℕ) → Each P (cellsBelow count) → (n : ℕ) → n < count → (x : Fact) → P (cell x n)
 unfolding cellsBelow
 cell-at P zero e n h x = absurd (omega arith)
 cell-at P (suc k) (each-more a (each-more b (each-more c e))) n h x = ⊎-elim (λ q. rw q (here x)) (λ l. cell-at P k e n l x) (eq-or-lt-of-le (le-of-suc-le-suc h))
@@ -133,21 +126,16 @@ module _ (rules : List ℕ) where
 
 -- A table whose children are inside.
 module _ (nodes rules : List ℕ) (count : ℕ) (inside : (n : ℕ) → n < count → Inside rules count (form nodes n)) where
-  factStep : (Cell → Bool) → Cell → Bool
-  factStep known c = gives rules (λ x n. known (cell x n)) (form nodes (c .node)) (c .fact)
-
-  fact-more : (p q : Cell → Bool) → More p q → More (factStep p) (factStep q)
-  unfolding factStep
+  fact-more : (p q : Cell → Bool) → More p q → More (factStep nodes rules p) (factStep nodes rules q)
   fact-more p q m c e = gives-more rules (λ x n. p (cell x n)) (λ x n. q (cell x n)) (λ x n. m (cell x n)) (form nodes (c .node)) (c .fact) e
 
-  fact-local : (p q : Cell → Bool) → Each (λ c. p c ≡ q c) (cellsBelow count) → Each (λ c. factStep p c ≡ factStep q c) (cellsBelow count)
-  unfolding factStep
+  fact-local : (p q : Cell → Bool) → Each (λ c. p c ≡ q c) (cellsBelow count) → Each (λ c. factStep nodes rules p c ≡ factStep nodes rules q c) (cellsBelow count)
   fact-local p q e =
-      each-cell (λ c. factStep p c ≡ factStep q c) count
+      each-cell (λ c. factStep nodes rules p c ≡ factStep nodes rules q c) count
       (λ n h x. gives-same rules count (λ y k. p (cell y k)) (λ y k. q (cell y k)) (λ k l y. cell-at (λ c. p c ≡ q c) count e k l y) (form nodes n) (inside n h) x)
 
-  fact-rounds : (k : ℕ) (x : Fact) (n : ℕ) → rounds factStep fact-more (cellsBelow count) fact-local k (cell x n) ≡ knownAfter nodes rules k x n
-  unfolding rounds knownAfter factStep
+  fact-rounds : (k : ℕ) (x : Fact) (n : ℕ) → rounds (factStep nodes rules) fact-more (cellsBelow count) fact-local k (cell x n) ≡ knownAfter nodes rules k x n
+  unfolding rounds knownAfter
   fact-rounds zero x n = refl
   fact-rounds (suc k) x n = ap (λ (known : Fact → ℕ → Bool). gives rules known (form nodes n) x) (fun-ext (λ y. fun-ext (λ m. fact-rounds k y m)))
 
@@ -156,17 +144,20 @@ module _ (nodes rules : List ℕ) (count : ℕ) (inside : (n : ℕ) → n < coun
       let k = length (cellsBelow count) in
       subst (λ (r : ℕ). knownAfter nodes rules (suc r) x n ≡ knownAfter nodes rules r x n) (cells-count count)
       (sym (fact-rounds (suc k) x n)
-      ∙ cell-at (λ c. rounds factStep fact-more (cellsBelow count) fact-local (suc k) c ≡ rounds factStep fact-more (cellsBelow count) fact-local k c) count (settled factStep fact-more (cellsBelow count) fact-local) n h x
+      ∙ cell-at (λ c. rounds (factStep nodes rules) fact-more (cellsBelow count) fact-local (suc k) c ≡ rounds (factStep nodes rules) fact-more (cellsBelow count) fact-local k c) count (settled (factStep nodes rules) fact-more (cellsBelow count) fact-local) n h x
       ∙ fact-rounds k x n)
 
-  -- The facts that three rounds a node find are those that are true.
-  pub facts-decided : (n : ℕ) → n < count → (x : Fact) → (knownAfter nodes rules (count * 3) x n ≡ true) ↔ May nodes rules (form nodes n) x
+  -- The facts that three rounds a node find are closed under the rules.
+  pub facts-closed : (n : ℕ) → n < count → (x : Fact) → gives rules (knownAfter nodes rules (count * 3)) (form nodes n) x ≡ true → knownAfter nodes rules (count * 3) x n ≡ true
   unfolding knownAfter
-  facts-decided n h x =
-      (known-true nodes rules (count * 3) x n, all-known nodes rules count inside (knownAfter nodes rules (count * 3)) (λ k l y e. sym (facts-settle k l y) ∙ e) n h x)
+  facts-closed n h x e = sym (facts-settle n h x) ∙ e
+
+  -- They are those that are true.
+  pub facts-decided : (n : ℕ) → n < count → (x : Fact) → (knownAfter nodes rules (count * 3) x n ≡ true) ↔ May nodes rules (form nodes n) x
+  facts-decided n h x = (known-true nodes rules (count * 3) x n, all-known nodes rules count inside (knownAfter nodes rules (count * 3)) facts-closed n h x)
 
 -- The nodes below a count.
-nodesBelow : ℕ → List ℕ
+pub nodesBelow : ℕ → List ℕ
 nodesBelow zero = []
 nodesBelow (suc n) = n ∷ nodesBelow n
 
@@ -180,7 +171,7 @@ unfolding nodesBelow
 each-node P zero h = each-none
 each-node P (suc n) h = each-more (h n (omega arith)) (each-node P n (λ k l. h k (omega arith)))
 
-node-at : (P : ℕ → Type 0) (count : ℕ) → Each P (nodesBelow count) → (n : ℕ) → n < count → P n
+pub node-at : (P : ℕ → Type 0) (count : ℕ) → Each P (nodesBelow count) → (n : ℕ) → n < count → P n
 unfolding nodesBelow
 node-at P zero e n h = absurd (omega arith)
 node-at P (suc k) (each-more a e) n h = ⊎-elim (λ q. rw q a) (λ l. node-at P k e n l) (eq-or-lt-of-le (le-of-suc-le-suc h))
@@ -217,19 +208,14 @@ module _ (rules : List ℕ) (may : ℕ → Bool) where
   passes-same count p q s other i = refl
 
 module _ (nodes rules : List ℕ) (count : ℕ) (inside : (n : ℕ) → n < count → Inside rules count (form nodes n)) (may : ℕ → Bool) where
-  wellStep : (ℕ → Bool) → ℕ → Bool
-  wellStep well n = passes rules may well (form nodes n)
-
-  well-more : (p q : ℕ → Bool) → More p q → More (wellStep p) (wellStep q)
-  unfolding wellStep
+  well-more : (p q : ℕ → Bool) → More p q → More (wellStep nodes rules may p) (wellStep nodes rules may q)
   well-more p q m n e = passes-more rules may p q m (form nodes n) e
 
-  well-local : (p q : ℕ → Bool) → Each (λ n. p n ≡ q n) (nodesBelow count) → Each (λ n. wellStep p n ≡ wellStep q n) (nodesBelow count)
-  unfolding wellStep
-  well-local p q e = each-node (λ n. wellStep p n ≡ wellStep q n) count (λ n h. passes-same rules may count p q (λ k l. node-at (λ m. p m ≡ q m) count e k l) (form nodes n) (inside n h))
+  well-local : (p q : ℕ → Bool) → Each (λ n. p n ≡ q n) (nodesBelow count) → Each (λ n. wellStep nodes rules may p n ≡ wellStep nodes rules may q n) (nodesBelow count)
+  well-local p q e = each-node (λ n. wellStep nodes rules may p n ≡ wellStep nodes rules may q n) count (λ n h. passes-same rules may count p q (λ k l. node-at (λ m. p m ≡ q m) count e k l) (form nodes n) (inside n h))
 
-  well-rounds : (k n : ℕ) → rounds wellStep well-more (nodesBelow count) well-local k n ≡ wellAfter nodes rules may k n
-  unfolding rounds wellAfter wellStep
+  well-rounds : (k n : ℕ) → rounds (wellStep nodes rules may) well-more (nodesBelow count) well-local k n ≡ wellAfter nodes rules may k n
+  unfolding rounds wellAfter
   well-rounds zero n = refl
   well-rounds (suc k) n = ap (λ (well : ℕ → Bool). passes rules may well (form nodes n)) (fun-ext (λ m. well-rounds k m))
 
@@ -238,7 +224,7 @@ module _ (nodes rules : List ℕ) (count : ℕ) (inside : (n : ℕ) → n < coun
       let k = length (nodesBelow count) in
       subst (λ (r : ℕ). wellAfter nodes rules may (suc r) n ≡ wellAfter nodes rules may r n) (nodes-count count)
       (sym (well-rounds (suc k) n)
-      ∙ node-at (λ m. rounds wellStep well-more (nodesBelow count) well-local (suc k) m ≡ rounds wellStep well-more (nodesBelow count) well-local k m) count (settled wellStep well-more (nodesBelow count) well-local) n h
+      ∙ node-at (λ m. rounds (wellStep nodes rules may) well-more (nodesBelow count) well-local (suc k) m ≡ rounds (wellStep nodes rules may) well-more (nodesBelow count) well-local k m) count (settled (wellStep nodes rules may) well-more (nodesBelow count) well-local) n h
       ∙ well-rounds k n)
 
 -- The nodes that the rounds find well formed are those that are: in a table that passes 3, 4 and 5, three rounds of facts

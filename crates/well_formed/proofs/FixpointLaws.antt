@@ -37,7 +37,7 @@ module _ {C : Type 0} where
       by-test false false e f h = rw (e, f) (omega arith)
 
   -- Where no fewer are missing, nothing was found that was not known.
-  same-found : (p q : C → Bool) → More p q → (cs : List C) → missing p cs ≤ missing q cs → Each (λ c. q c ≡ p c) cs
+  pub same-found : (p q : C → Bool) → More p q → (cs : List C) → missing p cs ≤ missing q cs → Each (λ c. q c ≡ p c) cs
   unfolding missing
   same-found p q m [] h = each-none
   same-found p q m (c ∷ cs) h = by-test (p c) (q c) refl refl (missing-less p q m cs) (λ k. same-found p q m cs k)

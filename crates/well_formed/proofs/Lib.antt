@@ -1,3 +1,10 @@
+pub mod FormLaws
 pub mod RoundLaws
 pub mod FixpointLaws
 pub mod DecidedLaws
+pub mod PassLaws
+pub mod CellLaws
+pub mod StepLaws
+pub mod VerdictLaws
+pub mod JudgeLaws
+pub mod RankLaws

@@ -18,19 +18,18 @@ one-of false b e = inr e
 
 module _ (nodes rules : List ℕ) where
   -- What is known of nodes is true of them.
-  True : (Fact → ℕ → Bool) → Type 0
+  abbrev pub True : (Fact → ℕ → Bool) → Type 0
   True known = (x : Fact) (n : ℕ) → known x n ≡ true → May nodes rules (form nodes n) x
 
   -- A success of a node that is known to succeed.
   success : (known : Fact → ℕ → Bool) → True known → (n : ℕ) → succeeds known n ≡ true → (x : Fact) × Success x × May nodes rules (form nodes n) x
-  unfolding True
   success known t n e =
       ⊎-elim (λ h. (nothing, by-nothing, t nothing n h)) (λ h. (something, by-something, t something n h)) (one-of (known nothing n) (known something n) e)
 
   module _ (known : Fact → ℕ → Bool) (t : True known) where
     -- One use of the rules gives true facts.
-    gives-true : (f : Form) (x : Fact) → gives rules known f x ≡ true → May nodes rules f x
-    unfolding gives True
+    pub gives-true : (f : Form) (x : Fact) → gives rules known f x ≡ true → May nodes rules f x
+    unfolding gives
     gives-true empty nothing e = empty-nothing
     gives-true empty something e = absurd (false≢true e)
     gives-true empty fails e = absurd (false≢true e)
@@ -73,7 +72,7 @@ module _ (nodes rules : List ℕ) where
 
   -- A fact that some round finds is true.
   pub known-true : (k : ℕ) (x : Fact) (n : ℕ) → knownAfter nodes rules k x n ≡ true → May nodes rules (form nodes n) x
-  unfolding knownAfter True
+  unfolding knownAfter
   known-true zero x n e = absurd (false≢true e)
   known-true (suc k) x n e = gives-true (knownAfter nodes rules k) (known-true k) (form nodes n) x e
 
@@ -127,7 +126,7 @@ module _ (nodes rules : List ℕ) (count : ℕ) (inside : (n : ℕ) → n < coun
 module _ (nodes rules : List ℕ) (count : ℕ) (inside : (n : ℕ) → n < count → Inside rules count (form nodes n)) (may : ℕ → Bool) where
   -- One use of the rules finds well-formed forms.
   module _ (all : (n : ℕ) → n < count → May nodes rules (form nodes n) nothing → may n ≡ true) where
-    passes-true : (well : ℕ → Bool) → ((n : ℕ) → n < count → well n ≡ true → WellFormed nodes rules (form nodes n)) → (f : Form) → Inside rules count f → passes rules may well f ≡ true → WellFormed nodes rules f
+    pub passes-true : (well : ℕ → Bool) → ((n : ℕ) → n < count → well n ≡ true → WellFormed nodes rules (form nodes n)) → (f : Form) → Inside rules count f → passes rules may well f ≡ true → WellFormed nodes rules f
     unfolding passes
     passes-true well t empty i e = empty-well
     passes-true well t (terminal u) i e = terminal-well

@@ -2,28 +2,9 @@
 use borrow.Author.Needs.{needs}
 use Rattle.table.proofs.words_right.Statement.{statement}
 use Rattle.table.proofs.words_right.Tie as tie
-use mathlib.Core.Path.{_≡_, refl, sym}
-use mathlib.Core.Bool.{false}
-use Prim.Native.Nat.{ℕ, zero, suc}
+use mathlib.Core.Path.{refl}
 use Rattle.table.specs.Checks.{rightWords}
-
--- A kind that is none of 0 to 9 is never right.
-NoKind : ℕ → Type 0
-NoKind kind = (((((((((Unit × (kind ≡ 0 → ⊥)) × (kind ≡ 1 → ⊥)) × (kind ≡ 2 → ⊥)) × (kind ≡ 3 → ⊥)) × (kind ≡ 4 → ⊥)) × (kind ≡ 5 → ⊥)) × (kind ≡ 6 → ⊥)) × (kind ≡ 7 → ⊥)) × (kind ≡ 8 → ⊥)) × (kind ≡ 9 → ⊥)
-
-no-kind : (rules n kind a b r : ℕ) → NoKind kind → rightWords rules n kind a b r ≡ false
-unfolding rightWords NoKind
-no-kind rules n zero a b r h = absurd (h .0 .0 .0 .0 .0 .0 .0 .0 .0 .1 refl)
-no-kind rules n (suc zero) a b r h = absurd (h .0 .0 .0 .0 .0 .0 .0 .0 .1 refl)
-no-kind rules n (suc (suc zero)) a b r h = absurd (h .0 .0 .0 .0 .0 .0 .0 .1 refl)
-no-kind rules n (suc (suc (suc zero))) a b r h = absurd (h .0 .0 .0 .0 .0 .0 .1 refl)
-no-kind rules n (suc (suc (suc (suc zero)))) a b r h = absurd (h .0 .0 .0 .0 .0 .1 refl)
-no-kind rules n (suc (suc (suc (suc (suc zero))))) a b r h = absurd (h .0 .0 .0 .0 .1 refl)
-no-kind rules n (suc (suc (suc (suc (suc (suc zero)))))) a b r h = absurd (h .0 .0 .0 .1 refl)
-no-kind rules n (suc (suc (suc (suc (suc (suc (suc zero))))))) a b r h = absurd (h .0 .0 .1 refl)
-no-kind rules n (suc (suc (suc (suc (suc (suc (suc (suc zero)))))))) a b r h = absurd (h .0 .1 refl)
-no-kind rules n (suc (suc (suc (suc (suc (suc (suc (suc (suc zero))))))))) a b r h = absurd (h .1 refl)
-no-kind rules n (suc (suc (suc (suc (suc (suc (suc (suc (suc (suc k)))))))))) a b r h = refl
+use Rattle.table.proofs.NodeKinds.{over-nine}
 
 all-requires : tie.Need-all-requires
 all-requires c κs = search needs
@@ -96,8 +77,8 @@ unfolding rightWords
 returns-10 c = rw (c .before .match .keys10) (c .all10 .ensures)
 
 returns-11 : tie.Need-returns-11
-unfolding NoKind
-returns-11 c = sym (no-kind _ _ _ _ _ _ (c .match .rest))
+unfolding rightWords
+returns-11 c = rw (over-nine _ (c .match .rest) .1) refl
 
 pub words-right-spec : {M : Type 1} → statement M
 words-right-spec =

@@ -1,0 +1,62 @@
+-- `well_formed::lowest` meets its contract.
+use Rattle.well_formed.proofs.lowest.Statement.{statement}
+use Rattle.well_formed.proofs.lowest.Tie as tie
+use mathlib.Core.Path.{_≡_, refl, sym, _∙_}
+use mathlib.Core.Bool.{false}
+use native.Mathlib.Omega.{arith}
+use Prim.Native.Nat.{_-_, _≤_}
+use lib.ListN.{getD}
+use borrow.Author.Tests.{not-true, not-false}
+use Rattle.table.specs.Form.{nodeCount}
+use Rattle.well_formed.specs.Check.{verdictFrom}
+use Rattle.well_formed.proofs.VerdictLaws.{verdict-next, verdict-bad}
+
+abbrev Inv-loop : tie.InvT-loop
+Inv-loop nodes found count left₀ left = (left ≤ count) × (verdictFrom (λ m. getD found m false) 0 (nodeCount nodes) ≡ verdictFrom (λ m. getD found m false) (nodeCount nodes - left) left)
+
+abbrev μ-loop : tie.MeasureT-loop
+μ-loop nodes found count left₀ left = left
+
+loop-holds : tie.Need-loop-holds Inv-loop μ-loop
+loop-holds c = (omega arith, let z : nodeCount (c .before .before .args .nodes .now) - nodeCount (c .before .before .args .nodes .now) ≡ 0 = omega arith in rw z refl)
+
+sub-n : tie.Need-sub-n Inv-loop μ-loop
+sub-n c = omega arith
+
+has-requires : tie.Need-has-requires Inv-loop μ-loop
+has-requires c κs = tt
+
+cast-t9 : tie.Need-cast-t9 Inv-loop μ-loop
+cast-t9 c = omega (arith, c .before .before .before .before .before .before .pre)
+
+returns : tie.Need-returns Inv-loop μ-loop
+returns c = sym (c .before .before .before .loop .inv .1 ∙ verdict-bad (λ m. getD (c .before .before .before .before .before .before .args .found .now) m false) (nodeCount (c .before .before .before .before .before .before .args .nodes .now)) (c .before .before .before .loop .left) (c .before .before .loop-test .taken) (c .before .before .before .loop .inv .0) (sym (c .before .has .ensures) ∙ not-true (c .before .has .result) (c .if1 .taken)))
+
+sub-left : tie.Need-sub-left Inv-loop μ-loop
+sub-left c = omega arith
+
+loop-less : tie.Need-loop-less Inv-loop μ-loop
+loop-less c = omega arith
+
+loop-again : tie.Need-loop-again Inv-loop μ-loop
+loop-again c = (omega arith, c .before .before .before .loop .inv .1 ∙ verdict-next (λ m. getD (c .before .before .before .before .before .before .args .found .now) m false) (nodeCount (c .before .before .before .before .before .before .args .nodes .now)) (c .before .before .before .loop .left) (c .before .before .loop-test .taken) (c .before .before .before .loop .inv .0) (sym (c .before .has .ensures) ∙ not-false (c .before .has .result) (c .if1 .left)))
+
+returns-2 : tie.Need-returns-2 Inv-loop μ-loop
+unfolding verdictFrom
+returns-2 c = let z : c .before .loop .left ≡ 0 = omega arith in sym (c .before .loop .inv .1 ∙ (rw z refl))
+
+pub lowest-spec : {M : Type 1} → statement M
+lowest-spec =
+    tie.close
+    (tie.spec
+    Inv-loop
+    μ-loop
+    loop-holds
+    sub-n
+    has-requires
+    cast-t9
+    returns
+    sub-left
+    loop-less
+    loop-again
+    returns-2)

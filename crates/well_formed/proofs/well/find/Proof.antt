@@ -1,0 +1,41 @@
+-- `well_formed::well::find` meets its contract.
+use Rattle.well_formed.proofs.well.find.Statement.{statement}
+use Rattle.well_formed.proofs.well.find.Tie as tie
+use mathlib.Core.Path.{_≡_, refl}
+use native.Mathlib.Omega.{arith}
+use lib.ListN.{length}
+use borrow.Author.Tests.{not-true, not-false}
+use Rattle.table.specs.Form.{nodeCount}
+use Rattle.well_formed.specs.InternalPasses.{wellCells, WellReady}
+use Rattle.well_formed.proofs.FixpointLaws.{missing}
+use Rattle.well_formed.proofs.DecidedLaws.{nodesBelow, node-at}
+use Rattle.well_formed.proofs.PassLaws.{last-pass, fewer}
+
+abbrev Inv-loop : tie.InvT-loop
+Inv-loop nodes rules nothing well₀ well = WellReady nodes rules nothing well × (length well ≡ length well₀)
+
+abbrev μ-loop : tie.MeasureT-loop
+μ-loop nodes rules nothing well₀ well = missing (wellCells nodes rules well) (nodesBelow (nodeCount nodes))
+
+loop-holds : tie.Need-loop-holds Inv-loop μ-loop
+loop-holds c = (c .before .before .before .before .pre, refl)
+
+pass-requires : tie.Need-pass-requires Inv-loop μ-loop
+pass-requires c κs = c .before .loop .inv .0
+
+same-length : tie.Need-same-length Inv-loop μ-loop
+same-length c = omega arith
+
+returns : tie.Need-returns Inv-loop μ-loop
+returns c = last-pass _ _ _ (λ k l. l) (not-true (c .before .before .before .pass .result) (c .if1 .taken)) (c .before .before .before .pass .ensures)
+
+loop-less : tie.Need-loop-less Inv-loop μ-loop
+loop-less c = fewer _ _ _ (nodesBelow (nodeCount (c .before .before .before .before .before .before .before .before .before .before .args .nodes .now))) (λ k l Q e. node-at Q (nodeCount (c .before .before .before .before .before .before .before .before .before .before .args .nodes .now)) e k l) (not-false (c .before .before .before .pass .result) (c .if1 .left)) (c .before .before .before .pass .ensures)
+
+loop-again : tie.Need-loop-again Inv-loop μ-loop
+loop-again c = (record { passing = c .before .before .before .before .before .before .before .before .before .before .pre .passing; all-nothing = c .before .before .before .before .before .before .before .before .before .before .pre .all-nothing; room = omega arith; true-ones = c .before .before .before .pass .ensures .true-ones }, omega arith)
+
+pub find-spec : {M : Type 1} → statement M
+find-spec =
+    tie.close
+    (tie.spec Inv-loop μ-loop loop-holds pass-requires same-length returns loop-less loop-again)
