@@ -8,13 +8,14 @@ use lib.ListN.{length}
 use lib.Dec.{ltb}
 use native.Mathlib.Nat.{le-trans}
 use native.Mathlib.Omega.{arith}
+use Rattle.table.specs.Limits.{mostColumn}
 use Rattle.table.proofs.Every.{both-false}
 use Rattle.table.specs.Answer.{Answer, given, refused, refuseIf}
 use Rattle.grammar_file.specs.File.{Contents, keywords, fieldsOf, fileAnswer, checks1to5}
 use Rattle.grammar_file.proofs.CheckLaws.{file-refuses, file-passes}
 use Rattle.scanner.specs.Places.{Place, places}
 use Rattle.scanner.specs.Tokens.{Token, tokenOf, tokens}
-use Rattle.scanner.specs.Scan.{mostColumn, fails8, fails9, fails10, overColumn, scanTokens, scanAnswer}
+use Rattle.scanner.specs.Scan.{fails8, fails9, fails10, overColumn, scanTokens, scanAnswer}
 use Rattle.scanner.specs.Steps.{Position, position, nextIn, stepFails9, stepAnswer, standing, handOn, handedOut}
 use Rattle.scanner.specs.InternalFind.{Room}
 use Rattle.scanner.proofs.PlaceLaws.{listed, placesFrom, onward, places-from}

@@ -7,12 +7,13 @@ use mathlib.Core.Option.{Option, some, none}
 use lib.ListN.{length, drop, set, length-append, length-map}
 use lib.Dec.{ltb}
 use native.Mathlib.Omega.{arith}
+use Rattle.table.specs.Limits.{mostColumn}
 use Rattle.grammar_file.proofs.Lists.{four-more, length-written}
 use Rattle.table.specs.Words.{eachWords}
 use Rattle.table.proofs.Words.{words-append, length-words}
 use Rattle.scanner.specs.Places.{Place, places}
 use Rattle.scanner.specs.Tokens.{Token, tokenOf, terminalAt, tokens, tokenWords, wordsOf}
-use Rattle.scanner.specs.Scan.{mostColumn, overColumn}
+use Rattle.scanner.specs.Scan.{overColumn}
 use Rattle.scanner.specs.Steps.{Position, position, nextIn}
 use Rattle.scanner.specs.InternalFind.{Room, moveOf, Measured}
 use Rattle.scanner.specs.declared.find.Found.{Found}

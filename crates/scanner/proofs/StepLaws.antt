@@ -5,6 +5,7 @@ use mathlib.Core.Bool.{Bool, true, false, not, _||_, or-true}
 use mathlib.Core.List.{List, _++_}
 use mathlib.Core.Option.{Option·map}
 use lib.ListN.{length, drop, length-map}
+use Rattle.table.specs.Limits.{mostTokens}
 use Rattle.table.proofs.Words.{length-words}
 use lib.Dec.{ltb}
 use native.Mathlib.Omega.{arith}
@@ -15,7 +16,7 @@ use Rattle.grammar_file.specs.File.{Contents, keywords, fieldsOf, fileAnswer}
 use Rattle.grammar_file.proofs.CheckLaws.{file-refuses, file-passes}
 use Rattle.scanner.specs.Places.{places}
 use Rattle.scanner.specs.Tokens.{tokenOf, tokens, tokenWords, wordsOf}
-use Rattle.scanner.specs.Scan.{mostBytes, mostTokens, fails8, fails9, fails10, scanTokens, scanAnswer}
+use Rattle.scanner.specs.Scan.{mostBytes, fails8, fails9, fails10, scanTokens, scanAnswer}
 use Rattle.scanner.specs.Steps.{Position, nextIn, stepFails8, stepFails9, stepAnswer, standing, numbers, positionOf}
 use Rattle.scanner.specs.InternalFind.{moveOf, HandsOut}
 use Rattle.scanner.specs.declared.Step.{Step}

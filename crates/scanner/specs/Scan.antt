@@ -4,6 +4,7 @@ use mathlib.Core.Bool.{Bool, true, false, not, _||_}
 use mathlib.Core.List.{List, [], _∷_}
 use lib.ListN.{length, getD}
 use lib.Dec.{ltb}
+use Rattle.table.specs.Limits.{mostTokens, mostColumn}
 use Rattle.table.specs.Answer.{Answer, given, refused, refuseIf}
 use Rattle.table.specs.Every.{every}
 use Rattle.grammar_file.specs.Bytes.{classOf}
@@ -18,13 +19,6 @@ use Rattle.scanner.specs.declared.Scanned.the-variants.{Tokens, Refused}
 -- "a report of at most 65,535 bytes"
 abbrev pub mostBytes : ℕ
 mostBytes = 65535
-
--- "At most 4,096 tokens, columns at most 65,535."
-abbrev pub mostTokens : ℕ
-mostTokens = 4096
-
-abbrev pub mostColumn : ℕ
-mostColumn = 65535
 
 abbrev pub refusedClass : Class → Bool
 refusedClass Break = false

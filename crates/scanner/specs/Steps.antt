@@ -6,6 +6,7 @@ use mathlib.Core.List.{List, [], _∷_}
 use mathlib.Core.Option.{Option, some, none, Option·map}
 use lib.ListN.{length, take, drop}
 use lib.Dec.{ltb}
+use Rattle.table.specs.Limits.{mostColumn}
 use Rattle.table.specs.Answer.{Answer, given, refused, refuseIf}
 use Rattle.grammar_file.specs.Bytes.{classOf}
 use Rattle.grammar_file.specs.File.{keywords, fieldsOf, checks1to5}
@@ -14,7 +15,7 @@ use Rattle.grammar_file.specs.declared.bytes.Class.the-variants.{Refused as Ref
 use Rattle.scanner.specs.Columns.{columnAfter, columnOver}
 use Rattle.scanner.specs.Places.{Place, runLength}
 use Rattle.scanner.specs.Tokens.{Token, tokenOf}
-use Rattle.scanner.specs.Scan.{mostColumn, fails8}
+use Rattle.scanner.specs.Scan.{fails8}
 use Rattle.scanner.specs.declared.Step.{Step}
 use Rattle.scanner.specs.declared.Handed.{Handed}
 use Rattle.scanner.specs.declared.Handed.the-variants.{Token as HandedToken, Nothing, Refused}

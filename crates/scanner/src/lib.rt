@@ -24,12 +24,8 @@ use find::find;
 use grammar_file::FileRead;
 use terminals::terminal;
 
-// The most bytes of a report, the most tokens, the last column of a token, and the last column of a step.
+// The most bytes of a report, and the last column of a step.
 const BYTES: usize = 65535;
-
-const TOKENS: usize = 4096;
-
-const LAST_COLUMN: u32 = 65535;
 
 const LAST_STEP: u32 = 524280;
 
@@ -88,7 +84,7 @@ pub fn scan(file: &[u8], report: &[u8], tokens: &mut [u32]) -> Scanned
                 return Scanned::Refused(9);
             }
             let count = m.count;
-            if count > TOKENS {
+            if count > table::TOKENS {
                 return Scanned::Refused(10);
             }
             if tokens.len() / 4 < count {
@@ -149,7 +145,11 @@ fn stay(number: u8, at: usize, column: u32, mark: bool) -> Step
 fn too_wide(f: Found) -> bool
     ensures { λ r. ⌜ r ≡ stepFails9 (moveOf f .found) ⌝ }
 {
-    if f.any { LAST_COLUMN < f.column } else { false }
+    if f.any {
+        table::LAST_COLUMN < f.column
+    } else {
+        false
+    }
 }
 
 // The step to a place that was found.
@@ -237,7 +237,11 @@ fn measure(report: &[u8]) -> Tally
 fn wider(over: bool, column: u32) -> bool
     ensures { λ r. ⌜ r ≡ (over || ltb 65535 column) ⌝ }
 {
-    if over { true } else { LAST_COLUMN < column }
+    if over {
+        true
+    } else {
+        table::LAST_COLUMN < column
+    }
 }
 
 // Writes the tokens of a report.

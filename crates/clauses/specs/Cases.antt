@@ -1,0 +1,128 @@
+-- The bench cases a to j of 01 in one table, and beside them a case for each of its slips. A case is a run (nodes, rules,
+-- tokens, start) or a check, with the answer that 01 gives. `CasesHold`, in proofs, computes them all.
+use Prim.Native.Nat.{ℕ, _-_}
+use mathlib.Core.Bool.{Bool, true, false}
+use mathlib.Core.List.{List, [], _∷_}
+use Rattle.table.specs.Words.{eachWords}
+use Rattle.table.specs.Form.{Form, empty, terminal, rule, sequence, choice, not, repeat, indent, position, align, other}
+use Rattle.columns.specs.Relations.{equal, greater, atLeast, any}
+use Rattle.columns.specs.Intervals.{to}
+use Rattle.columns.specs.declared.Upper.{Upper}
+use Rattle.columns.specs.declared.Upper.the-variants.{At, Endless}
+use Rattle.columns.specs.declared.Interval.{Interval}
+use Rattle.columns.specs.declared.Start.{Start}
+use Rattle.well_formed.specs.Check.{NodeAnswer, given, refusedAt, checkAnswer}
+use Rattle.clauses.specs.Clauses.{Outcome, success, failure}
+use Rattle.clauses.specs.ThirdDemand.{ourOutcome}
+
+-- The four words of a form, by 01's table of kinds.
+abbrev pub fourWords : Form → List ℕ
+fourWords empty = 0 ∷ 0 ∷ 0 ∷ 0 ∷ []
+fourWords (terminal a) = 1 ∷ a ∷ 0 ∷ 0 ∷ []
+fourWords (rule x) = 2 ∷ x ∷ 0 ∷ 0 ∷ []
+fourWords (sequence a b) = 3 ∷ a ∷ b ∷ 0 ∷ []
+fourWords (choice a b) = 4 ∷ a ∷ b ∷ 0 ∷ []
+fourWords (not a) = 5 ∷ a ∷ 0 ∷ 0 ∷ []
+fourWords (repeat a) = 6 ∷ a ∷ 0 ∷ 0 ∷ []
+fourWords (indent a r) = 7 ∷ a ∷ 0 ∷ r ∷ []
+fourWords (position a r) = 8 ∷ a ∷ 0 ∷ r ∷ []
+fourWords (align a) = 9 ∷ a ∷ 0 ∷ 0 ∷ []
+fourWords other = 10 ∷ 0 ∷ 0 ∷ 0 ∷ []
+
+-- "a5 is a at column 5": a terminal at a column.
+pub record At-column : Type 0 where
+  pub terminal : ℕ
+  pub column : ℕ
+
+infixl 90 _at_
+abbrev pub _at_ : ℕ → ℕ → At-column
+t at c = record { terminal = t; column = c }
+
+abbrev pub tokenWords : At-column → List ℕ
+tokenWords t = t .terminal ∷ t .column ∷ 0 ∷ 0 ∷ []
+
+-- "Success answers the number of tokens read from that place on, the interval and the flag."
+pub data Answer : Type 0 where
+  reads : (tokens lower : ℕ) (upper : Upper) (flag : Bool) → Answer
+  fails : Answer
+  verdict : NodeAnswer Unit → Answer
+
+abbrev pub answerFrom : Start → Outcome Interval → Answer
+answerFrom start (success s) = reads (s .0 - start .place) (s .1 .lower) (s .1 .upper) (s .2)
+answerFrom start failure = fails
+
+pub data Case : Type 0 where
+  run : (nodes : List Form) (rules : List ℕ) (tokens : List At-column) (start : Start) (expected : Answer) → Case
+  check : (nodes : List Form) (rules : List ℕ) (expected : Answer) → Case
+
+abbrev pub expected : Case → Answer
+expected (run nodes rules tokens start answer) = answer
+expected (check nodes rules answer) = answer
+
+unfoldable pub answered : Case → Answer
+answered (run nodes rules tokens start answer) = answerFrom start (ourOutcome (eachWords fourWords nodes) rules (eachWords tokenWords tokens) start)
+answered (check nodes rules answer) = verdict (checkAnswer (eachWords fourWords nodes) rules)
+
+-- "Start interval 0 without end and flag clear unless said": node, mode.
+abbrev pub from : ℕ → ℕ → Start
+from node mode = record { node = node; place = 0; interval = to 0 Endless; flag = false; mode = mode }
+
+-- "a, b are terminals"; c is one more.
+abbrev pub a : ℕ
+a = 1
+
+abbrev pub b : ℕ
+b = 2
+
+abbrev pub c : ℕ
+c = 3
+
+unfoldable pub benchCases : List Case
+benchCases =
+    -- a. Align of a b under greater, mode at least, a2 b3: 2 read, 0 to 1, clear (001).
+    run (terminal a ∷ terminal b ∷ sequence 0 1 ∷ align 2 ∷ indent 3 greater ∷ []) [] (a at 2 ∷ b at 3 ∷ []) (from 4 atLeast) (reads 2 0 (At 1) false)
+    -- b. a, mode greater: a5 gives 0 to 4; a0 fails.
+    ∷ run (terminal a ∷ []) [] (a at 5 ∷ []) (from 0 greater) (reads 1 0 (At 4) false)
+    ∷ run (terminal a ∷ []) [] (a at 0 ∷ []) (from 0 greater) fails
+    -- c. a, mode at least, a0: 0 to 0.
+    ∷ run (terminal a ∷ []) [] (a at 0 ∷ []) (from 0 atLeast) (reads 1 0 (At 0) false)
+    -- d. a, flag set, mode greater, a5: 5 to 5.
+    ∷ run (terminal a ∷ []) [] (a at 5 ∷ []) (record { node = 0; place = 0; interval = to 0 Endless; flag = true; mode = greater }) (reads 1 5 (At 5) false)
+    -- e. No tokens: a fails; empty succeeds, state unchanged.
+    ∷ run (terminal a ∷ []) [] [] (from 0 equal) fails
+    ∷ run (empty ∷ []) [] [] (from 0 equal) (reads 0 0 Endless false)
+    -- f. a, then (b under greater, or empty), mode equal: a1 b2 reads 2, 1 to 1; a3 b2 reads 1, 3 to 3.
+    ∷ run (terminal a ∷ terminal b ∷ indent 1 greater ∷ empty ∷ choice 2 3 ∷ sequence 0 4 ∷ []) [] (a at 1 ∷ b at 2 ∷ []) (from 5 equal) (reads 2 1 (At 1) false)
+    ∷ run (terminal a ∷ terminal b ∷ indent 1 greater ∷ empty ∷ choice 2 3 ∷ sequence 0 4 ∷ []) [] (a at 3 ∷ b at 2 ∷ []) (from 5 equal) (reads 1 3 (At 3) false)
+    -- g. a, then b under any, mode equal, a3 b0: 2 read, 3 to 3.
+    ∷ run (terminal a ∷ terminal b ∷ indent 1 any ∷ sequence 0 2 ∷ []) [] (a at 3 ∷ b at 0 ∷ []) (from 3 equal) (reads 2 3 (At 3) false)
+    -- h. Align of empty, then a, mode greater, a5: 0 to 4.
+    ∷ run (empty ∷ align 0 ∷ terminal a ∷ sequence 1 2 ∷ []) [] (a at 5 ∷ []) (from 3 greater) (reads 1 0 (At 4) false)
+    -- i. Align of (a under greater), mode equal, from 1 to 1, a4: 1 to 1.
+    ∷ run (terminal a ∷ indent 0 greater ∷ align 1 ∷ []) [] (a at 4 ∷ []) (record { node = 2; place = 0; interval = to 1 (At 1); flag = false; mode = equal }) (reads 1 1 (At 1) false)
+    -- j. Check: repeat of empty is bad; repeat of not-empty passes; rule = (a or empty) then the rule, nodes in the order
+    -- a, empty, choice, rule, sequence: bad at node 3.
+    ∷ check (empty ∷ repeat 0 ∷ []) [] (verdict (refusedAt 7 1))
+    ∷ check (empty ∷ not 0 ∷ repeat 1 ∷ []) [] (verdict (given tt))
+    ∷ check (terminal a ∷ empty ∷ choice 0 1 ∷ rule 0 ∷ sequence 2 3 ∷ []) (4 ∷ []) (verdict (refusedAt 7 3))
+    ∷ []
+
+-- A case, or two, that each slip would break.
+unfoldable pub slipCases : List Case
+slipCases =
+    -- "Leaving the flag set after an align that read nothing (case h)": then b too would have to stand on the baseline.
+    run (empty ∷ align 0 ∷ terminal b ∷ sequence 1 2 ∷ terminal a ∷ sequence 4 3 ∷ []) [] (a at 2 ∷ b at 5 ∷ []) (from 5 atLeast) (reads 2 0 (At 2) false)
+    -- "Ignoring indentation under a set flag, as 000 does (case i)": then a would have to stand at 1.
+    ∷ run (terminal a ∷ indent 0 greater ∷ align 1 ∷ []) [] (a at 1 ∷ []) (record { node = 2; place = 0; interval = to 1 (At 1); flag = false; mode = equal }) fails
+    -- "Trying the second alternative with the first one's narrowed interval": a at 5 then c, in mode equal, or a in mode
+    -- greater. From 5 to 5 the second would fail.
+    ∷ run (terminal a ∷ terminal c ∷ sequence 0 1 ∷ position 2 equal ∷ choice 3 0 ∷ []) [] (a at 5 ∷ []) (from 4 greater) (reads 1 0 (At 4) false)
+    -- "Capping the lower end at 65,535: in mode any it may pass that and tokens still match." From 65,535 on a under
+    -- greater, and an aligned a under greater, which is asked for past 65,535.
+    ∷ run (terminal a ∷ indent 0 greater ∷ []) [] (a at 7 ∷ []) (record { node = 1; place = 0; interval = to 65535 Endless; flag = false; mode = any }) (reads 1 65535 Endless false)
+    ∷ run (terminal a ∷ align 0 ∷ indent 1 greater ∷ []) [] (a at 65535 ∷ []) (record { node = 2; place = 0; interval = to 65535 Endless; flag = false; mode = any }) fails
+    -- "Not and failure hand the old state on": not of a b in mode equal, then a in mode greater.
+    ∷ run (terminal b ∷ position 0 equal ∷ not 1 ∷ terminal a ∷ sequence 2 3 ∷ []) [] (a at 5 ∷ []) (from 4 greater) (reads 1 0 (At 4) false)
+    -- "else the repeat again from where the child ended": three tokens.
+    ∷ run (terminal a ∷ repeat 0 ∷ []) [] (a at 0 ∷ a at 1 ∷ a at 2 ∷ []) (from 1 atLeast) (reads 3 0 (At 0) false)
+    ∷ []

@@ -1,0 +1,59 @@
+-- The outcome as a function: the ten clauses over two ends, computed. A bound on the depth of calls makes it end on every
+-- grammar; for well-formed ones the bound is never met, and the outcome is the one that the clauses give (`Outcomes`, in
+-- proofs).
+use Prim.Native.Nat.{ℕ, zero, suc, _+_, _*_}
+use mathlib.Core.Bool.{Bool, true, false, cond, _&&_}
+use mathlib.Core.List.{List}
+use lib.Dec.{ltb, eqb}
+use Rattle.table.specs.Form.{Form, empty, terminal, rule, sequence, choice, not, repeat, indent, position, align, other, form, standsFor, nodeCount}
+use Rattle.columns.specs.Intervals.{innerEnds, outerEnds, meetEnds, fits, afterToken}
+use Rattle.columns.specs.declared.Interval.{Interval}
+use Rattle.clauses.specs.Clauses.{Tokens, State, Outcome, success, failure}
+
+-- An outcome, or that the bound was met first.
+pub data Result : Type 0 where
+  ended : Outcome Interval → Result
+  unfinished : Result
+
+-- What follows a success, or a failure.
+abbrev pub after : Result → (State Interval → Result) → Result → Result
+after (ended (success s)) next otherwise = next s
+after (ended failure) next otherwise = otherwise
+after unfinished next otherwise = unfinished
+
+module _ (nodes rules : List ℕ) (tokens : Tokens) where
+  -- Whether clause 2 reads the token at place w as terminal a.
+  abbrev pub reads : ℕ → ℕ → State Interval → Bool
+  reads τ a s = ltb (s .0) (tokens .count) && eqb (tokens .terminal (s .0)) a && fits (s .2) τ (s .1) (tokens .column (s .0))
+
+  -- The clauses, in their order, by a function for what they call.
+  abbrev pub step : (ℕ → Form → State Interval → Result) → ℕ → Form → State Interval → Result
+  step run τ empty s = ended (success s)
+  step run τ (terminal a) s = cond (reads τ a s) (ended (success (suc (s .0), afterToken (s .2) τ (s .1) (tokens .column (s .0)), false))) (ended failure)
+  step run τ (rule x) s = run τ (form nodes (standsFor rules x)) s
+  step run τ (sequence p q) s = after (run τ (form nodes p) s) (λ s'. run τ (form nodes q) s') (ended failure)
+  step run τ (choice p q) s = after (run τ (form nodes p) s) (λ s'. ended (success s')) (run τ (form nodes q) s)
+  step run τ (not p) s = after (run τ (form nodes p) s) (λ s'. ended failure) (ended (success s))
+  step run τ (repeat p) s = after (run τ (form nodes p) s) (λ s'. run τ (repeat p) s') (ended (success s))
+  step run τ (indent p ρ) s =
+      after (run τ (form nodes p) (s .0, innerEnds ρ (s .1), s .2)) (λ s'. ended (success (s' .0, meetEnds (s .1) (outerEnds ρ (s' .1)), s' .2))) (ended failure)
+  step run τ (position p σ) s = run σ (form nodes p) s
+  step run τ (align p) s = after (run τ (form nodes p) (s .0, s .1, true)) (λ s'. ended (success (s' .0, s' .1, s .2 && s' .2))) (ended failure)
+  step run τ other s = unfinished
+
+  -- With calls at most so deep.
+  unfoldable pub evaluate : ℕ → ℕ → Form → State Interval → Result
+  evaluate zero τ f s = unfinished
+  evaluate (suc depth) τ f s = step (λ τ' f' s'. evaluate depth τ' f' s') τ f s
+
+  -- A depth that is enough for well-formed grammars: no call is within itself at the same place.
+  abbrev pub enough : ℕ
+  enough = (tokens .count + 1) * (nodeCount nodes + 1)
+
+  abbrev pub outcomeIn : Result → Outcome Interval
+  outcomeIn (ended o) = o
+  outcomeIn unfinished = failure
+
+  -- The outcome of node n in mode τ from a state.
+  unfoldable pub outcomeFor : ℕ → ℕ → State Interval → Outcome Interval
+  outcomeFor τ n s = outcomeIn (evaluate enough τ (form nodes n) s)

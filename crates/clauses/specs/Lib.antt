@@ -1,0 +1,6 @@
+pub mod Clauses
+pub mod AlikeOutcomes
+pub mod Evaluation
+pub mod Limits
+pub mod ThirdDemand
+pub mod Cases

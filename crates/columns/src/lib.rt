@@ -1,0 +1,36 @@
+// Columns and states: the types. An upper end is a column or without end; it stands inside the interval, the interval inside
+// the state, the state inside the outcome's Success case.
+
+// An upper end.
+pub enum Upper {
+    At(u32),
+    Endless,
+}
+
+// The columns from a lower column to an upper end.
+pub struct Interval {
+    pub lower: u32,
+    pub upper: Upper,
+}
+
+// The place in the token list, the interval and the alignment flag.
+pub struct State {
+    pub place: u32,
+    pub interval: Interval,
+    pub flag: bool,
+}
+
+// What a run ends in.
+pub enum Outcome {
+    Success(State),
+    Failure,
+}
+
+// Where a run begins: a node, a token place, an interval, a flag and a mode.
+pub struct Start {
+    pub node: u16,
+    pub place: u32,
+    pub interval: Interval,
+    pub flag: bool,
+    pub mode: u16,
+}
