@@ -1,9 +1,2 @@
-pub mod OneOutcome
-pub mod Narrows
-pub mod ShownFacts
-pub mod Likeness
 pub mod Sound
-pub mod Existence
-pub mod LimitLaws
-pub mod Agreement
 pub mod CasesHold

@@ -7,7 +7,7 @@ use lib.Dec.{ltb, eqb}
 use native.Mathlib.Omega.{arith}
 use borrow.Author.Tests.{ltb-true, eqb-true, lt-ltb, eq-eqb}
 use Rattle.table.specs.Form as table
-use Rattle.table.specs.Form.{Form, form}
+use Rattle.table.specs.Form.{Form}
 use Rattle.table.proofs.Every.{and-left, and-right}
 use Rattle.columns.specs.Intervals.{ends, innerEnds, fits, afterToken}
 use Rattle.columns.proofs.EndLaws.{lies-true}
@@ -69,18 +69,13 @@ module _ (nodes rules : List ℕ) (tokens : Tokens) where
     step-derived τ table.empty s = is empty
     step-derived τ (table.terminal a) (w, I, b) = terminal-derived τ a w I b (reads nodes rules tokens τ a (w, I, b)) refl
     step-derived τ (table.rule x) s = made (λ o d. rule d) (h τ _ s)
-    step-derived τ (table.sequence p q) s =
-        after-derived (run τ (form nodes p) s) _ _ (h τ (form nodes p) s) (λ s' d. made (λ o e. sequence d e) (h τ (form nodes q) s')) (λ d. is (sequence-fails d))
-    step-derived τ (table.choice p q) s =
-        after-derived (run τ (form nodes p) s) _ _ (h τ (form nodes p) s) (λ s' d. is (choice-first d)) (λ d. made (λ o e. choice-second d e) (h τ (form nodes q) s))
-    step-derived τ (table.not p) s = after-derived (run τ (form nodes p) s) _ _ (h τ (form nodes p) s) (λ s' d. is (not-fails d)) (λ d. is (not d))
-    step-derived τ (table.repeat p) s =
-        after-derived (run τ (form nodes p) s) _ _ (h τ (form nodes p) s) (λ s' d. made (λ o e. repeat-again d e) (h τ (table.repeat p) s')) (λ d. is (repeat-ends d))
-    step-derived τ (table.indent p ρ) (w, I, b) =
-        after-derived (run τ (form nodes p) (w, innerEnds ρ I, b)) _ _ (h τ (form nodes p) (w, innerEnds ρ I, b)) (λ s' d. is (indent d)) (λ d. is (indent-fails d))
-    step-derived τ (table.position p σ) s = made (λ o d. position d) (h σ (form nodes p) s)
-    step-derived τ (table.align p) (w, I, b) =
-        after-derived (run τ (form nodes p) (w, I, true)) _ _ (h τ (form nodes p) (w, I, true)) (λ s' d. is (align d)) (λ d. is (align-fails d))
+    step-derived τ (table.sequence p q) s = after-derived _ _ _ (h τ _ _) (λ s' d. made (λ o e. sequence d e) (h τ _ _)) (λ d. is (sequence-fails d))
+    step-derived τ (table.choice p q) s = after-derived _ _ _ (h τ _ _) (λ s' d. is (choice-first d)) (λ d. made (λ o e. choice-second d e) (h τ _ _))
+    step-derived τ (table.not p) s = after-derived _ _ _ (h τ _ _) (λ s' d. is (not-fails d)) (λ d. is (not d))
+    step-derived τ (table.repeat p) s = after-derived _ _ _ (h τ _ _) (λ s' d. made (λ o e. repeat-again d e) (h τ _ _)) (λ d. is (repeat-ends d))
+    step-derived τ (table.indent p ρ) (w, I, b) = after-derived _ _ _ (h τ _ _) (λ s' d. is (indent d)) (λ d. is (indent-fails d))
+    step-derived τ (table.position p σ) s = made (λ o d. position d) (h σ _ _)
+    step-derived τ (table.align p) (w, I, b) = after-derived _ _ _ (h τ _ _) (λ s' d. is (align d)) (λ d. is (align-fails d))
     step-derived τ table.other s = record { run-of = λ o e. absurd (never e) }
 
   evaluate-derived : (depth τ : ℕ) (f : Form) (s : State Interval) → Derived τ f s (evaluate nodes rules tokens depth τ f s)

@@ -1,5 +1,5 @@
 -- The outcome as a function: the ten clauses over two ends, computed. A bound on the depth of calls makes it end on every
--- grammar; for well-formed ones the bound is never met, and the outcome is the one that the clauses give (`Outcomes`, in
+-- grammar; for well-formed ones the bound is never met, and the outcome is the one that the clauses give (`Existence`, in
 -- proofs).
 use Prim.Native.Nat.{ℕ, zero, suc, _+_, _*_}
 use mathlib.Core.Bool.{Bool, true, false, cond, _&&_}

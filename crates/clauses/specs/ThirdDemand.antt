@@ -20,6 +20,11 @@ abbrev pub SetRun : List ℕ → List ℕ → List ℕ → Start → Outcome Col
 SetRun nodes rules words start o =
     Run sets nodes rules (tokensOf words) (start .mode) (form nodes (start .node)) (start .place, (λ k. Lies k (start .interval)), start .flag) o
 
+-- A run of the clauses over two ends from a start.
+abbrev pub EndsRun : List ℕ → List ℕ → List ℕ → Start → Outcome Interval → Type 0
+EndsRun nodes rules words start o =
+    Run ends nodes rules (tokensOf words) (start .mode) (form nodes (start .node)) (start .place, start .interval, start .flag) o
+
 -- Our outcome: the ten clauses over two ends, computed.
 abbrev pub ourOutcome : List ℕ → List ℕ → List ℕ → Start → Outcome Interval
 ourOutcome nodes rules words start = outcomeFor nodes rules (tokensOf words) (start .mode) (start .node) (start .place, start .interval, start .flag)

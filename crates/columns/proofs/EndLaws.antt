@@ -1,12 +1,12 @@
 -- Two ends mean what 01 says of sets: shown once over the relation.
-use Prim.Native.Nat.{ℕ, zero, suc, _+_, _≤_, _<_, max}
+use Prim.Native.Nat.{ℕ, zero, suc, _+_, _≤_, max}
 use mathlib.Core.Path.{_≡_, refl, ap, ap₂}
 use mathlib.Core.Bool.{Bool, true, false, cond, _&&_, false≢true}
 use mathlib.Core.Logic.{_↔_}
 use lib.Dec.{leb}
 use native.Mathlib.Omega.{arith}
 use borrow.Author.Tests.{leb-true, leb-false, le-leb}
-use Rattle.columns.specs.Relations.{Stands}
+use Rattle.columns.specs.Relations.{Stands, greater}
 use Rattle.columns.specs.Lawful.{Lawful, Some, Sub}
 use Rattle.columns.specs.Intervals.{to, less1, innerEnds, outerEnds, lowerEnd, meetEnds, only, UpTo, InOrder, Lies, isUpTo, lies, ends}
 use Rattle.columns.specs.declared.Upper.{Upper}
@@ -60,11 +60,11 @@ inner-all (suc (suc zero)) c i k m e = let f = m .from in record { from = omega 
 inner-all (suc (suc (suc r))) c i k m e = record { from = omega arith; upto = tt }
 
 -- A column of d above k, or at it, where the upper end leaves room.
-above : (d : Interval) → Some ends d → 1 ≤ d .lower → (k : ℕ) → UpTo k (less1 (d .upper)) → (i : ℕ) × Lies i d × (k < i)
-above d s l k u = by-end (d .upper) refl u
+above : (c d : Interval) → Some ends d → Lies (d .lower) (innerEnds greater c) → (k : ℕ) → UpTo k (less1 (d .upper)) → (i : ℕ) × Lies i d × Stands greater i k
+above c d s l k u = by-end (d .upper) refl u
   where
-    by-end : (h : Upper) → d .upper ≡ h → UpTo k (less1 h) → (i : ℕ) × Lies i d × (k < i)
-    by-end (At x) e v = let o : UpTo (d .lower) (At x) = rw e at (in-order d s) in (x, record { from = o; upto = rw e (omega arith) }, omega arith)
+    by-end : (h : Upper) → d .upper ≡ h → UpTo k (less1 h) → (i : ℕ) × Lies i d × Stands greater i k
+    by-end (At x) e v = let f = l .from in let o : UpTo (d .lower) (At x) = rw e at (in-order d s) in (x, record { from = o; upto = rw e (omega arith) }, omega arith)
     by-end Endless e v = (max (k + 1) (d .lower), record { from = omega arith; upto = rw e tt }, omega arith)
 
 at-or-above : (d : Interval) → Some ends d → (k : ℕ) → UpTo k (d .upper) → (i : ℕ) × Lies i d × (k ≤ i)
@@ -78,11 +78,11 @@ at-or-above d s k u = by-end (d .upper) refl u
 -- that it does: from 0 to 0 the way out would be 0 to 0, and no column is below 0.
 outer-some : (r : ℕ) (c d : Interval) → Some ends d → Sub ends d (innerEnds r c) → (k : ℕ) → Lies k (outerEnds r d) → (i : ℕ) × Lies i d × Stands r i k
 outer-some zero c d s w k m = (k, m, refl)
-outer-some (suc zero) c d s w k m = let f = w (d .lower) (lowest d s) .from in above d s (omega arith) k (m .upto)
+outer-some (suc zero) c d s w k m = above c d s (w (d .lower) (lowest d s)) k (m .upto)
 outer-some (suc (suc zero)) c d s w k m = at-or-above d s k (m .upto)
 outer-some (suc (suc (suc r))) c d s w k m = (d .lower, lowest d s, tt)
 
-below-less : (k i : ℕ) (h : Upper) → k < i → UpTo i h → UpTo k (less1 h)
+below-less : (k i : ℕ) (h : Upper) → Stands greater i k → UpTo i h → UpTo k (less1 h)
 below-less k i (At x) l u = omega arith
 below-less k i Endless l u = tt
 

@@ -19,11 +19,11 @@ use Rattle.well_formed.specs.Facts.{nothing}
 use Rattle.well_formed.specs.WellFormed.{Passes}
 use Rattle.well_formed.specs.InternalRank.{Enters, enters-rule, enters-first, enters-second, enters-choice, enters-other, enters-not, enters-repeat, enters-indent, enters-position, enters-align, rank}
 use Rattle.well_formed.proofs.RankLaws.{rank-falls, rank-most, repeat-reads}
 use Rattle.clauses.specs.Clauses.{Tokens, State, Outcome, success, failure, Run}
 use Rattle.clauses.specs.Evaluation.{Result, ended, unfinished, after, reads, step, evaluate, enough, outcomeFor}
-use Rattle.clauses.proofs.Narrows.{onward, within}
-use Rattle.clauses.proofs.ShownFacts.{shown, at-once}
+use Rattle.agreement.proofs.Narrows.{onward, within}
+use Rattle.agreement.proofs.ShownFacts.{shown, at-once}
 use Rattle.clauses.proofs.Sound.{evaluate-sound}
 
 -- A result that is an outcome.
 record Ended (r : Result) : Type 0 where

@@ -9,9 +9,9 @@ use Rattle.columns.specs.Lawful.{Lawful}
 use Rattle.columns.specs.Alike.{Alike}
 use Rattle.columns.proofs.LawfulLaws.{one-inside, inner-some}
 use Rattle.columns.proofs.AlikeLaws.{alike-one, alike-inner, alike-leave}
 use Rattle.clauses.specs.Clauses.{Tokens, State, Outcome, success, failure, Fits, clear, aligned, Run, empty, terminal-clear, terminal-aligned, terminal-fails, rule, sequence, sequence-fails, choice-first, choice-second, not, not-fails, repeat-ends, repeat-again, indent, indent-fails, position, align, align-fails}
 use Rattle.clauses.specs.AlikeOutcomes.{AlikeOutcome, alike-success, alike-failure}
-use Rattle.clauses.proofs.Narrows.{narrows}
+use Rattle.agreement.proofs.Narrows.{narrows}
 
 module _ {ℓ κ ℓ' κ'} (D : Domain {ℓ, κ}) (E : Domain {ℓ', κ'}) (L : Lawful D) (M : Lawful E) (nodes rules : List ℕ) (tokens : Tokens) where
   -- A run in E from alike columns that ends alike.

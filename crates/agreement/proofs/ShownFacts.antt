@@ -10,8 +10,8 @@ use Rattle.table.specs.Form.{Form}
 use Rattle.columns.specs.Domain.{Domain}
 use Rattle.well_formed.specs.Facts as facts
 use Rattle.well_formed.specs.Facts.{Fact, nothing, something, fails, Success, by-nothing, by-something, May}
 use Rattle.clauses.specs.Clauses.{Tokens, State, Outcome, success, failure, Run, empty, terminal-clear, terminal-aligned, terminal-fails, rule, sequence, sequence-fails, choice-first, choice-second, not, not-fails, repeat-ends, repeat-again, indent, indent-fails, position, align, align-fails}
-use Rattle.clauses.proofs.Narrows.{onward}
+use Rattle.agreement.proofs.Narrows.{onward}
 
 -- What an outcome that began at place w shows.
 pub data Shows {ℓ} {C : Type ℓ} (w : ℕ) : Outcome C → Fact → Type ℓ where
