@@ -12,7 +12,7 @@ use Rattle.columns.specs.declared.Start.{Start}
 use Rattle.well_formed.specs.WellFormed.{Passes}
 use Rattle.clauses.specs.Clauses.{Tokens, State, Outcome, Run}
 use Rattle.clauses.specs.Limits.{tokensOf, WithinLimits}
-use Rattle.clauses.specs.ThirdDemand.{ThirdDemand}
+use Rattle.clauses.specs.ThirdDemand.{EndsRun, ourOutcome, ThirdDemand}
 use Rattle.agreement.proofs.OneOutcome.{one-outcome}
 use Rattle.agreement.proofs.Likeness.{Follows, alike-run}
 use Rattle.agreement.proofs.Existence.{outcome-derived}
