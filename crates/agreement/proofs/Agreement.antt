@@ -1,5 +1,6 @@
 -- The third demand, in its words, and the likeness of two ends and sets for every grammar.
 use Prim.Native.Nat.{ℕ}
+use mathlib.Core.Path.{_≡_}
 use mathlib.Core.List.{List}
 use Rattle.table.specs.Form.{Form}
 use Rattle.columns.specs.Sets.{ColumnSet, sets}
