@@ -44,7 +44,7 @@ after-ended (ended failure) next otherwise e k l = l refl
 after-ended unfinished next otherwise e k l = absurd (let q = e .is in let z : _≡_ {A = ℕ} 0 1 = cc in omega arith)
 
 -- Fewer tokens weigh more than any rank.
-weighs-less : (left left' most r r' : ℕ) → left' < left → r' ≤ most → left' * (most + 1) + r' < left * (most + 1) + r
+pub weighs-less : (left left' most r r' : ℕ) → left' < left → r' ≤ most → left' * (most + 1) + r' < left * (most + 1) + r
 weighs-less left left' most r r' h k =
     let x : suc left' * (most + 1) ≤ left * (most + 1) = mul-le-mul-right (most + 1) h in
     let y = suc-mul left' (most + 1) in

@@ -38,8 +38,8 @@ module _ {ℓ κ} (D : Domain {ℓ, κ}) (nodes rules : List ℕ) (tokens : Toke
   -- A run stays within the tokens.
   pub within : {τ : ℕ} {f : Form} {s s' : State (D .Columns)} → s .0 ≤ tokens .count → Run D nodes rules tokens τ f s (success s') → s' .0 ≤ tokens .count
   within h empty = h
-  within h (terminal-clear n m) = n .there
-  within h (terminal-aligned n m) = n .there
+  within h (terminal-clear n m) = let h' = n .there in omega arith
+  within h (terminal-aligned n m) = let h' = n .there in omega arith
   within h (rule d) = within h d
   within h (sequence d e) = within (within h d) e
   within h (choice-first d) = within h d

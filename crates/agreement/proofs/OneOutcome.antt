@@ -1,5 +1,5 @@
 -- At most one outcome, in any column domain (001, theorem 2.1: "e, τ ⊢ s → o for at most one o").
-use Prim.Native.Nat.{ℕ, suc}
+use Prim.Native.Nat.{ℕ, _+_}
 use mathlib.Core.Path.{_≡_, refl, sym, ap, subst, _∙_}
 use mathlib.Core.Bool.{false, _&&_}
 use mathlib.Core.List.{List}
@@ -21,9 +21,9 @@ module _ {ℓ κ} (D : Domain {ℓ, κ}) (nodes rules : List ℕ) (tokens : Toke
 
   pub one-outcome : {τ : ℕ} {f : Form} {s : State (D .Columns)} {o o' : Outcome (D .Columns)} → Run D nodes rules tokens τ f s o → Run D nodes rules tokens τ f s o' → o ≡ o'
   one-outcome empty empty = refl
-  one-outcome (terminal-clear {τ = τ} {w = w} {I = I} n m) (terminal-clear n' m') = ap (λ (i : ℕ). success (suc w, D .meet I (D .outer τ (D .one i)), false)) (sym (n .column) ∙ n' .column)
+  one-outcome (terminal-clear {τ = τ} {w = w} {I = I} n m) (terminal-clear n' m') = ap (λ (i : ℕ). success (w + 1, D .meet I (D .outer τ (D .one i)), false)) (sym (n .column) ∙ n' .column)
   one-outcome (terminal-clear n m) (terminal-fails h) = absurd (h _ n (clear m))
-  one-outcome (terminal-aligned {w = w} n m) (terminal-aligned n' m') = ap (λ (i : ℕ). success (suc w, D .one i, false)) (sym (n .column) ∙ n' .column)
+  one-outcome (terminal-aligned {w = w} n m) (terminal-aligned n' m') = ap (λ (i : ℕ). success (w + 1, D .one i, false)) (sym (n .column) ∙ n' .column)
   one-outcome (terminal-aligned n m) (terminal-fails h) = absurd (h _ n (aligned m))
   one-outcome (terminal-fails h) (terminal-clear n m) = absurd (h _ n (clear m))
   one-outcome (terminal-fails h) (terminal-aligned n m) = absurd (h _ n (aligned m))

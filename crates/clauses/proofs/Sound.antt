@@ -1,5 +1,5 @@
 -- What is computed is derived: an outcome that the evaluation ends in is one that the clauses over two ends give.
-use Prim.Native.Nat.{ℕ, zero, suc}
+use Prim.Native.Nat.{ℕ, zero, suc, _+_}
 use mathlib.Core.Path.{_≡_, refl, sym, subst, _∙_}
 use mathlib.Core.Bool.{Bool, true, false, cond, _&&_, true≢false}
 use mathlib.Core.List.{List}
@@ -45,24 +45,31 @@ module _ (nodes rules : List ℕ) (tokens : Tokens) where
   fits-true {τ} {i} {I = I} (clear m) = lies-true i (innerEnds τ I) .1 m
   fits-true {τ} {i} {I = I} (aligned m) = lies-true i I .1 m
 
-  read : {τ a i w : ℕ} {I : Interval} {b : Bool} → Next tokens a i w → Fits ends nodes rules tokens τ i I b → Run ends nodes rules tokens τ (table.terminal a) (w, I, b) (success (suc w, afterToken b τ I i, false))
+  read : {τ a i w : ℕ} {I : Interval} {b : Bool} → Next tokens a i w → Fits ends nodes rules tokens τ i I b → Run ends nodes rules tokens τ (table.terminal a) (w, I, b) (success (w + 1, afterToken b τ I i, false))
   read n (clear m) = terminal-clear n m
   read n (aligned m) = terminal-aligned n m
 
-  terminal-derived : (τ a w : ℕ) (I : Interval) (b : Bool) (t : Bool) → reads nodes rules tokens τ a (w, I, b) ≡ t
-      → Derived τ (table.terminal a) (w, I, b) (cond t (ended (success (suc w, afterToken b τ I (tokens .column w), false))) (ended failure))
-  terminal-derived τ a w I b true e =
+  pub terminal-read : (τ a w : ℕ) (I : Interval) (b : Bool) → reads nodes rules tokens τ a (w, I, b) ≡ true
+      → Run ends nodes rules tokens τ (table.terminal a) (w, I, b) (success (w + 1, afterToken b τ I (tokens .column w), false))
+  terminal-read τ a w I b e =
       let x = ltb w (tokens .count) in
       let y = eqb (tokens .terminal w) a in
       let z = fits b τ I (tokens .column w) in
       let p = and-left (x && y) z e in
-      is (read (record { there = ltb-true w (tokens .count) (and-left x y p); terminal = eqb-true (tokens .terminal w) a (and-right x y p); column = refl }) (fitting b I (and-right (x && y) z e)))
-  terminal-derived τ a w I b false e = is (terminal-fails not-read)
+      read (record { there = ltb-true w (tokens .count) (and-left x y p); terminal = eqb-true (tokens .terminal w) a (and-right x y p); column = refl }) (fitting b I (and-right (x && y) z e))
+
+  pub terminal-unread : (τ a w : ℕ) (I : Interval) (b : Bool) → reads nodes rules tokens τ a (w, I, b) ≡ false → Run ends nodes rules tokens τ (table.terminal a) (w, I, b) failure
+  terminal-unread τ a w I b e = terminal-fails not-read
     where
       not-read : (i : ℕ) → Next tokens a i w → Fits ends nodes rules tokens τ i I b → ⊥
       not-read i n m =
           let h : fits b τ I (tokens .column w) ≡ true = rw (n .column) (fits-true m) in
           true≢false (sym (rw (lt-ltb w (tokens .count) (n .there), eq-eqb (tokens .terminal w) a (n .terminal), h) refl) ∙ e)
+
+  terminal-derived : (τ a w : ℕ) (I : Interval) (b : Bool) (t : Bool) → reads nodes rules tokens τ a (w, I, b) ≡ t
+      → Derived τ (table.terminal a) (w, I, b) (cond t (ended (success (w + 1, afterToken b τ I (tokens .column w), false))) (ended failure))
+  terminal-derived τ a w I b true e = is (terminal-read τ a w I b e)
+  terminal-derived τ a w I b false e = is (terminal-unread τ a w I b e)
 
   module _ (run : ℕ → Form → State Interval → Result) (h : (τ : ℕ) (f : Form) (s : State Interval) → Derived τ f s (run τ f s)) where
     step-derived : (τ : ℕ) (f : Form) (s : State Interval) → Derived τ f s (step nodes rules tokens run τ f s)

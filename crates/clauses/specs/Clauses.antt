@@ -1,7 +1,7 @@
 -- The meaning of a grammar: the ten clauses of 001, section 2.1, over any column domain. In 001's words, e, τ ⊢ (w, I, b) → o:
 -- "parsing expression e .. with input string w in the context of I and b assuming token mode τ results in o". An expression
 -- is the form of a node, the rest w of the input is a place in the token list, and relations are numbers.
-use Prim.Native.Nat.{ℕ, suc, _<_}
+use Prim.Native.Nat.{ℕ, _+_, _<_}
 use mathlib.Core.Path.{_≡_}
 use mathlib.Core.Bool.{Bool, true, false, _&&_}
 use mathlib.Core.List.{List}
@@ -42,10 +42,10 @@ module _ {ℓ κ} (D : Domain {ℓ, κ}) (nodes rules : List ℕ) (tokens : Toke
     -- 2. For every a, a, τ ⊢ (w, I, b) → o holds in two cases:
     -- if o = ⊤(w', I', ff) for w', I', i such that w = aⁱw' and either b = ff and i ∈ τ⁻¹(I), I' = I ∩ τ({i}),
     terminal-clear : {τ a i w : ℕ} {I : D .Columns} → Next tokens a i w → D .Member i (D .inner τ I)
-        → Run τ (table.terminal a) (w, I, false) (success (suc w, D .meet I (D .outer τ (D .one i)), false))
+        → Run τ (table.terminal a) (w, I, false) (success (w + 1, D .meet I (D .outer τ (D .one i)), false))
     -- or b = tt and i ∈ I, I' = {i};
     terminal-aligned : {τ a i w : ℕ} {I : D .Columns} → Next tokens a i w → D .Member i I
-        → Run τ (table.terminal a) (w, I, true) (success (suc w, D .one i, false))
+        → Run τ (table.terminal a) (w, I, true) (success (w + 1, D .one i, false))
     -- if o = ⊥, and there are no w' and i such that w = aⁱw' with either b = ff and i ∈ τ⁻¹(I) or b = tt and i ∈ I.
     terminal-fails : {τ a w : ℕ} {I : D .Columns} {b : Bool} → ((i : ℕ) → Next tokens a i w → Fits τ i I b → ⊥)
         → Run τ (table.terminal a) (w, I, b) failure

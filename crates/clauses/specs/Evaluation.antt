@@ -29,7 +29,7 @@ module _ (nodes rules : List ℕ) (tokens : Tokens) where
   -- The clauses, in their order, by a function for what they call.
   abbrev pub step : (ℕ → Form → State Interval → Result) → ℕ → Form → State Interval → Result
   step run τ empty s = ended (success s)
-  step run τ (terminal a) s = cond (reads τ a s) (ended (success (suc (s .0), afterToken (s .2) τ (s .1) (tokens .column (s .0)), false))) (ended failure)
+  step run τ (terminal a) s = cond (reads τ a s) (ended (success (s .0 + 1, afterToken (s .2) τ (s .1) (tokens .column (s .0)), false))) (ended failure)
   step run τ (rule x) s = run τ (form nodes (standsFor rules x)) s
   step run τ (sequence p q) s = after (run τ (form nodes p) s) (λ s'. run τ (form nodes q) s') (ended failure)
   step run τ (choice p q) s = after (run τ (form nodes p) s) (λ s'. ended (success s')) (run τ (form nodes q) s)

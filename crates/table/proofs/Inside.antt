@@ -73,3 +73,11 @@ counts-inside nodes rules e =
       leb-true (nodeCount nodes) mostNodes (and-right (leb 1 (nodeCount nodes)) (leb (nodeCount nodes) mostNodes) (unnot few (one .1))),
       ltb-false mostRules (length rules) (left .1),
     )
+
+-- A rule that a node names is there.
+pub rule-there : (nodes rules : List ℕ) → tableAnswer nodes rules ≡ given tt → (n : ℕ) → n < nodeCount nodes → kindOf nodes n ≡ 2 → aOf nodes n < length rules
+unfolding tableAnswer fails4 rightWords
+rule-there nodes rules e n h q =
+    let ok = none-fails (fails3 nodes rules) (fails4 nodes rules) (fails5 nodes rules) e in
+    let right : rightWords (length rules) n 2 (aOf nodes n) (bOf nodes n) (relationOf nodes n) ≡ true = rw q at (every-at (nodeCount nodes) (rightNode nodes rules) (unnot _ (ok .1)) n h) in
+    ltb-true (aOf nodes n) (length rules) (first (ltb (aOf nodes n) (length rules)) (unused (bOf nodes n)) (unused (relationOf nodes n)) right)

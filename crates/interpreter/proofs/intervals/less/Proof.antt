@@ -1,0 +1,41 @@
+use borrow.Author.Needs.{needs}
+use Rattle.interpreter.proofs.intervals.less.Statement.{statement}
+use Rattle.interpreter.proofs.intervals.less.Tie as tie
+use Rattle.interpreter.proofs.intervals.less.Reads as reads
+use Rattle.interpreter.proofs.intervals.less.Lts as lts
+use mathlib.Core.Path.{_≡_, refl, sym, ap, ap₂, _∙_}
+use mathlib.Core.Bool.{Bool, true, false, not, cond, _&&_, _||_}
+use native.Mathlib.Omega.{arith}
+use Prim.Native.Nat.{ℕ, _-_, _*_, _+_, _≤_, _<_}
+use lib.ListN.{length, getD}
+use borrow.Author.Tests.{not-true, not-false, lt-leb, le-leb}
+use Rattle.columns.specs.Intervals.{to, lies}
+use Rattle.interpreter.specs.InternalWalk.{withInterval, withFlag}
+use Rattle.interpreter.proofs.LeafLaws.{over-two, meet-second, meet-first, child-indent, child-align, child-same, flag-kept, flag-lost, token-none, token-other, token-fits, token-outside}
+
+-- src/intervals.rt:65:27
+enum-told : tie.Need-enum-told
+enum-told c = search needs
+
+-- src/intervals.rt:66:19
+enum-known-h : tie.Need-enum-known-h
+enum-known-h c = search needs
+
+-- src/intervals.rt:69:23
+sub-t6 : tie.Need-sub-t6
+sub-t6 c = search needs
+
+-- src/intervals.rt:61:1
+returns : tie.Need-returns
+returns c = rw (c .enum-told .given .1) refl
+
+-- src/intervals.rt:61:1
+returns-2 : tie.Need-returns-2
+returns-2 c = rw (c .before .before .h .given .1, c .if1 .taken) refl
+
+-- src/intervals.rt:61:1
+returns-3 : tie.Need-returns-3
+returns-3 c = rw (c .before .before .h .given .1) refl
+
+pub less-spec : {M : Type 1} → statement M
+less-spec = tie.close (tie.spec enum-told enum-known-h sub-t6 returns returns-2 returns-3)

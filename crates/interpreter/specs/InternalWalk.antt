@@ -1,0 +1,91 @@
+-- What the walk's functions tell one another. No public promise rests on this file.
+use Prim.Native.Nat.{ℕ, zero, suc, _+_, _-_, _*_, _%_, _≤_, _<_, _^_}
+use mathlib.Core.Path.{_≡_}
+use mathlib.Core.Bool.{Bool, true, false, cond, _&&_}
+use mathlib.Core.List.{List}
+use lib.ListN.{length, getD}
+use Rattle.table.specs.Answer.{given}
+use Rattle.table.specs.Checks.{tableAnswer}
+use Rattle.table.specs.Form.{Form, rule, form, nodeCount, standsFor}
+use Rattle.columns.specs.Intervals.{ends, innerEnds, outerEnds, meetEnds, afterToken}
+use Rattle.columns.specs.declared.Interval.{Interval}
+use Rattle.columns.specs.declared.State.{State}
+use Rattle.columns.specs.declared.Outcome.{Outcome}
+use Rattle.columns.specs.declared.Outcome.the-variants.{Success, Failure}
+use Rattle.well_formed.specs.WellFormed.{Passes}
+use Rattle.well_formed.specs.InternalRank.{rank}
+use Rattle.clauses.specs.Clauses as clauses
+use Rattle.clauses.specs.Evaluation.{reads}
+use Rattle.clauses.specs.Limits.{tokensOf, fails11}
+
+-- The declared states and outcomes as those of the clauses.
+abbrev pub stateOf : State → clauses.State Interval
+stateOf s = (s .place, s .interval, s .flag)
+
+abbrev pub outcomeOf : Outcome → clauses.Outcome Interval
+outcomeOf (Success s) = clauses.success (stateOf s)
+outcomeOf Failure = clauses.failure
+
+abbrev pub withInterval : State → Interval → State
+withInterval s c = record { place = s .place; interval = c; flag = s .flag }
+
+abbrev pub withFlag : State → Bool → State
+withFlag s b = record { place = s .place; interval = s .interval; flag = b }
+
+-- The state in which the first child of a node of a kind is walked.
+unfoldable pub childState : ℕ → ℕ → State → State
+childState zero r s = s
+childState (suc zero) r s = s
+childState (suc (suc zero)) r s = s
+childState (suc (suc (suc zero))) r s = s
+childState (suc (suc (suc (suc zero)))) r s = s
+childState (suc (suc (suc (suc (suc zero))))) r s = s
+childState (suc (suc (suc (suc (suc (suc zero)))))) r s = s
+childState (suc (suc (suc (suc (suc (suc (suc zero))))))) r s = withInterval s (innerEnds r (s .interval))
+childState (suc (suc (suc (suc (suc (suc (suc (suc zero)))))))) r s = s
+childState (suc (suc (suc (suc (suc (suc (suc (suc (suc zero))))))))) r s = withFlag s true
+childState (suc (suc (suc (suc (suc (suc (suc (suc (suc (suc k)))))))))) r s = s
+
+abbrev pub leftState : ℕ → State → State → State
+leftState r s u = withInterval u (meetEnds (s .interval) (outerEnds r (u .interval)))
+
+abbrev pub alignedState : State → State → State
+alignedState s u = withFlag u (s .flag && u .flag)
+
+-- Clause 2: tokens, mode, terminal, state.
+unfoldable pub tokenOutcome : List ℕ → ℕ → ℕ → State → Outcome
+tokenOutcome words τ a s =
+    cond (reads words words (tokensOf words) τ a (stateOf s))
+    (Success (record { place = s .place + 1; interval = afterToken (s .flag) τ (s .interval) (tokensOf words .column (s .place)); flag = false }))
+    Failure
+
+pub record ReadyToken (words : List ℕ) (s : State) : Type 0 where
+  pub whole : length words % 4 ≡ 0
+  pub few : length words ≤ 16384
+  pub room : s .interval .lower ≤ 2 ^ 25
+
+-- What is left to do at a node in a state: tokens left, then rank.
+unfoldable pub weight : List ℕ → List ℕ → List ℕ → ℕ → State → ℕ
+weight nodes rules words n s = (tokensOf words .count - s .place) * (nodeCount nodes + 1) + rank nodes rules n
+
+-- The checks that a call of the walk has behind it: 3, 4, 5, 7 and 11.
+pub record Checked (nodes rules words : List ℕ) : Type 0 where
+  pub table : tableAnswer nodes rules ≡ given tt
+  pub well : Passes nodes rules
+  pub tokens : fails11 words ≡ false
+
+-- What the expression walk asks: a node and a place that are there, and room for the lower end to rise.
+pub record Ready (nodes rules words : List ℕ) (n : ℕ) (s : State) : Type 0 where
+  pub checked : Checked nodes rules words
+  pub node : n < nodeCount nodes
+  pub place : s .place ≤ tokensOf words .count
+  pub room : s .interval .lower + weight nodes rules words n s ≤ 2 ^ 25
+
+-- What the rule walk asks.
+pub record ReadyRule (nodes rules words : List ℕ) (x : ℕ) (s : State) : Type 0 where
+  pub there : x < length rules
+  pub ready : Ready nodes rules words (standsFor rules x) s
+
+-- The clauses over two ends give the outcome.
+pub record Gives (nodes rules words : List ℕ) (τ : ℕ) (f : Form) (s : State) (o : Outcome) : Type 0 where
+  pub derived : clauses.Run ends nodes rules (tokensOf words) τ f (stateOf s) (outcomeOf o)

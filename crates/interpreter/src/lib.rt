@@ -1,0 +1,4 @@
+// The interpreter.
+mod intervals;
+mod states;
+mod walk;

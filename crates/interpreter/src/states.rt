@@ -1,0 +1,88 @@
+// States: where the first child of a form begins, what is left after an indent or an align, and one token.
+use crate::intervals::after_token;
+use crate::intervals::fits;
+use crate::intervals::inner;
+use crate::intervals::leave;
+use columns::Outcome;
+use columns::State;
+ghost use mathlib.Core.Path.{_≡_};
+ghost use Prim.Native.Nat.{_+_, _<_, _^_};
+ghost use Rattle.interpreter.specs.InternalWalk.{childState, leftState, alignedState, tokenOutcome, ReadyToken};
+
+// The state in which the first child of a node is walked: an indent's in its inner set, an align's with the flag set.
+pub(crate) fn child(kind: u16, r: u16, s: State) -> State
+    requires { ⌜ s .interval .lower + 1 < 2 ^ 32 ⌝ }
+    ensures { λ x. ⌜ x ≡ childState kind r s ⌝ }
+{
+    let c = s.interval;
+    match kind {
+        7 => {
+            let new = inner(r, c);
+            State {
+                place: s.place,
+                interval: new,
+                flag: s.flag,
+            }
+        }
+        9 => State {
+            place: s.place,
+            interval: c,
+            flag: true,
+        },
+        _ => s,
+    }
+}
+
+// After an indent: the old interval met with the outer set of the child's, the rest as the child left it.
+pub(crate) fn left(r: u16, s: State, u: State) -> State
+    ensures { λ x. ⌜ x ≡ leftState r s u ⌝ }
+{
+    let c = s.interval;
+    let d = u.interval;
+    let out = leave(r, c, d);
+    State {
+        place: u.place,
+        interval: out,
+        flag: u.flag,
+    }
+}
+
+// After an align: the flag is set exactly if it was before and at the inner end.
+pub(crate) fn aligned(s: State, u: State) -> State
+    ensures { λ x. ⌜ x ≡ alignedState s u ⌝ }
+{
+    let d = u.interval;
+    State {
+        place: u.place,
+        interval: d,
+        flag: s.flag && u.flag,
+    }
+}
+
+// One token, as a terminal in a mode.
+pub(crate) fn token(tokens: &[u32], terminal: u16, mode: u16, s: State) -> Outcome
+    requires { ⌜ ReadyToken (now tokens) s ⌝ }
+    ensures { λ r. ⌜ r ≡ tokenOutcome (now (tokens .entry)) mode terminal s ⌝ }
+{
+    let place = s.place;
+    let flag = s.flag;
+    let c = s.interval;
+    let at = (place as usize) * 4;
+    if tokens.len() <= at {
+        return Outcome::Failure;
+    }
+    if tokens[at] != terminal as u32 {
+        return Outcome::Failure;
+    }
+    let column = tokens[at + 1];
+    if fits(flag, mode, c, column) {
+        let new = after_token(flag, mode, c, column);
+        Outcome::Success(State {
+            place: place + 1,
+            interval: new,
+            flag: false,
+        })
+    } else {
+        Outcome::Failure
+    }
+}

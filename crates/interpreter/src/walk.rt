@@ -1,0 +1,107 @@
+// The expression walk and the rule walk, which call each other, with the state and the outcome by value. What comes last in
+// a node, as a sequence's second part or a repeat's next round, is the loop's next turn; the first child of every other form
+// is walked by one call. So a nested call needs little of the stack.
+use crate::states::aligned;
+use crate::states::child;
+use crate::states::left;
+use crate::states::token;
+use columns::Outcome;
+use columns::State;
+ghost use Rattle.table.specs.Form.{form, rule as rule-form};
+ghost use Rattle.interpreter.specs.InternalWalk.{Ready, ReadyRule, Gives};
+
+// The outcome of a node in a mode from a state.
+pub(crate) fn expression(
+    nodes: &[u16],
+    rules: &[u16],
+    tokens: &[u32],
+    mode0: u16,
+    node0: u16,
+    s0: State,
+) -> Outcome
+    requires { ⌜ Ready (now nodes) (now rules) (now tokens) node0 s0 ⌝ }
+    ensures { λ x. ⌜ Gives (now (nodes .entry)) (now (rules .entry)) (now (tokens .entry)) mode0 (form (now (nodes .entry)) node0) s0 x ⌝ }
+{
+    let mut mode = mode0;
+    let mut node = node0;
+    let mut s = s0;
+    loop {
+        let at = (node as usize) * 4;
+        let kind = nodes[at];
+        let a = nodes[at + 1];
+        let b = nodes[at + 2];
+        let r = nodes[at + 3];
+        match kind {
+            0 => {
+                return Outcome::Success(s);
+            }
+            1 => {
+                return token(tokens, a, mode, s);
+            }
+            2 => {
+                return rule(nodes, rules, tokens, mode, a, s);
+            }
+            8 => {
+                mode = r;
+                node = a;
+            }
+            _ => {
+                let inside = child(kind, r, s);
+                let x = expression(nodes, rules, tokens, mode, a, inside);
+                match x {
+                    Outcome::Failure => {
+                        match kind {
+                            4 => {
+                                node = b;
+                            }
+                            5 => {
+                                return Outcome::Success(s);
+                            }
+                            6 => {
+                                return Outcome::Success(s);
+                            }
+                            _ => {
+                                return Outcome::Failure;
+                            }
+                        }
+                    }
+                    Outcome::Success(u) => {
+                        match kind {
+                            3 => {
+                                s = u;
+                                node = b;
+                            }
+                            4 => {
+                                return Outcome::Success(u);
+                            }
+                            5 => {
+                                return Outcome::Failure;
+                            }
+                            6 => {
+                                s = u;
+                            }
+                            7 => {
+                                let v = left(r, s, u);
+                                return Outcome::Success(v);
+                            }
+                            _ => {
+                                let v = aligned(s, u);
+                                return Outcome::Success(v);
+                            }
+                        }
+                    }
+                }
+            }
+        }
+    }
+}
+
+// The outcome of a rule: that of its node.
+fn rule(nodes: &[u16], rules: &[u16], tokens: &[u32], mode: u16, x: u16, s: State) -> Outcome
+    requires { ⌜ ReadyRule (now nodes) (now rules) (now tokens) x s ⌝ }
+    ensures { λ o. ⌜ Gives (now (nodes .entry)) (now (rules .entry)) (now (tokens .entry)) mode (rule-form x) s o ⌝ }
+{
+    let i = x as usize;
+    let node = rules[i];
+    expression(nodes, rules, tokens, mode, node, s)
+}
