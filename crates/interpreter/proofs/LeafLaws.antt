@@ -1,19 +1,16 @@
 -- What the walk's leaf functions show, over plain values.
 use Prim.Native.Nat.{ℕ, zero, suc, _+_, _*_, _/_, _%_, _≤_, _<_, max}
-use mathlib.Core.Path.{_≡_, refl, sym, ap, _∙_}
+use mathlib.Core.Path.{_≡_, refl}
 use mathlib.Core.Bool.{Bool, true, false, _&&_}
 use mathlib.Core.List.{List}
 use lib.ListN.{length, getD}
 use native.Mathlib.Omega.{arith}
 use borrow.Author.Tests.{le-ltb, lt-ltb, eq-eqb, ne-eqb}
-use Rattle.columns.specs.Intervals.{to, innerEnds, outerEnds, lowerEnd, meetEnds, fits, afterToken}
+use Rattle.columns.specs.Intervals.{to, innerEnds, lowerEnd, meetEnds, fits, afterToken}
 use Rattle.columns.specs.declared.Upper.{Upper}
-use Rattle.columns.specs.declared.Upper.the-variants.{Endless}
 use Rattle.columns.specs.declared.Interval.{Interval}
 use Rattle.columns.specs.declared.State.{State}
-use Rattle.columns.specs.declared.Outcome.{Outcome}
 use Rattle.columns.specs.declared.Outcome.the-variants.{Success, Failure}
-use Rattle.clauses.specs.Limits.{tokensOf}
 use Rattle.interpreter.specs.InternalWalk.{withInterval, withFlag, childState, tokenOutcome}
 
 -- A relation that is none of 0, 1 and 2.

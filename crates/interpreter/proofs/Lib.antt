@@ -1,3 +1,5 @@
 pub mod LeafLaws
 pub mod LowLaws
 pub mod WalkLaws
+pub mod RunLaws
+pub mod RunAgreement

@@ -3,7 +3,7 @@ use Prim.Native.Nat.{ℕ, _≤_, max}
 use mathlib.Core.List.{List}
 use native.Mathlib.Omega.{arith}
 use Rattle.table.specs.Form.{Form}
-use Rattle.columns.specs.Intervals.{ends, innerEnds, only}
+use Rattle.columns.specs.Intervals.{ends, only}
 use Rattle.columns.proofs.EndLaws.{leave-low}
 use Rattle.columns.specs.declared.Interval.{Interval}
 use Rattle.clauses.specs.Clauses.{Tokens, State, success, Run, empty, terminal-clear, terminal-aligned, rule, sequence, choice-first, choice-second, not, repeat-ends, repeat-again, indent, position, align}

@@ -1,10 +1,10 @@
 -- The walk, step by step, over plain values: what each call is asked, and what each way out has shown.
-use Prim.Native.Nat.{ℕ, zero, suc, _+_, _-_, _*_, _≤_, _<_, _^_, max}
+use Prim.Native.Nat.{ℕ, zero, suc, _+_, _-_, _*_, _≤_, _<_, _^_}
 use mathlib.Core.Path.{_≡_, refl, sym, ap, subst, _∙_}
 use mathlib.Core.Bool.{Bool, true, false, cond}
 use mathlib.Core.List.{List}
 use mathlib.Core.Logic.{⊎-elim}
-use lib.ListN.{length, getD}
+use lib.ListN.{length}
 use native.Mathlib.Nat.{eq-or-lt-of-le, mul-le-mul}
 use native.Mathlib.Omega.{arith}
 use Rattle.table.specs.Limits.{mostColumn}
@@ -12,9 +12,8 @@ use Rattle.table.specs.Form as table
 use Rattle.table.specs.Form.{Form, form, decode, kindOf, aOf, bOf, relationOf, nodeCount, standsFor}
 use Rattle.table.specs.InternalInside.{Inside}
 use Rattle.table.proofs.Inside.{inside-table, counts-inside, rule-there}
-use Rattle.columns.specs.Intervals.{ends, innerEnds, afterToken}
+use Rattle.columns.specs.Intervals.{ends, afterToken}
 use Rattle.columns.proofs.EndLaws.{inner-low}
-use Rattle.columns.specs.declared.Interval.{Interval}
 use Rattle.columns.specs.declared.State.{State}
 use Rattle.columns.specs.declared.Outcome.{Outcome}
 use Rattle.columns.specs.declared.Outcome.the-variants.{Success, Failure}
@@ -29,8 +28,8 @@ use Rattle.clauses.proofs.Sound.{terminal-read, terminal-unread}
 use Rattle.agreement.proofs.Narrows.{onward, within}
 use Rattle.agreement.proofs.ShownFacts.{shown, at-once}
 use Rattle.agreement.proofs.Existence.{weighs-less}
-use Rattle.agreement.proofs.LimitLaws.{InLimits, in-limits}
-use Rattle.interpreter.specs.InternalWalk.{stateOf, outcomeOf, withInterval, withFlag, childState, leftState, alignedState, tokenOutcome, ReadyToken, weight, Checked, Ready, ReadyRule, Gives}
+use Rattle.agreement.proofs.LimitLaws.{in-limits}
+use Rattle.interpreter.specs.InternalWalk.{stateOf, outcomeOf, childState, leftState, alignedState, tokenOutcome, ReadyToken, weight, Checked, Ready, ReadyRule, Gives}
 use Rattle.interpreter.proofs.LowLaws.{lower-end}
 
 -- The form of a node, by its kind.
@@ -131,7 +130,7 @@ module _ (nodes rules words : List ℕ) where
     pub ready : Ready nodes rules words n s
 
   -- No weight is over 4,097 times 513.
-  weight-most : (n : ℕ) (s : State) → Checked nodes rules words → n < nodeCount nodes → weight nodes rules words n s < 2101761
+  pub weight-most : (n : ℕ) (s : State) → Checked nodes rules words → n < nodeCount nodes → weight nodes rules words n s < 2101761
   unfolding weight
   weight-most n s k h =
       let few = in-limits words (k .tokens) .few in

@@ -3,10 +3,10 @@ use Prim.Native.Nat.{ℕ, zero, suc, _+_, _-_, _*_, _%_, _≤_, _<_, _^_}
 use mathlib.Core.Path.{_≡_}
 use mathlib.Core.Bool.{Bool, true, false, cond, _&&_}
 use mathlib.Core.List.{List}
-use lib.ListN.{length, getD}
+use lib.ListN.{length}
 use Rattle.table.specs.Answer.{given}
 use Rattle.table.specs.Checks.{tableAnswer}
-use Rattle.table.specs.Form.{Form, rule, form, nodeCount, standsFor}
+use Rattle.table.specs.Form.{Form, rule, nodeCount, standsFor}
 use Rattle.columns.specs.Intervals.{ends, innerEnds, outerEnds, meetEnds, afterToken}
 use Rattle.columns.specs.declared.Interval.{Interval}
 use Rattle.columns.specs.declared.State.{State}

@@ -1,1 +1,3 @@
+pub mod RunAnswer
+pub mod RunDemand
 pub mod InternalWalk

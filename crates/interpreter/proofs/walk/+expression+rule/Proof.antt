@@ -1,3 +1,4 @@
+-- `interpreter::walk::expression` and `interpreter::walk::rule`, which call each other, meet their contracts.
 use Prim.Native.Nat.{ℕ, _<_, _*_, _+_}
 use borrow.Fn.Kinds.{In}
 use borrow.Fn.PlainCycle.{Measures, is, falls, and}
@@ -49,186 +50,142 @@ expression-Inv-loop nodes rules tokens mode0 node0 mode₀ node₀ s₀ mode nod
 abbrev expression-μ-loop : expression-lts.MeasureT-loop
 expression-μ-loop nodes rules tokens mode0 node0 mode₀ node₀ s₀ mode node s = weight nodes rules tokens node s
 
--- src/walk.rt:28:5
 expression-loop-holds : (t : ℕ) → expression-lts.Need-loop-holds (claims t) (expression-at t) expression.Post expression-Inv-loop expression-μ-loop
 expression-loop-holds t c = start (c .before .before .before .pre .1)
 
--- src/walk.rt:29:19
 expression-cast-at : (t : ℕ) → expression-lts.Need-cast-at (claims t) (expression-at t) expression.Post expression-Inv-loop expression-μ-loop
 expression-cast-at t c = search needs
 
--- src/walk.rt:29:18
 expression-mul-at : (t : ℕ) → expression-lts.Need-mul-at (claims t) (expression-at t) expression.Post expression-Inv-loop expression-μ-loop
 expression-mul-at t c = omega (arith, for-node (c .loop .inv))
 
--- src/walk.rt:30:20
 expression-mul-kind : (t : ℕ) → expression-lts.Need-mul-kind (claims t) (expression-at t) expression.Post expression-Inv-loop expression-μ-loop
 expression-mul-kind t c = omega (arith, for-node (c .loop .inv))
 
--- src/walk.rt:30:20
 expression-shared-slice-read-kind : (t : ℕ) → expression-lts.Need-shared-slice-read-kind (claims t) (expression-at t) expression.Post expression-Inv-loop expression-μ-loop
 expression-shared-slice-read-kind t c = omega (arith, for-node (c .before .loop .inv))
 
--- src/walk.rt:31:23
 expression-add-a : (t : ℕ) → expression-lts.Need-add-a (claims t) (expression-at t) expression.Post expression-Inv-loop expression-μ-loop
 expression-add-a t c = omega (arith, for-node (c .before .loop .inv))
 
--- src/walk.rt:31:17
 expression-mul-a : (t : ℕ) → expression-lts.Need-mul-a (claims t) (expression-at t) expression.Post expression-Inv-loop expression-μ-loop
 expression-mul-a t c = omega (arith, for-node (c .before .loop .inv))
 
--- src/walk.rt:31:17
 expression-shared-slice-read-a : (t : ℕ) → expression-lts.Need-shared-slice-read-a (claims t) (expression-at t) expression.Post expression-Inv-loop expression-μ-loop
 expression-shared-slice-read-a t c = omega (arith, for-node (c .before .before .loop .inv))
 
--- src/walk.rt:32:23
 expression-add-b : (t : ℕ) → expression-lts.Need-add-b (claims t) (expression-at t) expression.Post expression-Inv-loop expression-μ-loop
 expression-add-b t c = omega (arith, for-node (c .before .before .loop .inv))
 
--- src/walk.rt:32:17
 expression-mul-b : (t : ℕ) → expression-lts.Need-mul-b (claims t) (expression-at t) expression.Post expression-Inv-loop expression-μ-loop
 expression-mul-b t c = omega (arith, for-node (c .before .before .loop .inv))
 
--- src/walk.rt:32:17
 expression-shared-slice-read-b : (t : ℕ) → expression-lts.Need-shared-slice-read-b (claims t) (expression-at t) expression.Post expression-Inv-loop expression-μ-loop
 expression-shared-slice-read-b t c = omega (arith, for-node (c .before .before .before .loop .inv))
 
--- src/walk.rt:33:23
 expression-add-r : (t : ℕ) → expression-lts.Need-add-r (claims t) (expression-at t) expression.Post expression-Inv-loop expression-μ-loop
 expression-add-r t c = omega (arith, for-node (c .before .before .before .loop .inv))
 
--- src/walk.rt:33:17
 expression-mul-r : (t : ℕ) → expression-lts.Need-mul-r (claims t) (expression-at t) expression.Post expression-Inv-loop expression-μ-loop
 expression-mul-r t c = omega (arith, for-node (c .before .before .before .loop .inv))
 
--- src/walk.rt:33:17
 expression-shared-slice-read-r : (t : ℕ) → expression-lts.Need-shared-slice-read-r (claims t) (expression-at t) expression.Post expression-Inv-loop expression-μ-loop
 expression-shared-slice-read-r t c = omega (arith, for-node (c .before .before .before .before .loop .inv))
 
--- src/walk.rt:36:17
 expression-returns : (t : ℕ) → expression-lts.Need-returns (claims t) (expression-at t) expression.Post expression-Inv-loop expression-μ-loop
 expression-returns t c = out-empty (c .before .before .before .before .before .loop .inv) (c .match .keys1)
 
--- src/walk.rt:39:17
 expression-token-requires : (t : ℕ) → expression-lts.Need-token-requires (claims t) (expression-at t) expression.Post expression-Inv-loop expression-μ-loop
 expression-token-requires t c κs = for-token (c .before .before .before .before .before .loop .inv)
 
--- src/walk.rt:39:17
 expression-returns-2 : (t : ℕ) → expression-lts.Need-returns-2 (claims t) (expression-at t) expression.Post expression-Inv-loop expression-μ-loop
 expression-returns-2 t c = out-token (c .before .before .before .before .before .before .loop .inv) (c .before .match .keys2) _ (c .token .ensures)
 
--- src/walk.rt:42:17
 expression-rule-requires : (t : ℕ) → expression-lts.Need-rule-requires (claims t) (expression-at t) expression.Post expression-Inv-loop expression-μ-loop
 expression-rule-requires t c κs = (rule-less (c .before .before .before .before .before .loop .inv) (c .before .before .before .before .before .before .before .before .before .pre .0) (c .match .keys3), rule-ready (c .before .before .before .before .before .loop .inv) (c .match .keys3))
 
--- src/walk.rt:42:17
 expression-returns-3 : (t : ℕ) → expression-lts.Need-returns-3 (claims t) (expression-at t) expression.Post expression-Inv-loop expression-μ-loop
 expression-returns-3 t c = out-rule (c .before .before .before .before .before .before .loop .inv) (c .before .match .keys3) _ (c .rule .ensures)
 
--- src/walk.rt:28:5
 expression-loop-less : (t : ℕ) → expression-lts.Need-loop-less (claims t) (expression-at t) expression.Post expression-Inv-loop expression-μ-loop
 expression-loop-less t c = position-less (c .before .before .before .before .before .loop .inv) (c .match .keys4)
 
--- src/walk.rt:28:5
 expression-loop-again : (t : ℕ) → expression-lts.Need-loop-again (claims t) (expression-at t) expression.Post expression-Inv-loop expression-μ-loop
 expression-loop-again t c = position-again (c .before .before .before .before .before .loop .inv) (c .match .keys4)
 
--- src/walk.rt:49:21
 expression-child-requires : (t : ℕ) → expression-lts.Need-child-requires (claims t) (expression-at t) expression.Post expression-Inv-loop expression-μ-loop
 expression-child-requires t c κs = for-child (c .before .before .before .before .before .loop .inv)
 
--- src/walk.rt:50:21
 expression-expression-requires : (t : ℕ) → expression-lts.Need-expression-requires (claims t) (expression-at t) expression.Post expression-Inv-loop expression-μ-loop
 expression-expression-requires t c κs = (call-less (c .before .before .before .before .before .before .loop .inv) (c .before .before .before .before .before .before .before .before .before .before .pre .0) (c .child .ensures) (c .before .match .rest .0 .0 .0 .1) (c .before .match .rest .0 .0 .1) (c .before .match .rest .0 .1) (c .before .match .rest .1), call-ready (c .before .before .before .before .before .before .loop .inv) (c .child .ensures) (c .before .match .rest .0 .0 .0 .1) (c .before .match .rest .0 .0 .1) (c .before .match .rest .0 .1) (c .before .match .rest .1))
 
--- src/walk.rt:53:25
 expression-enum-told : (t : ℕ) → expression-lts.Need-enum-told (claims t) (expression-at t) expression.Post expression-Inv-loop expression-μ-loop
 expression-enum-told t c = search needs
 
--- src/walk.rt:28:5
 expression-loop-less-2 : (t : ℕ) → expression-lts.Need-loop-less-2 (claims t) (expression-at t) expression.Post expression-Inv-loop expression-μ-loop
 expression-loop-less-2 t c = choice-less (c .before .before .before .before .before .before .before .before .before .before .loop .inv) (c .before .before .before .before .child .ensures) (c .before .before .before .expression .ensures) (c .before .enum-told .given .1) (c .match3 .keys1)
 
--- src/walk.rt:28:5
 expression-loop-again-2 : (t : ℕ) → expression-lts.Need-loop-again-2 (claims t) (expression-at t) expression.Post expression-Inv-loop expression-μ-loop
 expression-loop-again-2 t c = choice-again (c .before .before .before .before .before .before .before .before .before .before .loop .inv) (c .before .before .before .before .child .ensures) (c .before .before .before .expression .ensures) (c .before .enum-told .given .1) (c .match3 .keys1)
 
--- src/walk.rt:58:33
 expression-returns-4 : (t : ℕ) → expression-lts.Need-returns-4 (claims t) (expression-at t) expression.Post expression-Inv-loop expression-μ-loop
 expression-returns-4 t c = out-not (c .before .before .before .before .before .before .before .before .before .before .loop .inv) (c .before .before .before .before .child .ensures) (c .before .before .before .expression .ensures) (c .before .enum-told .given .1) (c .match3 .keys2)
 
--- src/walk.rt:61:33
 expression-returns-5 : (t : ℕ) → expression-lts.Need-returns-5 (claims t) (expression-at t) expression.Post expression-Inv-loop expression-μ-loop
 expression-returns-5 t c = out-repeat (c .before .before .before .before .before .before .before .before .before .before .loop .inv) (c .before .before .before .before .child .ensures) (c .before .before .before .expression .ensures) (c .before .enum-told .given .1) (c .match3 .keys3)
 
--- src/walk.rt:64:33
 expression-returns-6 : (t : ℕ) → expression-lts.Need-returns-6 (claims t) (expression-at t) expression.Post expression-Inv-loop expression-μ-loop
 expression-returns-6 t c = out-failed (c .before .before .before .before .before .before .before .before .before .before .loop .inv) (c .before .before .before .before .child .ensures) (c .before .before .before .expression .ensures) (c .before .enum-told .given .1) (c .before .before .before .before .before .match .rest .0 .0 .0 .1) (c .before .before .before .before .before .match .rest .0 .0 .1) (c .before .before .before .before .before .match .rest .0 .1) (c .before .before .before .before .before .match .rest .1) (c .match3 .rest .0 .0 .1) (c .match3 .rest .0 .1) (c .match3 .rest .1)
 
--- src/walk.rt:68:38
 expression-enum-known-x : (t : ℕ) → expression-lts.Need-enum-known-x (claims t) (expression-at t) expression.Post expression-Inv-loop expression-μ-loop
 expression-enum-known-x t c = search needs
 
--- src/walk.rt:28:5
 expression-loop-less-3 : (t : ℕ) → expression-lts.Need-loop-less-3 (claims t) (expression-at t) expression.Post expression-Inv-loop expression-μ-loop
 expression-loop-less-3 t c = sequence-less (c .before .before .before .before .before .before .before .before .before .before .before .loop .inv) (c .before .before .before .before .before .child .ensures) (c .before .before .before .before .expression .ensures) (c .before .before .x .given .0 .0) (c .before .before .x .given .1) (c .match4 .keys1)
 
--- src/walk.rt:28:5
 expression-loop-again-3 : (t : ℕ) → expression-lts.Need-loop-again-3 (claims t) (expression-at t) expression.Post expression-Inv-loop expression-μ-loop
 expression-loop-again-3 t c = sequence-again (c .before .before .before .before .before .before .before .before .before .before .before .loop .inv) (c .before .before .before .before .before .child .ensures) (c .before .before .before .before .expression .ensures) (c .before .before .x .given .0 .0) (c .before .before .x .given .1) (c .match4 .keys1)
 
--- src/walk.rt:75:33
 expression-returns-7 : (t : ℕ) → expression-lts.Need-returns-7 (claims t) (expression-at t) expression.Post expression-Inv-loop expression-μ-loop
 expression-returns-7 t c = out-choice (c .before .before .before .before .before .before .before .before .before .before .before .loop .inv) (c .before .before .before .before .before .child .ensures) (c .before .before .before .before .expression .ensures) (c .before .before .x .given .0 .0) (c .before .before .x .given .1) (c .match4 .keys2)
 
--- src/walk.rt:78:33
 expression-returns-8 : (t : ℕ) → expression-lts.Need-returns-8 (claims t) (expression-at t) expression.Post expression-Inv-loop expression-μ-loop
 expression-returns-8 t c = out-not-fails (c .before .before .before .before .before .before .before .before .before .before .before .loop .inv) (c .before .before .before .before .before .child .ensures) (c .before .before .before .before .expression .ensures) (c .before .before .x .given .0 .0) (c .before .before .x .given .1) (c .match4 .keys3)
 
--- src/walk.rt:28:5
 expression-loop-less-4 : (t : ℕ) → expression-lts.Need-loop-less-4 (claims t) (expression-at t) expression.Post expression-Inv-loop expression-μ-loop
 expression-loop-less-4 t c = repeat-less (c .before .before .before .before .before .before .before .before .before .before .before .loop .inv) (c .before .before .before .before .before .child .ensures) (c .before .before .before .before .expression .ensures) (c .before .before .x .given .0 .0) (c .before .before .x .given .1) (c .match4 .keys4)
 
--- src/walk.rt:28:5
 expression-loop-again-4 : (t : ℕ) → expression-lts.Need-loop-again-4 (claims t) (expression-at t) expression.Post expression-Inv-loop expression-μ-loop
 expression-loop-again-4 t c = repeat-again (c .before .before .before .before .before .before .before .before .before .before .before .loop .inv) (c .before .before .before .before .before .child .ensures) (c .before .before .before .before .expression .ensures) (c .before .before .x .given .0 .0) (c .before .before .x .given .1) (c .match4 .keys4)
 
--- src/walk.rt:84:37
 expression-left-requires : (t : ℕ) → expression-lts.Need-left-requires (claims t) (expression-at t) expression.Post expression-Inv-loop expression-μ-loop
 expression-left-requires t c κs = search needs
 
--- src/walk.rt:85:33
 expression-returns-9 : (t : ℕ) → expression-lts.Need-returns-9 (claims t) (expression-at t) expression.Post expression-Inv-loop expression-μ-loop
 expression-returns-9 t c = out-indent (c .before .before .before .before .before .before .before .before .before .before .before .before .loop .inv) (c .before .before .before .before .before .before .child .ensures) (c .before .before .before .before .before .expression .ensures) (c .before .before .before .x .given .0 .0) (c .before .before .before .x .given .1) (c .before .match4 .keys5) (c .left .ensures)
 
--- src/walk.rt:88:37
 expression-aligned-requires : (t : ℕ) → expression-lts.Need-aligned-requires (claims t) (expression-at t) expression.Post expression-Inv-loop expression-μ-loop
 expression-aligned-requires t c κs = search needs
 
--- src/walk.rt:89:33
 expression-returns-10 : (t : ℕ) → expression-lts.Need-returns-10 (claims t) (expression-at t) expression.Post expression-Inv-loop expression-μ-loop
 expression-returns-10 t c = out-align (c .before .before .before .before .before .before .before .before .before .before .before .before .loop .inv) (c .before .before .before .before .before .before .child .ensures) (c .before .before .before .before .before .expression .ensures) (c .before .before .before .x .given .0 .0) (c .before .before .before .x .given .1) (c .before .before .before .before .before .before .before .match .rest .0 .0 .0 .1) (c .before .before .before .before .before .before .before .match .rest .0 .0 .1) (c .before .before .before .before .before .before .before .match .rest .0 .1) (c .before .before .before .before .before .before .before .match .rest .1) (c .before .match4 .rest .0 .0 .0 .0 .1) (c .before .match4 .rest .0 .0 .0 .1) (c .before .match4 .rest .0 .0 .1) (c .before .match4 .rest .0 .1) (c .before .match4 .rest .1) (c .aligned .ensures)
 
--- src/walk.rt:105:16
 rule-mul-node :
     (t : ℕ) → rule-lts.Need-mul-node (expression-below t, expression.Post) (rule-at t) rule.Post
 rule-mul-node t c = search needs
 
--- src/walk.rt:105:16
 rule-shared-slice-read-node : (t : ℕ) → rule-lts.Need-shared-slice-read-node (
   expression-below t,
   expression.Post,
 ) (rule-at t) rule.Post
 rule-shared-slice-read-node t c = omega (arith, c .before .before .before .before .pre .1 .there)
 
--- src/walk.rt:106:5
 rule-expression-requires : (t : ℕ) → rule-lts.Need-expression-requires (
   expression-below t,
   expression.Post,
 ) (rule-at t) rule.Post
 rule-expression-requires t c κs = (into-rule-less (c .before .before .before .before .pre .1) (c .before .before .before .before .pre .0), c .before .before .before .before .pre .1 .ready)
 
--- src/walk.rt:100:1
 rule-returns :
     (t : ℕ) → rule-lts.Need-returns (expression-below t, expression.Post) (rule-at t) rule.Post
 rule-returns t c = out-of-rule (c .before .before .before .before .before .pre .1) _ (c .expression .ensures)

@@ -1,0 +1,86 @@
+-- What a run answers, over plain values: by the walk's outcome, or by the first number that applies.
+use Prim.Native.Nat.{ℕ, _-_, _≤_}
+use mathlib.Core.Path.{_≡_, refl, ap}
+use mathlib.Core.Bool.{true, false}
+use mathlib.Core.List.{List}
+use native.Mathlib.Omega.{arith}
+use Rattle.table.specs.Form.{form}
+use Rattle.columns.specs.Intervals.{ends}
+use Rattle.columns.specs.declared.State.{State}
+use Rattle.columns.specs.declared.Start.{Start}
+use Rattle.columns.specs.declared.Outcome.{Outcome}
+use Rattle.columns.specs.declared.Outcome.the-variants.{Success, Failure}
+use Rattle.well_formed.specs.Check.{NodeAnswer, given, refused, refusedAt, checkAnswer}
+use Rattle.well_formed.proofs.VerdictLaws.{check-means}
+use Rattle.clauses.specs.Clauses as clauses
+use Rattle.clauses.specs.Limits.{tokensOf, fails11, fails12, WithinLimits}
+use Rattle.clauses.specs.ThirdDemand.{EndsRun, ourOutcome}
+use Rattle.agreement.proofs.Narrows.{onward}
+use Rattle.agreement.proofs.Agreement.{outcome-only}
+use Rattle.agreement.proofs.LimitLaws.{begins}
+use Rattle.interpreter.specs.RunAnswer.{Ended, success, failure, endedFrom, runAnswer}
+use Rattle.interpreter.specs.InternalWalk.{outcomeOf, Checked, Ready, Gives}
+use Rattle.interpreter.proofs.WalkLaws.{weight-most}
+
+module _ (nodes rules words : List ℕ) (start : Start) where
+  abbrev Answered : NodeAnswer Ended → Type 0
+  Answered v = v ≡ runAnswer nodes rules words start
+
+  -- The grammar is refused.
+  pub check-refuses : {number : ℕ} → refused number ≡ checkAnswer nodes rules → Answered (refused number)
+  unfolding runAnswer
+  check-refuses e = rw (← e) refl
+
+  pub check-names : {number node : ℕ} → refusedAt number node ≡ checkAnswer nodes rules → Answered (refusedAt number node)
+  unfolding runAnswer
+  check-names e = rw (← e) refl
+
+  module _ (passed : checkAnswer nodes rules ≡ given tt) where
+    -- 11 and 12.
+    pub refused-11 : fails11 words ≡ true → Answered (refused 11)
+    unfolding runAnswer
+    refused-11 e = rw (passed, e) refl
+
+    pub refused-12 : fails11 words ≡ false → fails12 nodes words start ≡ true → Answered (refused 12)
+    unfolding runAnswer
+    refused-12 e d = rw (passed, e, d) refl
+
+    module _ (tokens : fails11 words ≡ false) (begin : fails12 nodes words start ≡ false) where
+      limits : WithinLimits nodes rules words start
+      limits = record { table = check-means nodes rules .passes .0 passed .0; tokens = tokens; begin = begin }
+
+      checked : Checked nodes rules words
+      checked = record { table = limits .table; well = check-means nodes rules .passes .0 passed .1; tokens = tokens }
+
+      -- The walk may begin.
+      abbrev from : State
+      from = record { place = start .place; interval = start .interval; flag = start .flag }
+
+      pub begin-ready : Ready nodes rules words (start .node) from
+      begin-ready =
+          let b = begins nodes words start begin in
+          let l = b .lower in
+          let w = weight-most nodes rules words (start .node) from checked (b .node) in
+          record { checked = checked; node = b .node; place = b .place; room = omega arith }
+
+      -- Its outcome is the one that is defined.
+      module _ (o : Outcome) (d : Gives nodes rules words (start .mode) (form nodes (start .node)) from o) where
+        settled : outcomeOf o ≡ ourOutcome nodes rules words start
+        settled = outcome-only nodes rules words start limits (checked .well) (outcomeOf o) (d .derived)
+
+        answered : Answered (given (endedFrom (start .place) (outcomeOf o)))
+        unfolding runAnswer
+        answered = rw (passed, tokens, begin) (ap (λ (v : clauses.Outcome _). given (endedFrom (start .place) v)) settled)
+
+      pub answer-failure : {o : Outcome} → o ≡ Failure → Gives nodes rules words (start .mode) (form nodes (start .node)) from o → Answered (given failure) × EndsRun nodes rules words start clauses.failure
+      answer-failure {o} e d = let f : Gives nodes rules words (start .mode) (form nodes (start .node)) from Failure = rw e at d in (answered Failure f, f .derived)
+
+      module _ (u : State) {o : Outcome} (e : o ≡ Success u) (d : Gives nodes rules words (start .mode) (form nodes (start .node)) from o) where
+        moved : Gives nodes rules words (start .mode) (form nodes (start .node)) from (Success u)
+        moved = rw e at d
+
+        pub success-onward : start .place ≤ u .place
+        success-onward = onward ends nodes rules (tokensOf words) (moved .derived)
+
+        pub answer-success : Answered (given (success (u .place - start .place) (u .interval .lower) (u .interval .upper) (u .flag))) × (EndsRun nodes rules words start (clauses.success (u .place, u .interval, u .flag)) × (_≡_ {A = ℕ} (u .place - start .place) (u .place - start .place)))
+        answer-success = (answered (Success u) moved, (moved .derived, refl))
