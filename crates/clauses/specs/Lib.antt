@@ -4,3 +4,4 @@ pub mod Evaluation
 pub mod Limits
 pub mod ThirdDemand
 pub mod Cases
+pub mod HandbookCases
