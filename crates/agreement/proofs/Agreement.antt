@@ -32,7 +32,7 @@ module _ (nodes rules words : List ℕ) (start : Start) (limits : WithinLimits n
   -- The clauses over two ends give the outcome that is computed,
   pub outcome-exists : EndsRun nodes rules words start (ourOutcome nodes rules words start)
   outcome-exists =
-      let b = begins nodes words start (limits .begin) in
+      let b = begins nodes words start (limits .start-right) in
       outcome-derived nodes rules (tokensOf words) (limits .table) well (start .mode) (start .node) (start .place, start .interval, start .flag) (b .node) (b .place)
 
   -- and no other.
@@ -43,7 +43,7 @@ module _ (nodes rules words : List ℕ) (start : Start) (limits : WithinLimits n
   -- exactly one outcome, and ours is alike.
   pub third-demand : ThirdDemand nodes rules words start
   third-demand =
-      let b = begins nodes words start (limits .begin) in
+      let b = begins nodes words start (limits .start-right) in
       let a = ends-to-sets nodes rules (tokensOf words) outcome-exists (record { some = b .some; members = λ k. (λ m. m, λ m. m) }) in
       record {
         theirs = a .outcome;

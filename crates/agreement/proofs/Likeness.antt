@@ -21,7 +21,7 @@ module _ {ℓ κ ℓ' κ'} (D : Domain {ℓ, κ}) (E : Domain {ℓ', κ'}) (L : 
     pub alike : AlikeOutcome D E o outcome
 
   -- A token that fits in one fits in the other.
-  fits-back : {τ i : ℕ} {I : D .Columns} {S : E .Columns} {b : Bool} → Alike D E I S → Fits E nodes rules tokens τ i S b → Fits D nodes rules tokens τ i I b
+  fits-back : {τ i : ℕ} {I : D .Columns} {S : E .Columns} {b : Bool} → Alike D E I S → Fits E τ i S b → Fits D τ i I b
   fits-back {τ} {i} h (clear m) = clear (alike-inner D E L M τ h .members i .0 m)
   fits-back {i = i} h (aligned m) = aligned (h .members i .0 m)
 

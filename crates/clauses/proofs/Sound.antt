@@ -37,15 +37,15 @@ module _ (nodes rules : List ℕ) (tokens : Tokens) where
   after-derived unfinished next otherwise d k l = record { run-of = λ o e. absurd (never e) }
 
   -- Clause 2.
-  fitting : {τ i : ℕ} (b : Bool) (I : Interval) → fits b τ I i ≡ true → Fits ends nodes rules tokens τ i I b
+  fitting : {τ i : ℕ} (b : Bool) (I : Interval) → fits b τ I i ≡ true → Fits ends τ i I b
   fitting {τ} {i} true I e = aligned (lies-true i I .0 e)
   fitting {τ} {i} false I e = clear (lies-true i (innerEnds τ I) .0 e)
 
-  fits-true : {τ i : ℕ} {b : Bool} {I : Interval} → Fits ends nodes rules tokens τ i I b → fits b τ I i ≡ true
+  fits-true : {τ i : ℕ} {b : Bool} {I : Interval} → Fits ends τ i I b → fits b τ I i ≡ true
   fits-true {τ} {i} {I = I} (clear m) = lies-true i (innerEnds τ I) .1 m
   fits-true {τ} {i} {I = I} (aligned m) = lies-true i I .1 m
 
-  read : {τ a i w : ℕ} {I : Interval} {b : Bool} → Next tokens a i w → Fits ends nodes rules tokens τ i I b → Run ends nodes rules tokens τ (table.terminal a) (w, I, b) (success (w + 1, afterToken b τ I i, false))
+  read : {τ a i w : ℕ} {I : Interval} {b : Bool} → Next tokens a i w → Fits ends τ i I b → Run ends nodes rules tokens τ (table.terminal a) (w, I, b) (success (w + 1, afterToken b τ I i, false))
   read n (clear m) = terminal-clear n m
   read n (aligned m) = terminal-aligned n m
 
@@ -61,7 +61,7 @@ module _ (nodes rules : List ℕ) (tokens : Tokens) where
   pub terminal-unread : (τ a w : ℕ) (I : Interval) (b : Bool) → reads nodes rules tokens τ a (w, I, b) ≡ false → Run ends nodes rules tokens τ (table.terminal a) (w, I, b) failure
   terminal-unread τ a w I b e = terminal-fails not-read
     where
-      not-read : (i : ℕ) → Next tokens a i w → Fits ends nodes rules tokens τ i I b → ⊥
+      not-read : (i : ℕ) → Next tokens a i w → Fits ends τ i I b → ⊥
       not-read i n m =
           let h : fits b τ I (tokens .column w) ≡ true = rw (n .column) (fits-true m) in
           true≢false (sym (rw (lt-ltb w (tokens .count) (n .there), eq-eqb (tokens .terminal w) a (n .terminal), h) refl) ∙ e)

@@ -1,5 +1,5 @@
--- The bench cases a to j of 01 in one table, and beside them a case for each of its slips. A case is a run (nodes, rules,
--- tokens, start) or a check, with the answer that 01 gives. `CasesHold`, in proofs, computes them all.
+-- The bench cases a to j of 01 in one table, with the answers that 01 gives, and beside them cases that its slips would
+-- break. A case is a run (nodes, rules, tokens, start) or a check. `CasesHold`, in proofs, computes them all.
 use Prim.Native.Nat.{ℕ, _-_}
 use mathlib.Core.Bool.{Bool, true, false}
 use mathlib.Core.List.{List, [], _∷_}
@@ -12,8 +12,9 @@ use Rattle.columns.specs.declared.Upper.the-variants.{At, Endless}
 use Rattle.columns.specs.declared.Interval.{Interval}
 use Rattle.columns.specs.declared.Start.{Start}
 use Rattle.well_formed.specs.Check.{NodeAnswer, given, refusedAt, checkAnswer}
-use Rattle.clauses.specs.Clauses.{Outcome, success, failure}
-use Rattle.clauses.specs.ThirdDemand.{ourOutcome}
+use Rattle.clauses.specs.Clauses.{success, failure}
+use Rattle.clauses.specs.Evaluation.{Result, ended, unfinished}
+use Rattle.clauses.specs.ThirdDemand.{ourResult}
 
 -- The four words of a form, by 01's table of kinds.
 abbrev pub fourWords : Form → List ℕ
@@ -30,15 +31,15 @@ fourWords (align a) = 9 ∷ a ∷ 0 ∷ 0 ∷ []
 fourWords other = 10 ∷ 0 ∷ 0 ∷ 0 ∷ []
 
 -- "a5 is a at column 5": a terminal at a column.
-pub record At-column : Type 0 where
+pub record TokenAt : Type 0 where
   pub terminal : ℕ
   pub column : ℕ
 
 infixl 90 _at_
-abbrev pub _at_ : ℕ → ℕ → At-column
+abbrev pub _at_ : ℕ → ℕ → TokenAt
 t at c = record { terminal = t; column = c }
 
-abbrev pub tokenWords : At-column → List ℕ
+abbrev pub tokenWords : TokenAt → List ℕ
 tokenWords t = t .terminal ∷ t .column ∷ 0 ∷ 0 ∷ []
 
 -- "Success answers the number of tokens read from that place on, the interval and the flag."
@@ -46,13 +47,16 @@ pub data Answer : Type 0 where
   reads : (tokens lower : ℕ) (upper : Upper) (flag : Bool) → Answer
   fails : Answer
   verdict : NodeAnswer Unit → Answer
+  -- the bound on depth was met: no outcome
+  unanswered : Answer
 
-abbrev pub answerFrom : Start → Outcome Interval → Answer
-answerFrom start (success s) = reads (s .0 - start .place) (s .1 .lower) (s .1 .upper) (s .2)
-answerFrom start failure = fails
+abbrev pub answerFrom : Start → Result → Answer
+answerFrom start (ended (success s)) = reads (s .0 - start .place) (s .1 .lower) (s .1 .upper) (s .2)
+answerFrom start (ended failure) = fails
+answerFrom start unfinished = unanswered
 
 pub data Case : Type 0 where
-  run : (nodes : List Form) (rules : List ℕ) (tokens : List At-column) (start : Start) (expected : Answer) → Case
+  run : (nodes : List Form) (rules : List ℕ) (tokens : List TokenAt) (start : Start) (expected : Answer) → Case
   check : (nodes : List Form) (rules : List ℕ) (expected : Answer) → Case
 
 abbrev pub expected : Case → Answer
@@ -60,7 +64,7 @@ expected (run nodes rules tokens start answer) = answer
 expected (check nodes rules answer) = answer
 
 unfoldable pub answered : Case → Answer
-answered (run nodes rules tokens start answer) = answerFrom start (ourOutcome (eachWords fourWords nodes) rules (eachWords tokenWords tokens) start)
+answered (run nodes rules tokens start answer) = answerFrom start (ourResult (eachWords fourWords nodes) rules (eachWords tokenWords tokens) start)
 answered (check nodes rules answer) = verdict (checkAnswer (eachWords fourWords nodes) rules)
 
 -- "Start interval 0 without end and flag clear unless said": node, mode.
@@ -107,7 +111,7 @@ benchCases =
     ∷ check (terminal a ∷ empty ∷ choice 0 1 ∷ rule 0 ∷ sequence 2 3 ∷ []) (4 ∷ []) (verdict (refusedAt 7 3))
     ∷ []
 
--- A case, or two, that each slip would break.
+-- Cases that each slip would break.
 unfoldable pub slipCases : List Case
 slipCases =
     -- "Leaving the flag set after an align that read nothing (case h)": then b too would have to stand on the baseline.
@@ -117,8 +121,9 @@ slipCases =
     -- "Trying the second alternative with the first one's narrowed interval": a at 5 then c, in mode equal, or a in mode
     -- greater. From 5 to 5 the second would fail.
     ∷ run (terminal a ∷ terminal c ∷ sequence 0 1 ∷ position 2 equal ∷ choice 3 0 ∷ []) [] (a at 5 ∷ []) (from 4 greater) (reads 1 0 (At 4) false)
-    -- "Capping the lower end at 65,535: in mode any it may pass that and tokens still match." From 65,535 on a under
-    -- greater, and an aligned a under greater, which is asked for past 65,535.
+    -- "Capping the lower end at 65,535: in mode any it may pass that and tokens still match." From 65,535 on, a under
+    -- greater still matches (a reader that refused to pass 65,535 would fail), and an aligned a under greater is asked for
+    -- past 65,535 (a reader that stopped there would read it).
     ∷ run (terminal a ∷ indent 0 greater ∷ []) [] (a at 7 ∷ []) (record { node = 1; place = 0; interval = to 65535 Endless; flag = false; mode = any }) (reads 1 65535 Endless false)
     ∷ run (terminal a ∷ align 0 ∷ indent 1 greater ∷ []) [] (a at 65535 ∷ []) (record { node = 2; place = 0; interval = to 65535 Endless; flag = false; mode = any }) fails
     -- "Not and failure hand the old state on": not of a b in mode equal, then a in mode greater.

@@ -30,12 +30,12 @@ pub data Outcome {ℓ} (C : Type ℓ) : Type ℓ where
   success : State C → Outcome C
   failure : Outcome C
 
-module _ {ℓ κ} (D : Domain {ℓ, κ}) (nodes rules : List ℕ) (tokens : Tokens) where
-  -- What clause 2 asks of a token at column i: "either b = ff and i ∈ τ⁻¹(I) or b = tt and i ∈ I".
-  pub data Fits (τ i : ℕ) (I : D .Columns) : Bool → Type κ where
-    clear : D .Member i (D .inner τ I) → Fits τ i I false
-    aligned : D .Member i I → Fits τ i I true
+-- What clause 2 asks of a token at column i: "either b = ff and i ∈ τ⁻¹(I) or b = tt and i ∈ I".
+pub data Fits {ℓ κ} (D : Domain {ℓ, κ}) (τ i : ℕ) (I : D .Columns) : Bool → Type κ where
+  clear : D .Member i (D .inner τ I) → Fits D τ i I false
+  aligned : D .Member i I → Fits D τ i I true
 
+module _ {ℓ κ} (D : Domain {ℓ, κ}) (nodes rules : List ℕ) (tokens : Tokens) where
   pub data Run : ℕ → Form → State (D .Columns) → Outcome (D .Columns) → Type (ℓ ⊔ κ) where
     -- 1. ε, τ ⊢ s → ⊤(s).
     empty : {τ : ℕ} {s : State (D .Columns)} → Run τ table.empty s (success s)
@@ -47,7 +47,7 @@ module _ {ℓ κ} (D : Domain {ℓ, κ}) (nodes rules : List ℕ) (tokens : Toke
     terminal-aligned : {τ a i w : ℕ} {I : D .Columns} → Next tokens a i w → D .Member i I
         → Run τ (table.terminal a) (w, I, true) (success (w + 1, D .one i, false))
     -- if o = ⊥, and there are no w' and i such that w = aⁱw' with either b = ff and i ∈ τ⁻¹(I) or b = tt and i ∈ I.
-    terminal-fails : {τ a w : ℕ} {I : D .Columns} {b : Bool} → ((i : ℕ) → Next tokens a i w → Fits τ i I b → ⊥)
+    terminal-fails : {τ a w : ℕ} {I : D .Columns} {b : Bool} → ((i : ℕ) → Next tokens a i w → Fits D τ i I b → ⊥)
         → Run τ (table.terminal a) (w, I, b) failure
     -- 3. For every X, X, τ ⊢ s → o holds if δ(X), τ ⊢ s → o holds.
     rule : {τ x : ℕ} {s : State (D .Columns)} {o : Outcome (D .Columns)} → Run τ (form nodes (standsFor rules x)) s o → Run τ (table.rule x) s o

@@ -55,5 +55,8 @@ module _ (nodes rules : List ℕ) (tokens : Tokens) where
   outcomeIn unfinished = failure
 
   -- The outcome of node n in mode τ from a state.
+  unfoldable pub evaluated : ℕ → ℕ → State Interval → Result
+  evaluated τ n s = evaluate enough τ (form nodes n) s
+
   unfoldable pub outcomeFor : ℕ → ℕ → State Interval → Outcome Interval
-  outcomeFor τ n s = outcomeIn (evaluate enough τ (form nodes n) s)
+  outcomeFor τ n s = outcomeIn (evaluated τ n s)

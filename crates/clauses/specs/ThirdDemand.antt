@@ -12,9 +12,9 @@ use Rattle.columns.specs.declared.Start.{Start}
 use Rattle.clauses.specs.Clauses.{Outcome, Run}
 use Rattle.clauses.specs.AlikeOutcomes.{AlikeOutcome}
 use Rattle.clauses.specs.Limits.{tokensOf}
-use Rattle.clauses.specs.Evaluation.{outcomeFor}
+use Rattle.clauses.specs.Evaluation.{Result, evaluated, outcomeFor}
 
--- "They begin at the start's node in its mode": a run of the clauses over sets. "Their state is a place, a set S of natural
+-- "they begin at the start's node in its mode": a run of the clauses over sets. "Their state is a place, a set S of natural
 -- numbers and the flag; at first the start's place and flag, and every natural number in its interval."
 abbrev pub SetRun : List ℕ → List ℕ → List ℕ → Start → Outcome ColumnSet → Type 1
 SetRun nodes rules words start o =
@@ -26,6 +26,9 @@ EndsRun nodes rules words start o =
     Run ends nodes rules (tokensOf words) (start .mode) (form nodes (start .node)) (start .place, start .interval, start .flag) o
 
 -- Our outcome: the ten clauses over two ends, computed.
+abbrev pub ourResult : List ℕ → List ℕ → List ℕ → Start → Result
+ourResult nodes rules words start = evaluated nodes rules (tokensOf words) (start .mode) (start .node) (start .place, start .interval, start .flag)
+
 abbrev pub ourOutcome : List ℕ → List ℕ → List ℕ → Start → Outcome Interval
 ourOutcome nodes rules words start = outcomeFor nodes rules (tokensOf words) (start .mode) (start .node) (start .place, start .interval, start .flag)
 

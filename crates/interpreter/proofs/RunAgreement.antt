@@ -36,12 +36,12 @@ module _ (nodes rules words : List ℕ) (start : Start) where
   record Unrefused (ours : Ended) : Type 0 where
     pub passed : checkAnswer nodes rules ≡ given tt
     pub tokens : fails11 words ≡ false
-    pub begin : fails12 nodes words start ≡ false
+    pub start-right : fails12 nodes words start ≡ false
     pub is : endedFrom (start .place) (ourOutcome nodes rules words start) ≡ ours
 
   unrefused : (c : NodeAnswer Unit) (t b : Bool) (ours : Ended) → checkAnswer nodes rules ≡ c → fails11 words ≡ t → fails12 nodes words start ≡ b
       → afterCheck c (refuseIf t 11 (refuseIf b 12 (given (endedFrom (start .place) (ourOutcome nodes rules words start))))) ≡ given ours → Unrefused ours
-  unrefused (given tt) false false ours p q r e = record { passed = p; tokens = q; begin = r; is = cc }
+  unrefused (given tt) false false ours p q r e = record { passed = p; tokens = q; start-right = r; is = cc }
   unrefused (given tt) false true ours p q r e = absurd (let z : _≡_ {A = ℕ} 0 1 = cc in omega arith)
   unrefused (given tt) true b ours p q r e = absurd (let z : _≡_ {A = ℕ} 0 1 = cc in omega arith)
   unrefused (refused k) t b ours p q r e = absurd (let z : _≡_ {A = ℕ} 0 1 = cc in omega arith)
@@ -53,7 +53,7 @@ module _ (nodes rules words : List ℕ) (start : Start) where
   run-agrees ours e =
       let u = unrefused (checkAnswer nodes rules) (fails11 words) (fails12 nodes words start) ours refl refl refl e in
       let m = check-means nodes rules .passes .0 (u .passed) in
-      let limits : WithinLimits nodes rules words start = record { table = m .0; tokens = u .tokens; begin = u .begin } in
+      let limits : WithinLimits nodes rules words start = record { table = m .0; tokens = u .tokens; start-right = u .start-right } in
       let d = third-demand nodes rules words start limits (m .1) in
       record { theirs = d .theirs; derived = d .derived; only = d .only; alike = subst (λ (v : Ended). AlikeAnswer (start .place) v (d .theirs)) (u .is) (alike-answer (start .place) (d .alike)) }
 

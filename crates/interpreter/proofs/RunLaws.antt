@@ -47,7 +47,7 @@ module _ (nodes rules words : List ℕ) (start : Start) where
 
     module _ (tokens : fails11 words ≡ false) (begin : fails12 nodes words start ≡ false) where
       limits : WithinLimits nodes rules words start
-      limits = record { table = check-means nodes rules .passes .0 passed .0; tokens = tokens; begin = begin }
+      limits = record { table = check-means nodes rules .passes .0 passed .0; tokens = tokens; start-right = begin }
 
       checked : Checked nodes rules words
       checked = record { table = limits .table; well = check-means nodes rules .passes .0 passed .1; tokens = tokens }
