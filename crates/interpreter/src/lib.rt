@@ -49,14 +49,19 @@ fn begin(nodes: &[u16], rules: &[u16], tokens: &[u32], start: Start) -> Ran
         return Ran::Refused(12);
     }
     let interval = start.interval;
+    let from = start.place;
     let s = State {
-        place: start.place,
+        place: from,
         interval,
         flag: start.flag,
     };
     let x = expression(nodes, rules, tokens, start.mode, start.node, s);
     match x {
         Outcome::Failure => Ran::Failure,
-        Outcome::Success(u) => Ran::Success(u.place - start.place, u),
+        Outcome::Success(u) => {
+            let end = u.place;
+            let read = end - from;
+            Ran::Success(read, u)
+        }
     }
 }

@@ -17,10 +17,10 @@ pub(crate) fn child(kind: u16, r: u16, s: State) -> State
     let c = s.interval;
     match kind {
         7 => {
-            let new = inner(r, c);
+            let narrowed = inner(r, c);
             State {
                 place: s.place,
-                interval: new,
+                interval: narrowed,
                 flag: s.flag,
             }
         }

@@ -75,10 +75,10 @@ pub(crate) fn expression(
                                 return Outcome::Success(u);
                             }
                             5 => {
-                                return Outcome::Failure;
+                                return Outcome::Failure; // a not of what succeeds
                             }
                             6 => {
-                                s = u;
+                                s = u; // the next round
                             }
                             7 => {
                                 let v = left(r, s, u);

@@ -27,14 +27,14 @@ enum-told c = search needs
 enum-known-x : tie.Need-enum-known-x
 enum-known-x c = search needs
 
-sub-t12 : tie.Need-sub-t12
-sub-t12 c = omega (arith, success-onward (c .before .before .before .before .before .before .before .before .before .before .before .before .before .before .args .nodes .now) (c .before .before .before .before .before .before .before .before .before .before .before .before .before .before .args .rules .now) (c .before .before .before .before .before .before .before .before .before .before .before .before .before .before .args .tokens .now) (c .before .before .before .before .before .before .before .before .before .before .before .before .before .before .args .start) (c .before .before .before .before .before .before .before .before .before .before .before .before .before .before .pre) (sym (c .before .before .before .before .before .before .before .before .before .before .tokens-wrong .ensures) ∙ c .before .before .before .before .before .before .before .before .before .if1 .left) (sym (c .before .before .before .before .before .before .before .before .start-wrong .ensures) ∙ c .before .before .before .before .before .before .before .if2 .left) (c .before .before .before .x .given .0 .0) (c .before .before .before .x .given .1) (c .before .before .before .before .before .expression .ensures))
+sub-read : tie.Need-sub-read
+sub-read c = omega (arith, success-onward (c .before .before .before .before .before .before .before .before .before .before .before .before .args .nodes .now) (c .before .before .before .before .before .before .before .before .before .before .before .before .args .rules .now) (c .before .before .before .before .before .before .before .before .before .before .before .before .args .tokens .now) (c .before .before .before .before .before .before .before .before .before .before .before .before .args .start) (c .before .before .before .before .before .before .before .before .before .before .before .before .pre) (sym (c .before .before .before .before .before .before .before .before .tokens-wrong .ensures) ∙ c .before .before .before .before .before .before .before .if1 .left) (sym (c .before .before .before .before .before .before .start-wrong .ensures) ∙ c .before .before .before .before .before .if2 .left) (c .before .x .given .0 .0) (c .before .x .given .1) (c .before .before .before .expression .ensures))
 
 returns-3 : tie.Need-returns-3
 returns-3 c = answer-failure (c .before .before .before .before .before .before .before .before .before .before .before .args .nodes .now) (c .before .before .before .before .before .before .before .before .before .before .before .args .rules .now) (c .before .before .before .before .before .before .before .before .before .before .before .args .tokens .now) (c .before .before .before .before .before .before .before .before .before .before .before .args .start) (c .before .before .before .before .before .before .before .before .before .before .before .pre) (sym (c .before .before .before .before .before .before .before .tokens-wrong .ensures) ∙ c .before .before .before .before .before .before .if1 .left) (sym (c .before .before .before .before .before .start-wrong .ensures) ∙ c .before .before .before .before .if2 .left) (c .enum-told .given .1) (c .before .before .expression .ensures)
 
 returns-4 : tie.Need-returns-4
-returns-4 c = answer-success (c .before .before .before .before .before .before .before .before .before .before .before .before .before .before .args .nodes .now) (c .before .before .before .before .before .before .before .before .before .before .before .before .before .before .args .rules .now) (c .before .before .before .before .before .before .before .before .before .before .before .before .before .before .args .tokens .now) (c .before .before .before .before .before .before .before .before .before .before .before .before .before .before .args .start) (c .before .before .before .before .before .before .before .before .before .before .before .before .before .before .pre) (sym (c .before .before .before .before .before .before .before .before .before .before .tokens-wrong .ensures) ∙ c .before .before .before .before .before .before .before .before .before .if1 .left) (sym (c .before .before .before .before .before .before .before .before .start-wrong .ensures) ∙ c .before .before .before .before .before .before .before .if2 .left) (c .before .before .before .x .given .0 .0) (c .before .before .before .x .given .1) (c .before .before .before .before .before .expression .ensures)
+returns-4 c = answer-success (c .before .before .before .before .before .before .before .before .before .before .before .before .args .nodes .now) (c .before .before .before .before .before .before .before .before .before .before .before .before .args .rules .now) (c .before .before .before .before .before .before .before .before .before .before .before .before .args .tokens .now) (c .before .before .before .before .before .before .before .before .before .before .before .before .args .start) (c .before .before .before .before .before .before .before .before .before .before .before .before .pre) (sym (c .before .before .before .before .before .before .before .before .tokens-wrong .ensures) ∙ c .before .before .before .before .before .before .before .if1 .left) (sym (c .before .before .before .before .before .before .start-wrong .ensures) ∙ c .before .before .before .before .before .if2 .left) (c .before .x .given .0 .0) (c .before .x .given .1) (c .before .before .before .expression .ensures)
 
 pub begin-spec : {M : Type 1} → statement M
 begin-spec =
@@ -47,6 +47,6 @@ begin-spec =
     expression-requires
     enum-told
     enum-known-x
-    sub-t12
+    sub-read
     returns-3
     returns-4)
