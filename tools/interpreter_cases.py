@@ -1,0 +1,1749 @@
+#!/usr/bin/env python3
+"""Writes the calls that the program interpreter_cases makes, and the lines that it must print.
+
+Run it at the top of the repository. It writes crates/interpreter_cases/data/cases and
+crates/interpreter_cases/stdout, the same bytes each time.
+
+Nothing here runs a grammar. Each call, or family of calls, has its answer written beside it, worked out
+by hand, and a comment quotes the words of document 01 or names the clause of document 001 that decide it.
+
+How expressions are written: a to z are terminals 1 to 26, capitals are rules, `empty` is empty; p q, p / q,
+!p and p* as in 001; p^R is an indent, p_R a position and [p] an align, where R is =, >, >= or any. A token is
+a letter and a column. An interval is its two ends, and an answer the tokens read, the interval and the flag.
+"""
+
+import itertools
+import os
+import pathlib
+import re
+
+CRATE = pathlib.Path(__file__).resolve().parent.parent / "crates" / "interpreter_cases"
+
+# "Relations: 0 equal, 1 greater, 2 at least, 3 any", "The same four numbers are token modes."
+RELATIONS = {"=": 0, ">": 1, ">=": 2, "any": 3}
+MODES = ("=", ">", ">=", "any")
+
+# Words 2 and 3 of a token. "The interpreter uses only the first two words": these break the limits of both.
+REST = (70000, 300)
+
+U32 = 4294967295
+
+records = []
+lines = []
+labels = set()
+table_before = b""
+tokens_before = b""
+
+
+# --- Records and lines ---------------------------------------------------------------------------
+
+
+def stored(before, payload):
+    """The five numbers that tell how tokens are stored, and the bytes to be stored."""
+    same = len(os.path.commonprefix([before, payload]))
+    best = (same, 0, same)
+    if len(payload) - same > 100:
+        for distance in (4, 16, 32):
+            first = max(same, distance)
+            for i in range(first, len(payload) + 1):
+                if i == len(payload) or payload[i] != payload[i - distance]:
+                    if i - first > best[2] - best[0]:
+                        best = (first, distance, i)
+                    first = i + 1
+    head, distance, middle = best
+    return (same, head, distance, middle, len(payload)), payload[same:head] + payload[middle:]
+
+
+def words(width, numbers):
+    return b"".join(n.to_bytes(width, "big") for n in numbers)
+
+
+def record(label, node_words, rules, token_words, start, line):
+    """One call and the line expected of it. The layout is that of the program's first comment. A start is
+    node, place, lower end, upper end (None is without end), flag, mode."""
+    global table_before, tokens_before
+    assert label not in labels, label
+    labels.add(label)
+    node, place, lower, upper, flag, mode = start
+    table = words(2, [*node_words, *rules])
+    same = len(os.path.commonprefix([table_before, table]))
+    text = words(4, token_words)
+    numbers, rest = stored(tokens_before, text)
+    table_before = table
+    tokens_before = text
+    name = label.encode()
+    records.append(
+        bytes([len(name), flag, upper is not None])
+        + words(2, (node, mode))
+        + words(4, (place, lower, upper or 0))
+        + words(2, (len(node_words), len(rules), same))
+        + words(3, numbers)
+        + name
+        + table[same:]
+        + rest
+    )
+    lines.append(f"{label}: {line}\n")
+
+
+def token_words(text, rest=REST):
+    """The words of tokens written as `a2 b3`."""
+    out = []
+    for token in text.split():
+        out += [ord(token[0]) - 96, int(token[1:]), *rest]
+    return out
+
+
+def ends(text):
+    lower, upper = text.split()
+    return int(lower), None if upper == "inf" else int(upper)
+
+
+def success(answer, place):
+    """ "Success answers the number of tokens read from that place on, the interval and the flag": the place
+    reached is the start's and the tokens read."""
+    read, lower, upper, flag = answer.split()
+    assert flag in ("clear", "set")
+    return f"success {read} {lower} {upper} {flag} {place + int(read)}"
+
+
+# --- Tables --------------------------------------------------------------------------------------
+
+# "four words a node: kind, a, b, relation", "Unused words are 0".
+EMPTY = (0, 0, 0, 0)
+A = (1, 1, 0, 0)
+B = (1, 2, 0, 0)
+C = (1, 3, 0, 0)
+KIND_10 = (10, 0, 0, 0)
+
+
+def rule(number):
+    return (2, number, 0, 0)
+
+
+def seq(a, b):
+    return (3, a, b, 0)
+
+
+def choice(a, b):
+    return (4, a, b, 0)
+
+
+def not_(a):
+    return (5, a, 0, 0)
+
+
+def repeat(a):
+    return (6, a, 0, 0)
+
+
+def indent(a, relation):
+    return (7, a, 0, relation)
+
+
+def position(a, relation):
+    return (8, a, 0, relation)
+
+
+def align(a):
+    return (9, a, 0, 0)
+
+
+def flat(nodes):
+    return [word for node in nodes for word in node]
+
+
+class Writer:
+    """Turns written expressions into nodes. "A child node has a lower number than its parent." """
+
+    WORDS = re.compile(r"\s*(empty|any|>=|[=>/!*^_()\[\]]|[a-zA-Z])")
+
+    def __init__(self, rules):
+        self.nodes = []
+        named = [r.split("=", 1) for r in rules.split(";")] if rules else []
+        self.names = [name.strip() for name, _ in named]
+        self.rules = [self.expression(text) for _, text in named]
+
+    def expression(self, text):
+        self.left = self.WORDS.findall(text)
+        assert "".join(self.left) == re.sub(r"\s", "", text), text
+        node = self.choice()
+        assert not self.left, text
+        return node
+
+    def add(self, *node):
+        self.nodes.append(node)
+        return len(self.nodes) - 1
+
+    def next(self):
+        return self.left[0] if self.left else ""
+
+    def choice(self):
+        node = self.sequence()
+        if self.next() == "/":
+            self.left.pop(0)
+            node = self.add(*choice(node, self.choice()))
+        return node
+
+    def sequence(self):
+        node = self.prefix()
+        if self.next() not in ("", "/", ")", "]"):
+            node = self.add(*seq(node, self.sequence()))
+        return node
+
+    def prefix(self):
+        if self.next() == "!":
+            self.left.pop(0)
+            return self.add(*not_(self.prefix()))
+        node = self.primary()
+        while self.next() in ("*", "^", "_"):
+            sign = self.left.pop(0)
+            if sign == "*":
+                node = self.add(*repeat(node))
+            else:
+                form = indent if sign == "^" else position
+                node = self.add(*form(node, RELATIONS[self.left.pop(0)]))
+        return node
+
+    def primary(self):
+        word = self.left.pop(0)
+        if word == "empty":
+            return self.add(*EMPTY)
+        if word in "([":
+            node = self.choice()
+            assert self.left.pop(0) == {"(": ")", "[": "]"}[word]
+            return node if word == "(" else self.add(*align(node))
+        if word.isupper():
+            return self.add(*rule(self.names.index(word)))
+        assert word.islower()
+        return self.add(1, ord(word) - 96, 0, 0)
+
+
+def given(expression, mode, tokens, answer, rules="", start="0 inf", flag="clear", place=0, name=""):
+    """A run of an expression. Tokens are written, or a list of pairs of a terminal and a column."""
+    table = Writer(rules)
+    node = table.expression(expression)
+    lower, upper = ends(start)
+    label = name
+    if not name or name.startswith("case"):
+        label += (", " if name else "") + expression
+        label += f" where {rules}" if rules else ""
+        label += f", mode {mode}, {tokens or 'no token'}"
+        label += f", from {lower} to {start.split()[1]}" if start != "0 inf" else ""
+        label += ", flag set" if flag == "set" else ""
+        label += f", place {place}" if place else ""
+    if isinstance(tokens, str):
+        tokens = token_words(tokens)
+    else:
+        tokens = [word for token in tokens for word in (*token, *REST)]
+    begin = (node, place, lower, upper, flag == "set", RELATIONS[mode])
+    line = answer if answer == "failure" else success(answer, place)
+    record(label, flat(table.nodes), table.rules, tokens, begin, line)
+
+
+def row(expression, mode, start, answers, flag="clear", first=0):
+    """Runs over one token a, at column `first` and on. An answer is the interval of success, or -."""
+    for column, cell in enumerate(answers.split(), first):
+        answer = "failure" if cell == "-" else f"1 {cell.replace('-', ' ')} clear"
+        given(expression, mode, f"a{column}", answer, start=start, flag=flag)
+
+
+# --- Bench cases ---------------------------------------------------------------------------------
+
+# "Cases a to j are proved, in one table. Start interval 0 without end and flag clear unless said".
+# "a. Align of a b under greater, mode at least, a2 b3: 2 read, 0 to 1, clear (001)."
+given("[a b]^>", ">=", "a2 b3", "2 0 1 clear", name="case a")
+# "b. a, mode greater: a5 gives 0 to 4; a0 fails."
+given("a", ">", "a5", "1 0 4 clear", name="case b")
+given("a", ">", "a0", "failure", name="case b")
+# "c. a, mode at least, a0: 0 to 0."
+given("a", ">=", "a0", "1 0 0 clear", name="case c")
+# "d. a, flag set, mode greater, a5: 5 to 5."
+given("a", ">", "a5", "1 5 5 clear", flag="set", name="case d")
+# "e. No tokens: a fails; empty succeeds, state unchanged."
+for mode in MODES:
+    for flag in ("clear", "set"):
+        given("a", mode, "", "failure", flag=flag, name="case e")
+        given("empty", mode, "", f"0 0 inf {flag}", flag=flag, name="case e")
+# "f. a, then (b under greater, or empty), mode equal: a1 b2 reads 2, 1 to 1; a3 b2 reads 1, 3 to 3."
+given("a (b^> / empty)", "=", "a1 b2", "2 1 1 clear", name="case f")
+given("a (b^> / empty)", "=", "a3 b2", "1 3 3 clear", name="case f")
+# "g. a, then b under any, mode equal, a3 b0: 2 read, 3 to 3."
+given("a b^any", "=", "a3 b0", "2 3 3 clear", name="case g")
+# "h. Align of empty, then a, mode greater, a5: 0 to 4."
+given("[empty] a", ">", "a5", "1 0 4 clear", name="case h")
+# "i. Align of (a under greater), mode equal, from 1 to 1, a4: 1 to 1."
+given("[a^>]", "=", "a4", "1 1 1 clear", start="1 1", name="case i")
+
+# 001, after Theorem 2.3: "(ab)^>, △ ⊢ (a1b2, N, ff) → ⊥" and "a^> b^>, △ ⊢ (a1b2, N, ff) → ⊤(ε, {0}, ff)".
+given("(a b)^>", "=", "a1 b2", "failure", name="case of 001")
+given("a^> b^>", "=", "a1 b2", "2 0 0 clear", name="case of 001")
+
+
+# --- Number 3 ------------------------------------------------------------------------------------
+
+
+def refused(label, number, node_words, rules=(), tokens=(), start=(0, 0, 0, None, False, 2)):
+    """ "The answer is the number" """
+    assert number in (3, 4, 5, 11, 12)
+    record(label, node_words, rules, tokens, start, f"refused {number}")
+
+
+def bad(label, node, nodes, rules=(), tokens=(), start=(0, 0, 0, None, False, 2)):
+    """ "The answer is the number, with the node for 7" """
+    record(label, flat(nodes), rules, tokens, start, f"refused 7 {node}")
+
+
+def runs(label, answer, nodes, rules=(), tokens=(), start=(0, 0, 0, None, False, 2)):
+    """A run of nodes given as such, from place 0 in mode at least unless said."""
+    line = answer if answer == "failure" else success(answer, start[1])
+    record(label, flat(nodes), rules, tokens, start, line)
+
+
+# "node words no multiple of 4, node or rule count outside the limits", "1 to 512 nodes, 0 to 128 rules".
+refused("small 3, no node", 3, [])
+runs("one node", "0 0 inf clear", [EMPTY])
+for count in (1, 2, 3, 5, 6, 7, 2045, 2046, 2047, 2049, 2050, 2051):
+    refused(f"{count} node words", 3, [0] * count)
+for count in (2, 511, 512):
+    runs(f"{count} nodes", "0 0 inf clear", [EMPTY] * count)
+for count in (513, 514, 525):
+    refused(f"{count} nodes", 3, flat([EMPTY] * count))
+for count in (1, 127, 128):
+    runs(f"{count} rules", "0 0 inf clear", [EMPTY], [0] * count)
+for count in (129, 130, 200):
+    refused(f"{count} rules", 3, flat([EMPTY]), [0] * count)
+refused("no node and a rule", 3, [], [0])
+
+
+# --- Number 4 ------------------------------------------------------------------------------------
+
+# "kind over 9, child not lower, no such rule, terminal over 255, relation over 3, unused word not 0". The
+# node stands behind a and b, with two rules; the run starts at a, so that the node is not walked.
+refused("small 4, node 0 a repeat of 0", 4, flat([repeat(0)]))
+for node in (
+    # "kind over 9"
+    (10, 0, 0, 0),
+    (65535, 0, 0, 0),
+    # "terminal over 255"
+    (1, 256, 0, 0),
+    (1, 257, 0, 0),
+    # "no such rule": rules 0 and 1 are there
+    (2, 2, 0, 0),
+    (2, 65535, 0, 0),
+    # "child not lower": the node itself is 2
+    (3, 2, 0, 0),
+    (3, 0, 2, 0),
+    (4, 2, 0, 0),
+    (4, 0, 3, 0),
+    (5, 2, 0, 0),
+    (6, 2, 0, 0),
+    (7, 2, 0, 1),
+    (8, 3, 0, 1),
+    (9, 2, 0, 0),
+    # "relation over 3"
+    (7, 0, 0, 4),
+    (7, 0, 0, 65535),
+    (8, 0, 0, 4),
+    (8, 0, 0, 256),
+    # "unused word not 0"
+    (0, 1, 0, 0),
+    (0, 0, 1, 0),
+    (0, 0, 0, 1),
+    (1, 1, 1, 0),
+    (1, 1, 0, 1),
+    (2, 0, 1, 0),
+    (2, 0, 0, 1),
+    (3, 0, 1, 1),
+    (4, 0, 1, 1),
+    (5, 0, 1, 0),
+    (5, 0, 0, 1),
+    (6, 0, 1, 0),
+    (6, 0, 0, 1),
+    (7, 0, 1, 1),
+    (8, 0, 1, 1),
+    (9, 0, 1, 0),
+    (9, 0, 0, 1),
+):
+    refused(f"node 2 is {node}", 4, flat([A, B, node]), [0, 1], token_words("a2"))
+# The same with nothing wrong: a at 2 in mode at least leaves 0 to 2.
+for node in (EMPTY, A, (1, 255, 0, 0), rule(1), seq(1, 0), choice(0, 1), not_(1), repeat(1)):
+    runs(f"node 2 is {node}", "1 0 2 clear", [A, B, node], [0, 1], token_words("a2"))
+for node in (indent(1, 3), position(1, 3), align(1)):
+    runs(f"node 2 is {node}", "1 0 2 clear", [A, B, node], [0, 1], token_words("a2"))
+refused("node 511 a kind 10", 4, flat([EMPTY] * 511 + [KIND_10]))
+refused("rule 0 of none", 4, flat([rule(0)]))
+
+
+# --- Number 5 ------------------------------------------------------------------------------------
+
+# "a rule's node .. not in the table".
+refused("small 5, rule 0 = node 1 of 1", 5, flat([EMPTY]), [1])
+runs("rule 0 = node 0 of 1", "0 0 inf clear", [EMPTY], [0])
+for number in (2, 255, 256, 512, 65535):
+    refused(f"rule 0 = node {number} of 1", 5, flat([EMPTY]), [number])
+refused("rule 127 = node 1 of 1", 5, flat([EMPTY]), [0] * 127 + [1])
+runs("rule 0 = node 511 of 512", "0 0 inf clear", [EMPTY] * 512, [511])
+refused("rule 0 = node 512 of 512", 5, flat([EMPTY] * 512), [512])
+
+
+# --- Number 7 ------------------------------------------------------------------------------------
+
+# "The grammar passes if every node does, reachable or not; otherwise the lowest that doesn't is named."
+bad("small 7, rule 0 = node 0 = rule 0", 0, [rule(0)], [0])
+# "j. Check: repeat of empty is bad; repeat of not-empty passes; rule = (a or empty) then the rule, nodes in
+# the order a, empty, choice, rule, sequence: bad at node 3." Not of empty always fails, so its repeat
+# succeeds in the old state.
+bad("case j, repeat of empty", 1, [EMPTY, repeat(0)])
+bad("case j, repeat of empty, started at it", 1, [EMPTY, repeat(0)], start=(1, 0, 0, None, False, 2))
+given("(!empty)*", ">", "a5", "0 0 inf clear", name="case j")
+bad("case j, X = (a / empty) X", 3, [A, EMPTY, choice(0, 1), rule(0), seq(2, 3)], [4])
+# "a repeat whose child is and may not succeed reading nothing"
+bad("two repeats of empty", 1, [EMPTY, repeat(0), repeat(0)])
+bad("repeat of not a", 2, [A, not_(0), repeat(1)], (), token_words("a2"))
+bad("repeat of repeat of a", 2, [A, repeat(0), repeat(1)], (), token_words("a2"))
+bad("repeat of align of empty", 2, [EMPTY, align(0), repeat(1)])
+# "a sequence whose a is, and b too if a may read nothing": X = X a needs X before it.
+bad("X = X a", 0, [rule(0), A, seq(0, 1)], [2])
+bad("a, then X = X a", 1, [A, rule(0), seq(1, 0)], [2])
+bad("repeat of empty as node 511", 511, [EMPTY] * 511 + [repeat(0)], start=(5, 0, 0, None, False, 2))
+bad("every node of 511 a repeat of empty", 1, [EMPTY] + [repeat(0)] * 511)
+
+
+# --- Number 11 -----------------------------------------------------------------------------------
+
+# "token words no multiple of 4, over 4,096 tokens, terminal over 255, column over 65,535". The run is empty
+# from place 0, so that no token is looked at by it.
+START = (0, 0, 0, None, False, 2)
+SAME = "0 0 inf clear"
+refused("small 11, 3 token words", 11, flat([EMPTY]), (), [0] * 3)
+runs("no token words", SAME, [EMPTY])
+for count in (1, 2, 5, 6, 7, 9, 16383, 16385, 16386, 16387, 16389):
+    refused(f"{count} token words", 11, flat([EMPTY]), (), [0] * count)
+for count in (4, 8, 16380, 16384):
+    runs(f"{count} token words", SAME, [EMPTY], (), [0] * count)
+for count in (4097, 4098, 4125):
+    refused(f"{count} tokens", 11, flat([EMPTY]), (), [0] * 4 * count)
+for terminal in (0, 1, 254, 255):
+    runs(f"a token of terminal {terminal}", SAME, [EMPTY], (), [terminal, 0, 0, 0])
+for terminal in (256, 257, 511, 65535, 65536, 65537, 16777216, 2147483648, U32):
+    refused(f"a token of terminal {terminal}", 11, flat([EMPTY]), (), [terminal, 0, 0, 0])
+for column in (0, 1, 255, 256, 65534, 65535):
+    runs(f"a token at column {column}", SAME, [EMPTY], (), [1, column, 0, 0])
+for column in (65536, 65537, 131071, 131072, 16777216, 2147483648, U32 - 1, U32):
+    refused(f"a token at column {column}", 11, flat([EMPTY]), (), [1, column, 0, 0])
+# Every token counts, before the start's place and behind what is read.
+for at in (0, 1, 2):
+    tokens = token_words("a1 a1 a1")
+    tokens[at * 4] = 256
+    refused(
+        f"token {at} of 3 of terminal 256, from place 1", 11, flat([A]), (), tokens, (0, 1, 0, None, False, 2)
+    )
+    tokens = token_words("a1 a1 a1")
+    tokens[at * 4 + 1] = 65536
+    refused(
+        f"token {at} of 3 at column 65536, from place 1", 11, flat([A]), (), tokens, (0, 1, 0, None, False, 2)
+    )
+runs("3 tokens, from place 1", "1 0 1 clear", [A], (), token_words("a1 a1 a1"), (0, 1, 0, None, False, 2))
+LONG = token_words("a7") * 4096
+runs("4096 tokens, a", "1 0 7 clear", [A], (), LONG)
+for number in (0, 4095):
+    tokens = list(LONG)
+    tokens[number * 4] = 256
+    refused(f"4096 tokens, token {number} of terminal 256", 11, flat([A]), (), tokens)
+    tokens = list(LONG)
+    tokens[number * 4 + 1] = 65536
+    refused(f"4096 tokens, token {number} at column 65536", 11, flat([A]), (), tokens)
+refused("4097 tokens, a", 11, flat([A]), (), LONG + token_words("a7"))
+# "The interpreter uses only the first two words": a b in mode at least, a2 b3, leaves 0 to 2 whatever words 2
+# and 3 are.
+for rest in ((0, 0), (0, 1), (1, 0), (3, 2), (256, 256), (65536, 65536), (U32, 0), (0, U32), (U32, U32)):
+    runs(
+        f"words 2 and 3 are {rest}",
+        "2 0 2 clear",
+        [A, B, seq(0, 1)],
+        (),
+        token_words("a2 b3", rest),
+        (2, 0, 0, None, False, 2),
+    )
+
+
+# --- Number 12 -----------------------------------------------------------------------------------
+
+# "start node or place past its end (place = count is allowed), lower end over the upper, lower end over
+# 65,535 whatever the upper, finite upper end over 65,535, mode over 3".
+A2 = token_words("a2")
+EMPTY_1 = flat([EMPTY])
+refused("small 12, interval 5 to 4", 12, EMPTY_1, (), (), (0, 0, 5, 4, False, 2))
+# "start node .. past its end"
+for count in (1, 2, 3, 512):
+    runs(
+        f"start node {count - 1} of {count}", SAME, [EMPTY] * count, (), A2, (count - 1, 0, 0, None, False, 2)
+    )
+    refused(f"start node {count} of {count}", 12, EMPTY_1 * count, (), A2, (count, 0, 0, None, False, 2))
+for node in (2, 255, 256, 16384, 32768, 65535):
+    refused(f"start node {node} of 1", 12, EMPTY_1, (), A2, (node, 0, 0, None, False, 2))
+refused("start node 1 of 1 with 2 rules", 12, EMPTY_1, [0, 0], A2, (1, 0, 0, None, False, 2))
+# "place past its end (place = count is allowed)"
+for count in (0, 1, 2, 3, 4096):
+    tokens = A2 * count
+    runs(f"place {count} of {count} tokens", SAME, [EMPTY], (), tokens, (0, count, 0, None, False, 2))
+    runs(f"a at place {count} of {count} tokens", "failure", [A], (), tokens, (0, count, 0, None, False, 2))
+    for place in (count + 1, count + 2, count * 4 + 4, 65536, 1073741824, U32 - 3, U32):
+        refused(f"place {place} of {count} tokens", 12, EMPTY_1, (), tokens, (0, place, 0, None, False, 2))
+for place in (4, 8):
+    refused(
+        f"place {place} of 2 tokens, a word's number", 12, EMPTY_1, (), A2 * 2, (0, place, 0, None, False, 2)
+    )
+# "lower end over the upper", "lower end over 65,535 whatever the upper", "finite upper end over 65,535". The
+# last two also where the lower end is not over the upper.
+for lower, upper in (
+    (0, 0),
+    (0, 1),
+    (1, 1),
+    (4, 5),
+    (5, 5),
+    (0, 65534),
+    (0, 65535),
+    (65534, 65535),
+    (65535, 65535),
+    (0, None),
+    (5, None),
+    (65534, None),
+    (65535, None),
+):
+    said = "inf" if upper is None else upper
+    for flag in (False, True):
+        runs(
+            f"interval {lower} to {said}, flag {'set' if flag else 'clear'}",
+            f"0 {lower} {said} {'set' if flag else 'clear'}",
+            [EMPTY],
+            (),
+            (),
+            (0, 0, lower, upper, flag, 2),
+        )
+for lower, upper in (
+    (1, 0),
+    (2, 0),
+    (65535, 0),
+    (65535, 65534),
+    (6, 5),
+    (65536, 0),
+    (65536, 65535),
+    (65536, 65536),
+    (65536, None),
+    (65537, None),
+    (65540, 65541),
+    (65536 + 5, 7),
+    (131072, None),
+    (2147483648, None),
+    (U32, 0),
+    (U32, None),
+    (U32, U32),
+    (U32 - 1, U32),
+    (0, 65536),
+    (0, 65537),
+    (3, 65536 + 9),
+    (65535, 65536),
+    (0, 131071),
+    (0, 2147483648),
+    (0, U32),
+    (5, U32),
+):
+    said = "inf" if upper is None else upper
+    refused(f"interval {lower} to {said}", 12, EMPTY_1, (), (), (0, 0, lower, upper, False, 2))
+refused("interval 5 to 4, flag set", 12, EMPTY_1, (), A2, (0, 0, 5, 4, True, 3))
+# "mode over 3"
+for mode in (0, 1, 2, 3):
+    runs(f"mode {mode}", SAME, [EMPTY], (), (), (0, 0, 0, None, False, mode))
+for mode in (4, 5, 7, 255, 256, 257, 258, 259, 32768, 65535):
+    refused(f"mode {mode}", 12, EMPTY_1, (), (), (0, 0, 0, None, False, mode))
+    refused(f"mode {mode}, flag set, a2", 12, flat([A]), (), A2, (0, 0, 0, None, True, mode))
+
+
+# --- Rising order --------------------------------------------------------------------------------
+
+# "Checks run in rising number": all of 3 before any of 4, and so on. Every choice of faults from six, one of
+# each number; the answer is the lowest number chosen. In the first set the faults stand late in the input, in
+# the second early. With none, a at 5 in mode at least leaves 0 to 5, and so does a*.
+
+
+def ordered(label, chosen, ill, nodes, rules, tokens, start):
+    said = " ".join(map(str, chosen)) or "none"
+    if not chosen:
+        line = success("1 0 5 clear", 0)
+    elif chosen[0] == 7:
+        line = f"refused 7 {ill}"
+    else:
+        line = f"refused {chosen[0]}"
+    record(f"{label} {said}", nodes, rules, tokens, start, line)
+
+
+for taken in itertools.product((False, True), repeat=6):
+    chosen = [number for number, there in zip((3, 4, 5, 7, 11, 12), taken) if there]
+    node_words = flat([rule(0) if 7 in chosen else A, KIND_10 if 4 in chosen else B])
+    node_words += [0] if 3 in chosen else []
+    rules = [0, 2 if 5 in chosen else 1]
+    tokens = token_words("a5") + ([1, 1, 1] if 11 in chosen else [])
+    start = (0, 0, 0, None, False, 4 if 12 in chosen else 2)
+    ordered("late faults", chosen, 0, node_words, rules, tokens, start)
+for taken in itertools.product((False, True), repeat=6):
+    chosen = [number for number, there in zip((3, 4, 5, 7, 11, 12), taken) if there]
+    node_words = flat([(1, 256 if 4 in chosen else 1, 0, 0), EMPTY, repeat(1 if 7 in chosen else 0)])
+    rules = [3 if 5 in chosen else 2] + [0] * (128 if 3 in chosen else 1)
+    tokens = [1, 5, 0, 0, 256 if 11 in chosen else 2, 0, 0, 0]
+    start = (3 if 12 in chosen else 2, 0, 0, None, False, 2)
+    ordered("early faults", chosen, 2, node_words, rules, tokens, start)
+
+BAD_START = (1, 2, 5, 4, True, 4)
+for number, said, node_words, rules, tokens, start in (
+    (3, "3 before 12, no node and start node 0", [], [], [], START),
+    (3, "3 before 12, 3 words and start node 9", [0] * 3, [], [], (9, 0, 0, None, False, 2)),
+    (3, "3 before 11, 513 nodes and 3 token words", [0] * 2052, [], [0] * 3, START),
+    (3, "3 before 12, 129 rules and interval 5 to 4", EMPTY_1, [0] * 129, [], (0, 0, 5, 4, False, 2)),
+    (4, "4 before 11, kind 10 and column 65536", flat([KIND_10]), [], [1, 65536, 0, 0], START),
+    (
+        4,
+        "4 before 12, terminal 256 and place 1 of none",
+        flat([(1, 256, 0, 0)]),
+        [],
+        [],
+        (0, 1, 0, None, False, 2),
+    ),
+    (5, "5 before 11, a bad rule node and 4097 tokens", EMPTY_1, [1], [0] * 16388, START),
+    (5, "5 before 12, a bad rule node and it as start node", EMPTY_1, [1], [], (1, 0, 0, None, False, 2)),
+    (11, "11 before 12, 3 words and interval 5 to 4", EMPTY_1, [], [0] * 3, (0, 0, 5, 4, False, 2)),
+    (11, "11 before 12, 4097 tokens and place 4098", EMPTY_1, [], [0] * 16388, (0, 4098, 0, None, False, 2)),
+    (11, "11 before 12, 4097 tokens and place 4097", EMPTY_1, [], [0] * 16388, (0, 4097, 0, None, False, 2)),
+    (11, "11 before 12, column 65536 and mode 4", EMPTY_1, [], [0, 65536, 0, 0], (0, 0, 0, None, False, 4)),
+    (
+        11,
+        "11 before 12, terminal 256 and start node 1 of 1",
+        EMPTY_1,
+        [],
+        [256, 0, 0, 0],
+        (1, 0, 0, None, False, 2),
+    ),
+    (11, "11 before 12, column 65536 and all of 12", EMPTY_1, [], [0, 65536, 0, 0], BAD_START),
+    (12, "all of 12", EMPTY_1, [], [0, 65535, 0, 0], BAD_START),
+):
+    refused(said, number, node_words, rules, tokens, start)
+bad("7 before 11, X = X and 3 token words", 0, [rule(0)], [0], [0] * 3)
+bad("7 before 11, repeat of empty and 4097 tokens", 1, [EMPTY, repeat(0)], (), [0] * 16388)
+bad("7 before 12, X = X and interval 5 to 4", 0, [rule(0)], [0], [], (0, 0, 5, 4, False, 2))
+bad(
+    "7 before 12, repeat of empty and start node 2 of 2",
+    1,
+    [EMPTY, repeat(0)],
+    (),
+    (),
+    (2, 0, 0, None, False, 2),
+)
+bad("7 before 11 and 12", 1, [EMPTY, repeat(0)], (), [256, 65536, 0], BAD_START)
+
+
+# --- Terminal (001, clause 2) --------------------------------------------------------------------
+
+# "A terminal at column i: with the flag set, i must lie in the interval, which becomes i to i; else i must
+# lie in the mode's inner set, and the interval is met with the mode's outer set of i to i. The flag is then
+# clear." By mode, the inner set of l to h: l to h; l+1 on; l on; 0 on. The outer set of i to i: i to i; 0 to
+# i-1; 0 to i; 0 on. Answers for a at columns 0 to 9, then with the flag set, where the mode says nothing.
+FROM_3_TO_6 = {
+    "=": "- - - 3-3 4-4 5-5 6-6 - - -",
+    ">": "- - - - 3-3 3-4 3-5 3-6 3-6 3-6",
+    ">=": "- - - 3-3 3-4 3-5 3-6 3-6 3-6 3-6",
+    "any": "3-6 3-6 3-6 3-6 3-6 3-6 3-6 3-6 3-6 3-6",
+    "set": "- - - 3-3 4-4 5-5 6-6 - - -",
+}
+FROM_3 = {
+    "=": "- - - 3-3 4-4 5-5 6-6 7-7 8-8 9-9",
+    ">": "- - - - 3-3 3-4 3-5 3-6 3-7 3-8",
+    ">=": "- - - 3-3 3-4 3-5 3-6 3-7 3-8 3-9",
+    "any": "3-inf 3-inf 3-inf 3-inf 3-inf 3-inf 3-inf 3-inf 3-inf 3-inf",
+    "set": "- - - 3-3 4-4 5-5 6-6 7-7 8-8 9-9",
+}
+FROM_5_TO_5 = {
+    "=": "- - - - - 5-5 - - - -",
+    ">": "- - - - - - 5-5 5-5 5-5 5-5",
+    ">=": "- - - - - 5-5 5-5 5-5 5-5 5-5",
+    "any": "5-5 5-5 5-5 5-5 5-5 5-5 5-5 5-5 5-5 5-5",
+    "set": "- - - - - 5-5 - - - -",
+}
+FROM_0 = {
+    "=": "0-0 1-1 2-2 3-3",
+    ">": "- 0-0 0-1 0-2",
+    ">=": "0-0 0-1 0-2 0-3",
+    "any": "0-inf 0-inf 0-inf 0-inf",
+    "set": "0-0 1-1 2-2 3-3",
+}
+FROM_0_TO_0 = {
+    "=": "0-0 - - -",
+    ">": "- 0-0 0-0 0-0",
+    ">=": "0-0 0-0 0-0 0-0",
+    "any": "0-0 0-0 0-0 0-0",
+    "set": "0-0 - - -",
+}
+for start, rows in (
+    ("3 6", FROM_3_TO_6),
+    ("3 inf", FROM_3),
+    ("5 5", FROM_5_TO_5),
+    ("0 inf", FROM_0),
+    ("0 0", FROM_0_TO_0),
+):
+    for mode in MODES:
+        row("a", mode, start, rows[mode])
+        row("a", mode, start, rows["set"], flag="set")
+
+# The same at columns 65532 to 65535. No token can lie above 65535.
+for start, rows in (
+    (
+        "65534 inf",
+        {
+            "=": "- - 65534-65534 65535-65535",
+            ">": "- - - 65534-65534",
+            ">=": "- - 65534-65534 65534-65535",
+            "any": "65534-inf 65534-inf 65534-inf 65534-inf",
+            "set": "- - 65534-65534 65535-65535",
+        },
+    ),
+    (
+        "65535 inf",
+        {
+            "=": "- - - 65535-65535",
+            ">": "- - - -",
+            ">=": "- - - 65535-65535",
+            "any": "65535-inf 65535-inf 65535-inf 65535-inf",
+            "set": "- - - 65535-65535",
+        },
+    ),
+    (
+        "65535 65535",
+        {
+            "=": "- - - 65535-65535",
+            ">": "- - - -",
+            ">=": "- - - 65535-65535",
+            "any": "65535-65535 65535-65535 65535-65535 65535-65535",
+            "set": "- - - 65535-65535",
+        },
+    ),
+    (
+        "0 65535",
+        {
+            "=": "65532-65532 65533-65533 65534-65534 65535-65535",
+            ">": "0-65531 0-65532 0-65533 0-65534",
+            ">=": "0-65532 0-65533 0-65534 0-65535",
+            "any": "0-65535 0-65535 0-65535 0-65535",
+            "set": "65532-65532 65533-65533 65534-65534 65535-65535",
+        },
+    ),
+    (
+        "0 inf",
+        {
+            "=": "65532-65532 65533-65533 65534-65534 65535-65535",
+            ">": "0-65531 0-65532 0-65533 0-65534",
+            ">=": "0-65532 0-65533 0-65534 0-65535",
+            "any": "0-inf 0-inf 0-inf 0-inf",
+            "set": "65532-65532 65533-65533 65534-65534 65535-65535",
+        },
+    ),
+    (
+        "0 65533",
+        {
+            "=": "65532-65532 65533-65533 - -",
+            ">": "0-65531 0-65532 0-65533 0-65533",
+            ">=": "0-65532 0-65533 0-65533 0-65533",
+            "any": "0-65533 0-65533 0-65533 0-65533",
+            "set": "65532-65532 65533-65533 - -",
+        },
+    ),
+):
+    for mode in MODES:
+        row("a", mode, start, rows[mode], first=65532)
+        row("a", mode, start, rows["set"], flag="set", first=65532)
+
+# "A terminal also fails at the token count and at another terminal".
+for mode in MODES:
+    for flag in ("clear", "set"):
+        given("a", mode, "b5", "failure", flag=flag)
+        given("a", mode, "b5 a5", "failure", flag=flag)
+        given("a", mode, "a5", "failure", flag=flag, place=1)
+runs("terminal 0 at a token of terminal 0", "1 0 4 clear", [(1, 0, 0, 0)], (), [0, 4, 0, 0])
+runs("terminal 0 at a token of terminal 1", "failure", [(1, 0, 0, 0)], (), [1, 4, 0, 0])
+runs("terminal 255 at a token of terminal 255", "1 0 4 clear", [(1, 255, 0, 0)], (), [255, 4, 0, 0])
+runs("terminal 255 at a token of terminal 254", "failure", [(1, 255, 0, 0)], (), [254, 4, 0, 0])
+runs("terminal 4 at a token of terminal 3 at column 4", "failure", [(1, 4, 0, 0)], (), [3, 4, 4, 4])
+
+
+# --- Position (001, clause 9) --------------------------------------------------------------------
+
+# "Position changes the mode for its child": the rows are those of the terminal in the inner mode, whatever
+# the outer one; with the flag set the inner mode says nothing either.
+for inner in MODES:
+    for outer in MODES:
+        row(f"a_{inner}", outer, "3 6", FROM_3_TO_6[inner])
+        row(f"a_{inner}", outer, "3 6", FROM_3_TO_6["set"], flag="set")
+    row(f"a_{inner}", "=", "3 inf", FROM_3[inner])
+# The inner of two positions counts (001, Theorem 2.4, "Cancellation of outer token modes").
+for inner in MODES:
+    for outer in MODES:
+        row(f"a_{inner}_{outer}", ">=", "5 5", FROM_5_TO_5[inner])
+
+
+# --- Indent (001, clause 8) ----------------------------------------------------------------------
+
+# "Indent: the child gets the inner set of S; after its success S is met with the outer set of its set, the
+# rest as it left it." Rows for a at columns 0 to 9. An indent by equal changes nothing (001, Theorem 2.4,
+# "Identity indentation law").
+#
+# From 3 to 6. Greater: inside 4 on. Mode = leaves i to i, outside 0 to i-1; mode > leaves 4 to i-1, outside 0
+# to i-2; mode >= leaves 4 to i, outside 0 to i-1; mode any leaves 4 on, "without end less 1 is without end".
+# At least: inside 3 on. Mode = leaves i to i, mode > 3 to i-1, mode >= 3 to i, mode any 3 on; outside 0 to
+# the same upper end. Any: inside 0 on, outside 0 on. Each is met with 3 to 6.
+for relation, mode, answers in (
+    (">", "=", "- - - - 3-3 3-4 3-5 3-6 3-6 3-6"),
+    (">", ">", "- - - - - 3-3 3-4 3-5 3-6 3-6"),
+    (">", ">=", "- - - - 3-3 3-4 3-5 3-6 3-6 3-6"),
+    (">", "any", "3-6 3-6 3-6 3-6 3-6 3-6 3-6 3-6 3-6 3-6"),
+    (">=", "=", "- - - 3-3 3-4 3-5 3-6 3-6 3-6 3-6"),
+    (">=", ">", "- - - - 3-3 3-4 3-5 3-6 3-6 3-6"),
+    (">=", ">=", "- - - 3-3 3-4 3-5 3-6 3-6 3-6 3-6"),
+    (">=", "any", "3-6 3-6 3-6 3-6 3-6 3-6 3-6 3-6 3-6 3-6"),
+    ("any", "=", "3-6 3-6 3-6 3-6 3-6 3-6 3-6 3-6 3-6 3-6"),
+    ("any", ">", "- 3-6 3-6 3-6 3-6 3-6 3-6 3-6 3-6 3-6"),
+    ("any", ">=", "3-6 3-6 3-6 3-6 3-6 3-6 3-6 3-6 3-6 3-6"),
+    ("any", "any", "3-6 3-6 3-6 3-6 3-6 3-6 3-6 3-6 3-6 3-6"),
+):
+    row(f"a^{relation}", mode, "3 6", answers)
+for mode in MODES:
+    row("a^=", mode, "3 6", FROM_3_TO_6[mode])
+
+# With the flag set the token must lie in the inner set and leaves i to i, in every mode: under greater 4 on
+# and outside 0 to i-1, under at least 3 on and outside 0 to i, under any 0 on and outside 0 on. Align outside
+# or inside the indent is the same (001, Theorem 2.4, "Distributivity of indentation and alignment").
+for relation, answers in (
+    ("=", "- - - 3-3 4-4 5-5 6-6 - - -"),
+    (">", "- - - - 3-3 3-4 3-5 3-6 3-6 3-6"),
+    (">=", "- - - 3-3 3-4 3-5 3-6 3-6 3-6 3-6"),
+    ("any", "3-6 3-6 3-6 3-6 3-6 3-6 3-6 3-6 3-6 3-6"),
+):
+    for mode in MODES:
+        row(f"a^{relation}", mode, "3 6", answers, flag="set")
+    for mode in (">", "any"):
+        row(f"[a]^{relation}", mode, "3 6", answers)
+        row(f"[a^{relation}]", mode, "3 6", answers)
+
+# From 3 on: the same without the old upper end.
+for relation, mode, answers in (
+    (">", "=", "- - - - 3-3 3-4 3-5 3-6 3-7 3-8"),
+    (">", ">", "- - - - - 3-3 3-4 3-5 3-6 3-7"),
+    (">", ">=", "- - - - 3-3 3-4 3-5 3-6 3-7 3-8"),
+    (">", "any", "3-inf 3-inf 3-inf 3-inf 3-inf 3-inf 3-inf 3-inf 3-inf 3-inf"),
+    (">=", "=", "- - - 3-3 3-4 3-5 3-6 3-7 3-8 3-9"),
+    (">=", ">", "- - - - 3-3 3-4 3-5 3-6 3-7 3-8"),
+    (">=", ">=", "- - - 3-3 3-4 3-5 3-6 3-7 3-8 3-9"),
+    (">=", "any", "3-inf 3-inf 3-inf 3-inf 3-inf 3-inf 3-inf 3-inf 3-inf 3-inf"),
+    ("any", "=", "3-inf 3-inf 3-inf 3-inf 3-inf 3-inf 3-inf 3-inf 3-inf 3-inf"),
+    ("any", ">", "- 3-inf 3-inf 3-inf 3-inf 3-inf 3-inf 3-inf 3-inf 3-inf"),
+    ("any", ">=", "3-inf 3-inf 3-inf 3-inf 3-inf 3-inf 3-inf 3-inf 3-inf 3-inf"),
+    ("any", "any", "3-inf 3-inf 3-inf 3-inf 3-inf 3-inf 3-inf 3-inf 3-inf 3-inf"),
+):
+    row(f"a^{relation}", mode, "3 inf", answers)
+for mode in MODES:
+    row("a^=", mode, "3 inf", FROM_3[mode])
+
+# From 5 to 5: what succeeds leaves 5 to 5. From 0 to 0: what succeeds leaves 0 to 0; "greater" on the way out
+# of 1 to 1 is 0 to 0.
+for relation, mode, answers in (
+    (">", "=", "- - - - - - 5-5 5-5 5-5 5-5"),
+    (">", ">", "- - - - - - - 5-5 5-5 5-5"),
+    (">", ">=", "- - - - - - 5-5 5-5 5-5 5-5"),
+    (">", "any", "5-5 5-5 5-5 5-5 5-5 5-5 5-5 5-5 5-5 5-5"),
+    (">=", "=", "- - - - - 5-5 5-5 5-5 5-5 5-5"),
+    (">=", ">", "- - - - - - 5-5 5-5 5-5 5-5"),
+    (">=", ">=", "- - - - - 5-5 5-5 5-5 5-5 5-5"),
+    (">=", "any", "5-5 5-5 5-5 5-5 5-5 5-5 5-5 5-5 5-5 5-5"),
+    ("any", "=", "5-5 5-5 5-5 5-5 5-5 5-5 5-5 5-5 5-5 5-5"),
+    ("any", ">", "- 5-5 5-5 5-5 5-5 5-5 5-5 5-5 5-5 5-5"),
+):
+    row(f"a^{relation}", mode, "5 5", answers)
+for relation, mode, answers in (
+    (">", "=", "- 0-0 0-0 0-0"),
+    (">", ">", "- - 0-0 0-0"),
+    (">", ">=", "- 0-0 0-0 0-0"),
+    (">", "any", "0-0 0-0 0-0 0-0"),
+    (">=", "=", "0-0 0-0 0-0 0-0"),
+    (">=", ">", "- 0-0 0-0 0-0"),
+    (">=", ">=", "0-0 0-0 0-0 0-0"),
+    (">=", "any", "0-0 0-0 0-0 0-0"),
+    ("any", "=", "0-0 0-0 0-0 0-0"),
+    ("any", ">", "- 0-0 0-0 0-0"),
+):
+    row(f"a^{relation}", mode, "0 0", answers)
+row("a^>", "=", "0 0", "- 0-0 0-0 0-0", flag="set")
+row("a^any", ">", "0 0", "0-0 0-0 0-0 0-0", flag="set")
+
+# From 0 on, greater on the way out down to 0.
+row("a^>", "=", "0 inf", "- 0-0 0-1 0-2")
+row("a^>", ">", "0 inf", "- - 0-0 0-1")
+row("a^>", ">=", "0 inf", "- 0-0 0-1 0-2")
+row("a^>", "any", "0 inf", "0-inf 0-inf 0-inf 0-inf")
+row("a^>=", "=", "0 inf", "0-0 0-1 0-2 0-3")
+row("a^>=", ">", "0 inf", "- 0-0 0-1 0-2")
+
+# A child that reads nothing leaves its set; outside, S is met with the outer set of the inner set of S, which
+# holds S. The flag is "as it left it".
+for relation in MODES:
+    for start in ("3 6", "3 inf", "5 5", "0 0", "0 inf", "65535 65535", "65535 inf"):
+        for flag in ("clear", "set"):
+            given(f"empty^{relation}", ">", "a0", f"0 {start} {flag}", start=start, flag=flag)
+given("(!a)^>", ">", "b0", "0 3 6 set", start="3 6", flag="set")
+given("(a*)^>", ">", "a2", "0 3 6 set", start="3 6", flag="set")
+given("(a*)^>", ">", "a2", "0 3 6 clear", start="3 6")
+
+# Nested indents; the last one written is the outer one.
+# From 0 on: 1 on, 2 on; i to i; met 1 to i-1; met 0 to i-2.
+row("a^>^>", "=", "0 inf", "- - 0-0 0-1 0-2 0-3")
+# Mode greater needs 3 or more: 2 to i-1; 1 to i-2; 0 to i-3.
+row("a^>^>", ">", "0 inf", "- - - 0-0 0-1 0-2")
+# 3 on inside; 3 to i; 2 to i-1; 1 to i-2; 0 to i-3.
+row("a^>^>^>", ">=", "0 inf", "- - - 0-0 0-1 0-2")
+row("a^>^>^>", "any", "0 inf", "0-inf 0-inf 0-inf 0-inf")
+# From 3 to 6. Inside 4 on in both, mode equal: i to i; then greater and at least, in either order, 0 to i-1.
+row("a^>^>=", "=", "3 6", "- - - - 3-3 3-4 3-5 3-6 3-6")
+row("a^>=^>", "=", "3 6", "- - - - 3-3 3-4 3-5 3-6 3-6")
+# Greater then any: inside 0 on; the any leaves 4 on; outside 0 on less 1.
+row("a^any^>", "=", "3 6", "3-6 3-6 3-6 3-6 3-6 3-6 3-6 3-6 3-6")
+# Any then greater: inside 1 on; greater leaves 0 to i-1; any 0 on.
+row("a^>^any", "=", "3 6", "- 3-6 3-6 3-6 3-6 3-6 3-6 3-6 3-6")
+# At least twice is at least (001, "Composition law of indentations").
+row("a^>=^>=", "=", "3 6", "- - - 3-3 3-4 3-5 3-6 3-6 3-6")
+# Equal in between changes nothing.
+row("a^=^>^=", "=", "3 6", "- - - - 3-3 3-4 3-5 3-6 3-6")
+# With the flag set, inside 5 on; i to i; met 4 to i-1; met 3 to i-2.
+row("a^>^>", ">", "3 6", "- - - - - 3-3 3-4 3-5 3-6", flag="set")
+# A position may stand on either side of an indent (001, Theorem 2.3).
+row("a^>_=", ">", "3 6", "- - - - 3-3 3-4 3-5 3-6 3-6")
+row("a_=^>", ">", "3 6", "- - - - 3-3 3-4 3-5 3-6 3-6")
+
+# More than one token in an indent: one baseline for both.
+# Inside 1 on; 3 to 3; 3 to 3; outside 0 to 2.
+given("(a b)^>", "=", "a3 b3", "2 0 2 clear")
+given("(a b)^>", "=", "a3 b4", "failure")
+# Inside 1 on; 1 to 3; 1 to 2; outside 0 to 1.
+given("(a b)^>", ">=", "a3 b2", "2 0 1 clear")
+given("(a b)^>", ">=", "a3 b1", "2 0 0 clear")
+given("(a b)^>", ">=", "a3 b0", "failure")
+# Inside 1 on; 1 to 2; 1 to 1; outside 0 to 0.
+given("(a b)^>", ">", "a3 b2", "2 0 0 clear")
+given("(a b)^>", ">", "a3 b1", "failure")
+# Two indents have two baselines: 0 to 2, then inside 1 on, 1 to 1, 0 to 0.
+given("a^> b^>", "=", "a3 b1", "2 0 0 clear")
+given("a^> b^>", "=", "a1 b3", "2 0 0 clear")
+# 0 to 2; then b on its own in mode equal.
+given("a^> b", "=", "a3 b2", "2 2 2 clear")
+given("a^> b", "=", "a3 b0", "2 0 0 clear")
+given("a^> b", "=", "a3 b3", "failure")
+# b at the baseline, then a right of it, then b at it again.
+given("b a^> b", "=", "b2 a3 b2", "3 2 2 clear")
+given("b a^> b", "=", "b2 a2 b2", "failure")
+given("b a^> b", "=", "b2 a3 b3", "failure")
+# 2 to 2; inside 3 on: 4 to 4, outside met 3 to 3; then in the inner block b at 3; out 0 to 2 met 2 to 2.
+given("b (a^> b)^>", "=", "b2 a4 b3", "3 2 2 clear")
+given("b (a^> b)^>", "=", "b2 a4 b4", "failure")
+given("b (a^> b)^>", "=", "b2 a3 b3", "failure")
+# "Any other child's failure is its parent's."
+given("a^>", ">", "b5", "failure")
+given("a^>", ">", "", "failure")
+given("(a b)^any", "=", "a3 b4", "failure")
+
+
+# --- Empty and rule (001, clauses 1 and 3) -------------------------------------------------------
+
+# "Empty changes nothing."
+for start in ("0 inf", "3 6", "5 5", "65535 inf"):
+    for flag in ("clear", "set"):
+        given("empty", "=", "a9", f"0 {start} {flag}", start=start, flag=flag)
+# "A rule is its node."
+given("X", ">", "a5", "1 0 4 clear", rules="X = a")
+given("X", ">", "a5", "1 5 5 clear", rules="X = a", flag="set")
+given("X", ">", "b5", "failure", rules="X = a")
+given("X", ">", "a5", "0 0 inf set", rules="X = empty", flag="set")
+given("X", ">", "a5", "1 0 4 clear", rules="X = Y; Y = Z; Z = a")
+given("Z X Y", ">=", "c9 a4 b5", "3 0 4 clear", rules="X = a; Y = b; Z = c")
+given("Y X Z", ">=", "c9 a4 b5", "failure", rules="X = a; Y = b; Z = c")
+# "Position changes the mode for its child, through rules too."
+given("X_>", "=", "a5", "1 0 4 clear", rules="X = a")
+given("X_any", "=", "a0", "1 3 6 clear", rules="X = a", start="3 6")
+given("X_>", "=", "a5 b3", "2 0 2 clear", rules="X = a Y; Y = b")
+given("X_>", "=", "a5 b3", "2 3 3 clear", rules="X = a Y; Y = b_=", start="3 inf")
+given("X_=", "any", "a5", "1 0 4 clear", rules="X = Y_>; Y = a")
+given("X_=_any", ">", "a5 b5", "2 5 5 clear", rules="X = Y Z; Y = a; Z = b")
+given("X_=_any", ">", "a5 b6", "failure", rules="X = Y Z; Y = a; Z = b")
+# And only for its child.
+given("X b", "=", "a9 b3", "2 3 3 clear", rules="X = a_any", start="3 6")
+given("X b", "=", "a9 b9", "failure", rules="X = a_any", start="3 6")
+given("X_any Y", "=", "a9 b4", "2 4 4 clear", rules="X = a; Y = b", start="3 6")
+given("X_any X", "=", "a9 a4", "2 4 4 clear", rules="X = a", start="3 6")
+given("X X_any", "=", "a4 a9", "2 4 4 clear", rules="X = a", start="3 6")
+# Indents and aligns through rules.
+given("X^>", "=", "a5", "1 0 4 clear", rules="X = a")
+given("[X]", ">", "a5", "1 5 5 clear", rules="X = Y; Y = a b / a")
+given("[X]^>", ">=", "a2 b3", "2 0 1 clear", rules="X = a Y; Y = b")
+given("Y^> b", "=", "a4 b3", "2 3 3 clear", rules="X = a; Y = [X]")
+given("X a", ">", "a5", "1 0 4 clear", rules="X = [empty]")
+
+
+# --- Sequence (001, clause 4) --------------------------------------------------------------------
+
+# "Sequence: a, then b from where a ended."
+given("a b", "=", "a2 b2", "2 2 2 clear")
+given("a b", "=", "a2 b3", "failure")
+given("a b", ">", "a2 b3", "2 0 1 clear")
+given("a b", ">", "a3 b1", "2 0 0 clear")
+given("a b", ">", "a3 b0", "failure")
+given("a b", ">=", "a2 b3", "2 0 2 clear")
+given("a b", ">=", "a3 b2", "2 0 2 clear")
+given("a b", ">=", "a3 b0", "2 0 0 clear")
+given("a b", "any", "a9 b0", "2 0 inf clear")
+given("a b", "any", "a9 b0", "2 3 6 clear", start="3 6")
+given("a b", ">=", "a9 b3", "2 3 3 clear", start="3 6")
+given("a b", ">=", "a9 b2", "failure", start="3 6")
+given("a b", ">", "a4 b9", "2 3 3 clear", start="3 6")
+# Failures of the first and of the second.
+given("a b", "any", "b1 b1", "failure")
+given("a b", "any", "a1 a1", "failure")
+given("a b", "any", "a1", "failure")
+given("a b", "any", "", "failure")
+# More than what is read stays.
+given("a b", "any", "a1 b2 c3", "2 0 inf clear")
+# "The flag is then clear": only the first token is aligned. 2 to 2, then b by the mode.
+given("a b", "=", "a2 b2", "2 2 2 clear", flag="set")
+given("a b", ">", "a2 b3", "2 2 2 clear", flag="set")
+given("a b", ">", "a2 b2", "failure", flag="set")
+given("a b", ">=", "a2 b2", "2 2 2 clear", flag="set")
+given("a b", ">=", "a2 b1", "failure", flag="set")
+given("a b", "any", "a2 b0", "2 2 2 clear", flag="set")
+given("a b", "any", "a2 b0", "failure", flag="set", start="3 6")
+given("empty a", ">", "a5", "1 5 5 clear", flag="set")
+given("a empty", ">", "a5", "1 0 4 clear")
+given("empty empty", ">", "a5", "0 3 6 set", flag="set", start="3 6")
+# Narrowing step by step: 0 to 9, 0 to 7, 0 to 7, 0 to 4; then 4 to 4.
+given("a_>= b_> c_> d_>=", "=", "a9 b8 c9 d4", "4 0 4 clear")
+given("a_>= b_> c_> d_>= e", "=", "a9 b8 c9 d4 e4", "5 4 4 clear")
+given("a_>= b_> c_> d_>= e", "=", "a9 b8 c9 d4 e5", "failure")
+# Sequences nested to either side are the same.
+given("((a b) c) d", ">=", "a4 b3 c2 d7", "4 0 2 clear")
+given("a (b (c d))", ">=", "a4 b3 c2 d7", "4 0 2 clear")
+# The mode comes back after a position that failed or ended last in the first part.
+given("(a b_any) c", "=", "a3 b9 c3", "3 3 3 clear")
+given("(a b_any) c", "=", "a3 b9 c4", "failure")
+
+
+# --- Choice (001, clause 5) ----------------------------------------------------------------------
+
+# "Choice: a, or if a fails b from the old state."
+given("a / b", ">", "a5", "1 0 4 clear")
+given("a / b", ">", "b5", "1 0 4 clear")
+given("a / b", ">", "c5", "failure")
+given("a / b", ">", "", "failure")
+given("a / empty", ">", "b5", "0 0 inf clear")
+given("a / empty", ">", "b5", "0 3 6 set", start="3 6", flag="set")
+given("a / empty", "=", "a7", "0 3 6 clear", start="3 6")
+given("empty / a", ">", "a5", "0 0 inf clear")
+given("a / b / c", ">=", "c5", "1 0 5 clear")
+given("(a / b) / c", ">=", "b5", "1 0 5 clear")
+# The same terminal twice: the second may take what the first did not.
+given("a / a_any", "=", "a7", "1 3 6 clear", start="3 6")
+given("a_any / a", "=", "a4", "1 3 6 clear", start="3 6")
+given("a^> / a", "=", "a3", "1 3 3 clear", start="3 6")
+# A first part that succeeded is not gone back to.
+given("(a / a b) c", "any", "a1 b1 c1", "failure")
+given("(a b / a) c", "any", "a1 c1", "2 0 inf clear")
+given("(a b / a) c", "any", "a1 b1 c1", "3 0 inf clear")
+# "Trying the second alternative with the first one's narrowed interval": a leaves 2 to 2 and b fails; the
+# second starts from 0 on again.
+given("a b / a_any c", "=", "a2 c5", "2 5 5 clear")
+given("a b / (a c)_any", "=", "a2 c5", "2 0 inf clear")
+given("a b / (a c)_any", "=", "a4 c9", "2 3 6 clear", start="3 6")
+given("a b / empty", "=", "a2 c2", "0 0 inf clear")
+given("a b / empty", ">", "a5 c2", "0 3 6 clear", start="3 6")
+given("a_>= b / a_>= b_any", "=", "a4 b9", "2 0 4 clear")
+# The flag goes back too: a at 2 is aligned in both; a_> at 2 with a clear flag would leave 0 to 1.
+given("a b / a_> c", "=", "a2 c2", "2 2 2 clear", flag="set")
+given("a b / empty", "=", "a2 c2", "0 0 inf set", flag="set")
+given("a b / c", "=", "a2 c2", "failure", flag="set")
+# Align's flag does not stay: a at 5 in mode greater leaves 0 to 4.
+given("[a b] / a c", ">", "a5 c6", "2 0 4 clear")
+given("[a] / a", ">", "a2", "failure", start="3 6")
+given("[a] / a", ">", "a9", "1 3 6 clear", start="3 6")
+# The indent's interval does not stay: from 2 to 2 the inner set is 3 on.
+given("(a b)^> / a c", "=", "a2 c2", "2 2 2 clear", start="2 2")
+given("(a b)^> / a c", "=", "a3 c3", "failure", start="2 2")
+given("(a b)^> / (a c)^>", "=", "a3 c3", "2 2 2 clear", start="2 2")
+# The position's mode does not stay: c must stand at 3.
+given("(a b)_any / a c", "=", "a3 c3", "2 3 3 clear")
+given("(a b)_any / a c", "=", "a3 c4", "failure")
+given("(a b)_any / a_any c", "=", "a3 c4", "2 4 4 clear")
+# Narrowed by what came before the choice, not by its first part.
+given("a (b_>= c / b_any d)", ">=", "a9 b4 d1", "3 0 1 clear")
+given("a (b c / b_any)", ">=", "a9 b4 d1", "2 0 9 clear")
+given("a (b c / empty)", ">=", "a9 b4 d1", "1 0 9 clear")
+# Three alternatives, two of them narrowing.
+given("a_= b / a_> c / a_any d", "=", "a5 d9", "2 9 9 clear")
+given("(a_= b / a_> c) / a_>= d", "=", "a5 d4", "2 4 4 clear")
+given("(a_= b / a_> c) / a_>= d", "=", "a5 d6", "failure")
+
+
+# --- Not (001, clause 6) -------------------------------------------------------------------------
+
+# "Not succeeds exactly if its child fails", "Not and failure hand the old state on."
+given("!a", ">", "b5", "0 0 inf clear")
+given("!a", ">", "a5", "failure")
+given("!a", ">", "a0", "0 0 inf clear")
+given("!a", ">", "", "0 0 inf clear")
+given("!a", "=", "a7", "0 3 6 clear", start="3 6")
+given("!a", "=", "a6", "failure", start="3 6")
+given("!a", "any", "a7", "0 3 6 set", start="3 6", flag="set")
+given("!a", "any", "a6", "failure", start="3 6", flag="set")
+given("!empty", ">", "", "failure")
+given("!!empty", ">", "", "0 0 inf clear")
+given("!!a", "=", "a2", "0 0 inf clear")
+given("!!a", "=", "a2", "0 0 inf set", flag="set")
+given("!!a", "=", "b2", "failure")
+given("!!!a", "=", "b2", "0 0 inf clear")
+given("!!a a", "=", "a2", "1 2 2 clear")
+given("!!a a", ">", "a2", "1 2 2 clear", flag="set")
+given("!!a a_any", "=", "a2", "1 0 inf clear")
+# A child that narrows before it fails: a leaves 2 to 2, b fails; a_any leaves 0 on, and c is at 5.
+given("!(a b) a_any c", "=", "a2 c5", "2 5 5 clear")
+given("!(a b) a c", "=", "a2 c5", "failure")
+given("!(a b)", "=", "a2 c5", "0 3 6 clear", start="3 6")
+given("!(a b)", "=", "a4 c5", "0 3 6 set", start="3 6", flag="set")
+given("!(a b) a", ">", "a4 c5", "1 4 4 clear", start="3 6", flag="set")
+# The child's align, indent and position are gone with it.
+given("![a] b", ">", "b5", "1 0 4 clear")
+given("!(a^>) a", "=", "a3", "1 3 3 clear", start="3 6")
+given("!(a^>) a", "=", "a4", "failure", start="3 6")
+given("!((a b)_any) a", "=", "a9 c9", "failure", start="3 6")
+given("!((a b)_any) a", "=", "a5 c9", "1 5 5 clear", start="3 6")
+given("!(a b_any) a c", "=", "a5 c9", "failure", start="3 6")
+given("!(a b_any) a c", "=", "a5 c5", "2 5 5 clear", start="3 6")
+# Forms around a not.
+given("[!a]", ">", "b5", "0 3 6 clear", start="3 6")
+given("[!a]", ">", "a7", "0 3 6 clear", start="3 6")
+given("[!a]", ">", "a5", "failure", start="3 6")
+given("[!a]", ">", "b5", "0 3 6 set", start="3 6", flag="set")
+given("(!a)^>", "=", "a3", "0 3 6 clear", start="3 6")
+given("(!a)^>", "=", "a4", "failure", start="3 6")
+given("(!a)_any", "=", "a9", "failure", start="3 6")
+given("(!a b)*", ">=", "b4 b2 a9", "2 0 2 clear")
+
+
+# --- Repeat (001, clause 7) ----------------------------------------------------------------------
+
+# "Repeat: success in the old state if the child fails, else the repeat again from where the child ended."
+given("a*", ">", "", "0 0 inf clear")
+given("a*", ">", "b5", "0 0 inf clear")
+given("a*", ">", "b5", "0 3 6 set", start="3 6", flag="set")
+given("a*", "=", "a7", "0 3 6 clear", start="3 6")
+given("a*", "=", "a2", "1 2 2 clear")
+# Each round narrows: at least 0 to 5, 0 to 3, 0 to 3; greater one less each; equal stops at the third.
+given("a*", ">=", "a5 a3 a4", "3 0 3 clear")
+given("a*", ">", "a5 a3 a4", "3 0 2 clear")
+given("a*", "=", "a2 a2 a3", "2 2 2 clear")
+given("a*", "any", "a5 a0 a9", "3 0 inf clear")
+given("a*", ">", "a5 a3 a1 a0", "3 0 0 clear")
+given("a*", ">=", "a5 a4 a3 a2 a1 a0", "6 0 0 clear")
+given("a*", ">=", "a5 a4 a3 a2 a1 a0", "3 3 3 clear", start="3 6")
+given("a*", ">", "a9 a8 a7 a6 a5 a4 a3", "6 3 3 clear", start="3 6")
+# The flag is for the first token only: 2 to 2, then by the mode.
+given("a*", ">", "a2 a3 a2", "2 2 2 clear", flag="set")
+given("a*", ">=", "a2 a3 a2", "3 2 2 clear", flag="set")
+given("a*", "any", "a7 a3 a2", "0 3 6 set", start="3 6", flag="set")
+# What follows starts where the last round ended.
+given("a* b", ">=", "a5 a3 b9", "3 0 3 clear")
+given("a* b", "=", "a5 a5 b5", "3 5 5 clear")
+given("a* b", "=", "a5 a5 b6", "failure")
+given("a* b", "=", "b6", "1 6 6 clear")
+given("a* a", "any", "a1 a1", "failure")
+given("a* a_any", "=", "a1 a1 a2", "3 1 1 clear")
+# A round whose second part fails is gone back on: the second a would leave 0 to 3.
+given("(a_>= b_any)*", "=", "a5 b0 a3 c0", "2 0 5 clear")
+given("(a_>= b_any)* a_any c_any", "=", "a5 b0 a3 c0", "4 0 5 clear")
+given("(a_>= b_any)* a c_any", "=", "a5 b0 a3 c0", "4 3 3 clear")
+given("(a b)*", ">=", "a4 b3 a2 b1 a0 c0", "4 0 1 clear")
+given("(a b)*", ">=", "a4 c4", "0 0 inf set", flag="set")
+given("(a b)* a", "=", "a4 c4", "1 4 4 clear", flag="set")
+given("(a b)*", ">=", "a4 b4 a4", "2 0 4 clear")
+given("(a b)*", "=", "a4 b4 a4 b5", "2 4 4 clear")
+given("(a b / a c)*", ">=", "a4 b4 a3 c3 a2 d2", "4 0 3 clear")
+given("(a / b)*", ">", "a9 b7 b8 a3 c1", "4 0 2 clear")
+# Repeats in repeats.
+given("(a* b)*", ">=", "a9 a8 b7 b6 a5 b4 a3", "6 0 4 clear")
+given("(a b*)*", ">=", "a9 b8 b7 a6 a5 b4 c3", "6 0 4 clear")
+given("(a b*)*", "=", "a2 b2 b2 a2 b3 a2", "4 2 2 clear")
+# A position in a round holds for its child only: b must stand at 2 in every round.
+given("(b a_>)*", "=", "b2 a3 b2 a5", "4 2 2 clear")
+given("(b a_>)*", "=", "b2 a3 b3 a5", "2 2 2 clear")
+given("(a_> b)*", "=", "a3 b2 a5 b2", "4 2 2 clear")
+given("(a_> b)*", "=", "a3 b2 a2 b2", "2 2 2 clear")
+given("(b / a_>)*", "=", "b2 a3 b2 a5 b3", "4 2 2 clear")
+given("(a_any)* b", "=", "a9 a0 b4", "3 4 4 clear", start="3 6")
+given("((a b)_any)* a c", "=", "a9 b0 a4 c4", "4 4 4 clear", start="3 6")
+given("((a b)_any)* a c", "=", "a9 b0 a4 c5", "failure", start="3 6")
+given("((a b)^>)* a c", "=", "a4 b4 a4 c4", "failure", start="3 6")
+given("((a b)^>)* a c", "=", "a5 b5 a4 c4", "4 4 4 clear", start="3 6")
+given("([a b])* a c", ">", "a4 b5 a5 c6", "4 4 4 clear", start="3 6")
+given("([a b])* a c", ">", "a4 b5 a4 c6", "failure", start="3 6")
+# Indents in rounds: each has its own baseline, met outside. 0 to 4, then inside 1 on: 3 to 3, 0 to 2; then 7
+# to 7, 0 to 2.
+given("(a^>)*", "=", "a5 a3 a7", "3 0 2 clear")
+given("(a^>)*", "=", "a5 a1 a0", "2 0 0 clear")
+given("(a^>)*", ">", "a5 a3 a1", "2 0 1 clear")
+# One indent around all rounds: inside 1 on; at least 1 to 5, 1 to 3, and a0 fails; outside 0 to 2.
+given("(a*)^>", ">=", "a5 a3 a0", "2 0 2 clear")
+given("(a*)^>", "=", "a5 a5 a3", "2 0 4 clear")
+# An align in each round: each first token at the baseline.
+given("[a]*", ">", "a2 a2 a3", "2 2 2 clear")
+given("[a b*]*", ">", "a2 b4 b3 a2 b5", "5 2 2 clear")
+given("[a b*]*", ">", "a2 b4 b2 a2 b5", "2 2 2 clear")
+given("([a b*]*)^>", ">", "a2 b4 b3 a2 b5", "5 0 1 clear")
+given("([a b*]*)^>", ">", "a2 b4 b3 a2 b5", "0 2 inf clear", start="2 inf")
+given("([a b*]*)^>", ">", "a3 b4 b5 a3 b5", "5 2 2 clear", start="2 inf")
+# The align that failed last does not leave its flag: b by the mode, greater than 2.
+given("[a]* b", ">", "a2 b3", "2 2 2 clear")
+given("[a]* b", ">", "a2 b2", "failure")
+given("[a]* b", ">", "b5", "1 0 4 clear")
+given("[a]* b", ">", "b5", "1 5 5 clear", flag="set")
+
+
+# --- Align (001, clause 10) ----------------------------------------------------------------------
+
+# "Align sets the flag inside; after success it is set exactly if it was set both before and at the inner
+# end."
+for mode in MODES:
+    given("[a]", mode, "a5", "1 5 5 clear")
+    given("[a]", mode, "a5", "1 5 5 clear", start="3 6")
+    given("[a]", mode, "a5", "1 5 5 clear", start="3 6", flag="set")
+    given("[a]", mode, "a7", "failure", start="3 6")
+    given("[a]", mode, "a2", "failure", start="3 6")
+    given("[a]", mode, "b5", "failure")
+    given("[a]", mode, "", "failure")
+    given("[empty]", mode, "a5", "0 3 6 clear", start="3 6")
+    given("[empty]", mode, "a5", "0 3 6 set", start="3 6", flag="set")
+# "Leaving the flag set after an align that read nothing": empty, no round, a not, an alternative that reads
+# nothing, an indent over empty, an align over empty, a rule over empty.
+NOTHING = ("[empty]", "[b*]", "[!b]", "[b / empty]", "[empty^>]", "[[empty]]", "[empty empty]", "[(b*)_any]")
+for nothing in NOTHING:
+    given(f"{nothing} a", ">", "a5", "1 0 4 clear", name=f"case h with {nothing}")
+    given(f"{nothing} a", ">", "a5", "1 5 5 clear", flag="set", name=f"case h with {nothing}")
+    given(f"{nothing} a", ">", "a7", "1 3 6 clear", start="3 6", name=f"case h with {nothing}")
+    given(f"{nothing} a", ">", "a7", "failure", start="3 6", flag="set", name=f"case h with {nothing}")
+given("[X] a", ">", "a5", "1 0 4 clear", rules="X = empty")
+given("[X] a", ">", "a5", "1 5 5 clear", rules="X = empty", flag="set")
+# What reads nothing first leaves the flag set inside, for the next token there.
+for first in ("empty", "b*", "!b", "(b / empty)", "empty^>", "[empty]", "(b*)^any"):
+    given(f"[{first} a]", ">", "a5", "1 5 5 clear")
+    given(f"[{first} a]", ">", "a7", "failure", start="3 6")
+# What reads something first takes the alignment: b at 3, then a by the mode.
+given("[b* a]", ">", "b3 a5", "2 3 3 clear")
+given("[b* a]", ">", "b3 a3", "failure")
+given("[(b / empty) a]", ">", "b3 a5", "2 3 3 clear")
+# Only the first token is aligned.
+given("[a b]", "=", "a2 b2", "2 2 2 clear")
+given("[a b]", "=", "a2 b3", "failure")
+given("[a b]", ">", "a2 b3", "2 2 2 clear")
+given("[a b]", ">", "a2 b2", "failure")
+given("[a b]", ">=", "a2 b2", "2 2 2 clear")
+given("[a b]", "any", "a2 b0", "2 2 2 clear")
+given("[a b]", "any", "a2 b0", "failure", start="3 6")
+# After an align that read something the flag is clear, also if it was set before.
+given("[a] b", ">", "a2 b3", "2 2 2 clear", flag="set")
+given("[a] b", ">", "a2 b2", "failure", flag="set")
+given("[a] b", ">", "a2 b2", "failure")
+given("[a] b", "any", "a2 b0", "2 2 2 clear")
+# Aligns beside and in each other.
+given("[a] [b]", ">", "a2 b2", "2 2 2 clear")
+given("[a] [b]", ">", "a2 b3", "failure")
+given("[a [b]]", ">", "a2 b2", "2 2 2 clear")
+given("[a [b]]", ">", "a2 b3", "failure")
+given("[[a] b]", ">", "a2 b3", "2 2 2 clear")
+given("[[a] b]", ">", "a2 b2", "failure")
+given("[[a]]", ">", "a2", "1 2 2 clear")
+given("a_>= [b] c", ">", "a5 b4 c9", "3 4 4 clear")
+given("a_>= [b] c", ">", "a5 b6 c9", "failure")
+given("a [b]", ">", "a5 b4", "2 4 4 clear")
+given("a [b]", ">", "a5 b5", "failure")
+# Align of a choice is a choice of aligns (001, Theorem 2.3).
+given("[a / b]", ">", "b4", "1 4 4 clear")
+given("[a] / [b]", ">", "b4", "1 4 4 clear")
+given("[a b / a c]", ">", "a4 c5", "2 4 4 clear")
+given("[a b / a c]", ">", "a4 c4", "failure")
+given("[a b / empty] a c", ">", "a4 c4", "2 0 3 clear")
+# A position in an align: the flag goes before the mode.
+given("[a_any]", "=", "a2", "failure", start="3 6")
+given("[a_any]", "=", "a4", "1 4 4 clear", start="3 6")
+given("[a]_any b", "=", "a4 b4", "2 4 4 clear", start="3 6")
+given("[a_any] b", "=", "a4 b9", "failure", start="3 6")
+# Indents in aligns: "Ignoring indentation under a set flag, as 000 does". From 1 to 1 the token must be right
+# of 1.
+given("[a^>]", "=", "a1", "failure", start="1 1")
+given("[a^>]", ">", "a2", "1 1 1 clear", start="1 1")
+given("a^>", "=", "a4", "1 1 1 clear", start="1 1", flag="set")
+given("a^>", "=", "a1", "failure", start="1 1", flag="set")
+given("[a^any]", "=", "a2", "1 5 5 clear", start="5 5")
+given("[a^>=]", "=", "a4", "failure", start="5 5")
+given("[a^>]", "=", "a4", "1 0 3 clear")
+given("[a^>]", "=", "a0", "failure")
+# 4 to 4, outside 0 to 3, flag clear; then b in mode greater.
+given("[a^> b]", ">", "a4 b2", "2 0 1 clear")
+given("[a^> b]", ">", "a4 b0", "failure")
+given("[a]^> b", ">", "a4 b2", "2 0 1 clear")
+given("[(a b)^>]", ">", "a4 b5", "2 0 3 clear")
+given("[(a b)^>]", ">", "a4 b4", "failure")
+given("[a b]^>", ">", "a2 b3", "2 0 1 clear")
+given("[a b]^>", ">", "a2 b2", "failure")
+given("[a b]^>", ">", "a0 b2", "failure")
+given("[a b]^>", ">=", "a3 b3", "failure", start="3 6")
+given("[a b]^>", ">=", "a5 b9", "2 3 4 clear", start="3 6")
+# 0 to 3 and clear; then b aligned in 0 to 3.
+given("[a^> [b]]", ">", "a4 b3", "2 3 3 clear")
+given("[a^> [b]]", ">", "a4 b4", "failure")
+# No round under the indent: the flag stays set for b.
+given("[(a*)^> b]", ">", "b5", "1 5 5 clear")
+given("[(a*)^> b]", ">", "a6 b3", "2 0 2 clear")
+given("[(a*)^> b]", ">", "b7", "failure", start="3 6")
+# Indent in align in indent: from 0 on, 1 on, flag, 2 on; 5 to 5; 1 to 4; 0 to 3.
+given("[a^>]^>", "=", "a5", "1 0 3 clear")
+given("[[a]^>]^>", "=", "a1", "failure")
+# Aligned lines under a head, from 2 to 2: inside 3 on; 5 to 5 for both; outside 0 to 4 met 2 to 2.
+given("h ([a] [a])^>", "=", "h2 a5 a5", "3 2 2 clear")
+given("h ([a] [a])^>", "=", "h2 a5 a6", "failure")
+given("h ([a] [a])^>", "=", "h2 a2 a2", "failure")
+given("h ([a] [a])^>=", "=", "h2 a2 a2", "3 2 2 clear")
+
+
+# --- Recursion through rules ---------------------------------------------------------------------
+
+# "An expression may name a rule, and a rule is again an expression".
+LIST = "X = a X / empty"
+given("X", ">=", "", "0 0 inf clear", rules=LIST)
+given("X", ">=", "b1", "0 3 6 set", rules=LIST, start="3 6", flag="set")
+given("X", ">=", "a5 a3 a7", "3 0 3 clear", rules=LIST)
+given("X", ">", "a5 a3 a7", "3 0 2 clear", rules=LIST)
+given("X", "=", "a2 a2 a3", "2 2 2 clear", rules=LIST)
+given("X", ">", "a2 a3 a2", "2 2 2 clear", rules=LIST, flag="set")
+given("X b", ">=", "a5 a3 b9", "3 0 3 clear", rules=LIST)
+given("X_>=", "=", "a5 a3 b9", "2 0 3 clear", rules=LIST)
+given("X_>= X", "=", "a5 a3 a9", "3 0 3 clear", rules=LIST)
+given("[X] b", ">", "b5", "1 0 4 clear", rules=LIST)
+given("[X] b", ">", "a2 b3", "2 2 2 clear", rules=LIST)
+# X = a X has no end: the a that is not there is everyone's failure.
+given("X", ">=", "a1 a1", "failure", rules="X = a X")
+given("X*", ">=", "a1 a1", "0 0 inf clear", rules="X = a X")
+given("X / a", ">=", "a1 a1", "1 0 1 clear", rules="X = a X")
+# X = (not empty) X: the first part fails before the rule is met again.
+given("X", ">=", "a1", "failure", rules="X = !empty X")
+given("X / a", ">=", "a1", "1 0 1 clear", rules="X = !empty X")
+# Each step one block deeper. a0: 0 to 0; inside 1 on: a1: 1 to 1; inside 2 on: a2: 2 to 2; then nothing.
+DEEPER = "X = a X^> / empty"
+given("X", "=", "a0 a1 a2", "3 0 0 clear", rules=DEEPER)
+given("X", "=", "a3 a5 a9", "3 3 3 clear", rules=DEEPER)
+given("X", "=", "a3 a5 a5", "2 3 3 clear", rules=DEEPER)
+given("X", "=", "a3 a3", "1 3 3 clear", rules=DEEPER)
+given("X", "any", "a0 a0 a0", "3 0 inf clear", rules=DEEPER)
+# At least: 0 to 9; inside 1 on: a4: 1 to 4; inside 2 on: a3: 2 to 3; out 0 to 2 met 1 to 4: 1 to 2; out 0 to
+# 1.
+given("X", ">=", "a9 a4 a3", "3 0 1 clear", rules=DEEPER)
+given("X", ">=", "a9 a4 a1", "2 0 3 clear", rules=DEEPER)
+# Greater: a9: 0 to 8; inside 1 on: a4: 1 to 3; inside 2 on: a3: 2 to 2; out 1 to 1; out 0 to 0.
+given("X", ">", "a9 a4 a3", "3 0 0 clear", rules=DEEPER)
+given("X", ">", "a9 a4 a2", "2 0 2 clear", rules=DEEPER)
+# A position on the way into the rule holds from there on: a at 2, the others anywhere.
+given("X", "=", "a2 a5 a0", "3 2 2 clear", rules="X = a X_any / empty")
+given("X", "=", "a2 a5 a5", "1 2 2 clear", rules="X = a X / empty")
+# Rules in turn. The second a is gone back on where its b is missing.
+TURN = "X = a Y / empty; Y = b X"
+given("X", ">=", "a4 b4 a3 b2", "4 0 2 clear", rules=TURN)
+given("X", ">=", "a4 b4 a3", "2 0 4 clear", rules=TURN)
+given("X", ">=", "a4 b4 a3 c1", "2 0 4 clear", rules=TURN)
+given("X", ">=", "a4 c4", "0 0 inf clear", rules=TURN)
+given("Y", ">=", "b5 a4 b4 a3", "3 0 4 clear", rules=TURN)
+given("Y", ">=", "a4 b4", "failure", rules=TURN)
+given("X", "=", "a4 b4 a4 b5", "2 4 4 clear", rules=TURN)
+# As many b as a. With a b too few the outermost goes back to nothing.
+PAIRS = "X = a X b / empty"
+given("X", ">=", "a5 a4 b4 b2", "4 0 2 clear", rules=PAIRS)
+given("X", ">=", "a5 a4 b4", "0 0 inf clear", rules=PAIRS)
+given("X", ">=", "a5 a4 b4 b3 b2", "4 0 3 clear", rules=PAIRS)
+given("X", ">=", "b5", "0 0 inf clear", rules=PAIRS)
+given("!X", ">=", "b5", "failure", rules=PAIRS)
+# b stands in the block of its own a: a2 b2 outside, a4 b4 inside.
+NESTED = "X = a X^> b / empty"
+given("X", "=", "a2 a4 b4 b2", "4 2 2 clear", rules=NESTED)
+given("X", "=", "a2 a4 b2 b4", "0 0 inf clear", rules=NESTED)
+given("X", "=", "a2 a4 b4 b3", "0 0 inf clear", rules=NESTED)
+given("X", "=", "a2 b2 b2", "2 2 2 clear", rules=NESTED)
+# An outline: lines at one column, each with lines right of it. a0: 0 to 0; inside 1 on: a2 a2 at 2; inside 3
+# on: a4 at 4; out 2 to 2; out 0 to 0; then a0 again. a1 is at no open baseline.
+OUTLINE = "X = [a X^>]*"
+given("X", ">=", "a0 a2 a2 a4 a1", "4 0 0 clear", rules=OUTLINE)
+given("X", ">=", "a0 a2 a2 a4 a0", "5 0 0 clear", rules=OUTLINE)
+given("X", "any", "a0 a2 a2 a4 a2 a6 a0 a1", "8 0 0 clear", rules=OUTLINE)
+given("X", ">=", "a3 a5 a4 a3", "2 3 3 clear", rules=OUTLINE)
+given("X^>", ">=", "a3 a5 a3", "3 0 2 clear", rules=OUTLINE)
+given("X^>", ">=", "a3 a5 a3", "0 3 6 clear", rules=OUTLINE, start="3 6")
+# Statements under a head: d0: 0 to 0; inside 1 on: a2 a2 d2 at 2; under that d, inside 3 on: a4 a4; a2 ends
+# it, out 2 to 2; a2; out 0 to 0.
+BLOCK = "D = d L^>; L = [S] L / empty; S = D / a"
+given("D", ">=", "d0 a2 a2 d2 a4 a4 a2", "7 0 0 clear", rules=BLOCK)
+given("D", ">=", "d0 a2 a2 d2 a4 a4 a1", "6 0 0 clear", rules=BLOCK)
+given("D", ">=", "d0 a2 a3", "2 0 0 clear", rules=BLOCK)
+given("D", ">=", "d0 d1 d2 a3 a2", "5 0 0 clear", rules=BLOCK)
+given("D", ">=", "d0 d1 d2 a3 a1", "5 0 0 clear", rules=BLOCK)
+given("D", ">=", "d0 a0", "1 0 0 clear", rules=BLOCK)
+given("D", ">=", "a0", "failure", rules=BLOCK)
+# d3: 0 to 3. Inside 1 on: a2 at 2; out 0 to 1.
+given("D", ">=", "d3 a2 a2", "3 0 1 clear", rules=BLOCK)
+# Left to right over three rules with a mode each: 0 to 5, 0 to 3, then 2 to 2.
+given("X_>=", "any", "a5 b4 c2", "3 2 2 clear", rules="X = a Y_>; Y = b Z_=; Z = c")
+
+
+# --- Places --------------------------------------------------------------------------------------
+
+# "Success answers the number of tokens read from that place on". Tokens before the place say nothing.
+given("b", ">=", "a2 b3", "1 0 3 clear", place=1)
+given("a", ">=", "a2 b3", "failure", place=1)
+given("a", ">=", "a2 b3", "failure", place=2)
+given("empty", ">=", "a2 b3", "0 0 inf clear", place=2)
+given("empty", ">=", "a2 b3", "0 3 6 set", place=1, start="3 6", flag="set")
+given("a b", ">=", "a2 b2 a4 b3 c1", "2 0 3 clear", place=2)
+given("a*", ">=", "a9 a5 a3 a4 b1", "3 0 3 clear", place=1)
+given("a*", ">=", "a9 a5 a3 a4 b1", "0 0 inf clear", place=4)
+given("a*", ">=", "a9 a5 a3 a4 b1", "0 0 inf set", place=5, flag="set")
+given("!a", ">=", "a9 a5 b3", "0 0 inf clear", place=2)
+given("!a", ">=", "a9", "0 0 inf clear", place=1)
+given("X", ">=", "a0 a1 a5 a3 a7", "3 0 3 clear", rules=LIST, place=2)
+given("a b / a c", ">=", "b0 a5 c4", "2 0 4 clear", place=1)
+given("[a b]^>", ">=", "c0 c0 a2 b3", "2 0 1 clear", place=2)
+given("a", ">", "a0 a5", "1 5 5 clear", place=1, flag="set")
+
+
+# --- Start nodes and shared nodes ----------------------------------------------------------------
+
+# "A start gives a node": a, b, a b, a b / a, (a b / a)*, from each. In mode at least a4 b3 a2.
+SHARED = [A, B, seq(0, 1), choice(2, 0), repeat(3)]
+TOKENS = token_words("a4 b3 a2")
+for node, answer in enumerate(("1 0 4 clear", "failure", "2 0 3 clear", "2 0 3 clear", "3 0 2 clear")):
+    runs(
+        f"start node {node} of a, b, a b, a b / a, (a b / a)*",
+        answer,
+        SHARED,
+        (),
+        TOKENS,
+        (node, 0, 0, None, False, 2),
+    )
+# One node as both parts.
+runs(
+    "node 1 is node 0 twice",
+    "2 0 2 clear",
+    [A, seq(0, 0)],
+    (),
+    token_words("a4 a2"),
+    (1, 0, 0, None, False, 2),
+)
+runs(
+    "node 1 is node 0 twice, once there",
+    "failure",
+    [A, seq(0, 0)],
+    (),
+    token_words("a4 b2"),
+    (1, 0, 0, None, False, 2),
+)
+# "a rule may stand for any node": a higher one, and one that the start does not lie below.
+runs("rule 0 = a higher node", "1 0 4 clear", [rule(0), A], [1], token_words("a4"))
+runs("rule 1 of 2", "1 0 4 clear", [rule(1), B, A], [1, 2], token_words("a4"))
+# a X / empty with the nodes in another order: 0 empty, 1 rule X, 2 a, 3 a X, 4 a X / empty, 5 b.
+runs(
+    "X with its nodes in another order",
+    "2 0 3 clear",
+    [EMPTY, rule(0), A, seq(2, 1), choice(3, 0), B],
+    [4],
+    token_words("a4 a3 b2"),
+    (1, 0, 0, None, False, 2),
+)
+# The largest table: node 511 through 510 forms down to a at node 0. An align over 510 aligns is one align;
+# 510 indents by equal change nothing; 510 nots are none; 510 positions: the innermost counts.
+LAST = (511, 0, 0, None, False, 2)
+runs("511 aligns over a", "1 4 4 clear", [A] + [align(n) for n in range(511)], (), token_words("a4"), LAST)
+runs(
+    "511 indents by equal over a",
+    "1 0 4 clear",
+    [A] + [indent(n, 0) for n in range(511)],
+    (),
+    token_words("a4"),
+    LAST,
+)
+runs("511 nots over a, at a", "failure", [A] + [not_(n) for n in range(511)], (), token_words("a4"), LAST)
+runs("511 nots over a, at b", SAME, [A] + [not_(n) for n in range(511)], (), token_words("b4"), LAST)
+runs(
+    "511 positions over a, = last",
+    "1 4 4 clear",
+    [A] + [position(n, n % 4) for n in range(511)],
+    (),
+    token_words("a4"),
+    LAST,
+)
+# 511 indents by greater, mode at least: inside 511 on, and outside 511 less.
+DEEP = [A] + [indent(n, 1) for n in range(511)]
+runs("511 indents by greater over a, a510", "failure", DEEP, (), token_words("a510"), LAST)
+runs("511 indents by greater over a, a511", "1 0 0 clear", DEEP, (), token_words("a511"), LAST)
+runs("511 indents by greater over a, a515", "1 0 4 clear", DEEP, (), token_words("a515"), LAST)
+# 128 rules, each the next one's name, the last a.
+runs(
+    "128 rules in a row to a",
+    "1 0 4 clear",
+    [A] + [rule(n) for n in range(1, 128)],
+    [*range(1, 128), 0],
+    token_words("a4"),
+    (1, 0, 0, None, False, 2),
+)
+
+
+# --- Lower ends past 65,535 ----------------------------------------------------------------------
+
+# "Capping the lower end at 65,535: in mode any it may pass that and tokens still match." From 65535 the inner
+# set under greater is 65536 on. No token lies there, so every mode but any fails, and an aligned token too.
+for start in ("65535 inf", "65535 65535"):
+    for column in (0, 1, 65534, 65535):
+        for mode in ("=", ">", ">="):
+            given("a^>", mode, f"a{column}", "failure", start=start)
+        given("a^>", "any", f"a{column}", f"1 {start} clear", start=start)
+        given("[a]^>", "any", f"a{column}", "failure", start=start)
+        given("a^>", "any", f"a{column}", "failure", start=start, flag="set")
+    for mode in MODES:
+        given(
+            "empty^>",
+            mode,
+            "a65535",
+            f"0 {start} clear",
+            start=start,
+            name=f"case empty under greater, {start}",
+        )
+    # Any inside greater brings the inner set back to 0 on.
+    given("a^any^>", "=", "a7", f"1 {start} clear", start=start)
+    given("[a]^any^>", "any", "a7", f"1 {start} clear", start=start)
+    given("(a_any [b])^>", "=", "a0 b65535", "failure", start=start)
+    given("(a_any b)^>", "=", "a0 b0", "failure", start=start)
+    given("(a_any b)^>", ">=", "a0 b65535", "failure", start=start)
+    given("(a_any b_any)^>", "=", "a0 b65535", f"2 {start} clear", start=start)
+    given("(a_any [b])^> / a_any b", "=", "a0 b65535", "2 65535 65535 clear", start=start)
+    given("!([a]^>) a", "=", "a65535", "1 65535 65535 clear", start=start)
+    given("(a*)^>^>^>", ">=", "a65535", f"0 {start} clear", start=start)
+    given("(a*)^>^>^>", "any", "a65535 a0", f"2 {start} clear", start=start)
+# From 65534 one greater leaves room for column 65535, two do not.
+given("a^>", "=", "a65535", "1 65534 65534 clear", start="65534 inf")
+given("a^>", ">=", "a65535", "1 65534 65534 clear", start="65534 inf")
+given("a^>", ">", "a65535", "failure", start="65534 inf")
+given("[a]^>", "any", "a65535", "1 65534 65534 clear", start="65534 inf")
+given("a^>^>", "=", "a65535", "failure", start="65534 inf")
+given("[a^>^>]", "any", "a65535", "failure", start="65534 inf")
+given("a^>^>", "any", "a65535", "1 65534 inf clear", start="65534 inf")
+# 511 greaters in mode any, then the same over an aligned a.
+HIGH = (511, 0, 65535, None, False, 3)
+for column in (0, 510, 65535):
+    tokens = [1, column, 0, 0]
+    runs(
+        f"511 indents by greater from 65535, mode any, a{column}", "1 65535 inf clear", DEEP, (), tokens, HIGH
+    )
+    nodes = [A, align(0)] + [indent(n, 1) for n in range(1, 511)]
+    runs(f"510 indents by greater over [a] from 65535, a{column}", "failure", nodes, (), tokens, HIGH)
+    runs(
+        f"511 indents by greater from 65535, mode at least, a{column}",
+        "failure",
+        DEEP,
+        (),
+        tokens,
+        (511, 0, 65535, None, False, 2),
+    )
+# Through a rule: each a one greater further in. At the end [b] finds no column.
+given(
+    "X",
+    "any",
+    [(1, 0)] * 100,
+    "100 65535 inf clear",
+    rules=DEEPER,
+    start="65535 inf",
+    name="100 a, X = a X^> / empty, mode any, from 65535",
+)
+given(
+    "X",
+    "any",
+    [(1, 65535)] * 100,
+    "100 65535 65535 clear",
+    rules=DEEPER,
+    start="65535 65535",
+    name="100 a at 65535, X = a X^> / empty, mode any, from 65535 to 65535",
+)
+given(
+    "X",
+    "any",
+    [(1, 0)] * 50 + [(2, 65535)],
+    "failure",
+    rules="X = a X^> / [b]",
+    start="65535 inf",
+    name="50 a and b, X = a X^> / [b], mode any, from 65535",
+)
+given(
+    "X",
+    "any",
+    [(1, 0)] * 50 + [(2, 65535)],
+    "51 65535 inf clear",
+    rules="X = a X^> / b",
+    start="65535 inf",
+    name="50 a and b, X = a X^> / b, mode any, from 65535",
+)
+# 100 tokens with 50 greaters each; from 0 on b at 4999 is too far left, at 5000 it is the one column left.
+# Back through 5000 greaters 5000 to 5000 leaves 0 to 0.
+FAR = "X = a X" + "^>" * 50 + " / [b]"
+for column, answer in ((4999, "failure"), (5000, "101 0 0 clear"), (5007, "101 0 7 clear")):
+    given(
+        "X",
+        "any",
+        [(1, 0)] * 100 + [(2, column)],
+        answer,
+        rules=FAR,
+        name=f"100 a with 50 greaters each, then [b] at {column}",
+    )
+given(
+    "X",
+    "any",
+    [(1, 0)] * 100 + [(2, 65535)],
+    "failure",
+    rules=FAR,
+    start="65535 inf",
+    name="100 a with 50 greaters each from 65535, then [b] at 65535",
+)
+
+
+# --- Long lists ----------------------------------------------------------------------------------
+
+# Columns fall from 200 to 101, or rise from 101 to 200. At least: the least column, 101. Greater: one less.
+# Equal: only the first. Any: all, and no narrowing.
+FALLING = [(1, 200 - i) for i in range(100)]
+RISING = [(1, 101 + i) for i in range(100)]
+for expression, rules in (("X", LIST), ("a*", "")):
+    for mode, falling, rising in (
+        (">=", "100 0 101 clear", "100 0 101 clear"),
+        (">", "100 0 100 clear", "100 0 100 clear"),
+        ("=", "1 200 200 clear", "1 101 101 clear"),
+        ("any", "100 0 inf clear", "100 0 inf clear"),
+    ):
+        given(
+            expression, mode, FALLING, falling, rules=rules, name=f"{expression}, 100 a falling, mode {mode}"
+        )
+        given(expression, mode, RISING, rising, rules=rules, name=f"{expression}, 100 a rising, mode {mode}")
+    # From 150 on, falling, at least: 200 to 150 are 51 tokens, and the upper end is 150.
+    given(
+        expression,
+        ">=",
+        FALLING,
+        "51 150 150 clear",
+        rules=rules,
+        start="150 inf",
+        name=f"{expression}, 100 a falling, from 150",
+    )
+    given(
+        expression,
+        ">",
+        FALLING,
+        "50 150 150 clear",
+        rules=rules,
+        start="150 inf",
+        name=f"{expression}, 100 a falling, mode >, from 150",
+    )
+    given(
+        expression,
+        ">=",
+        FALLING,
+        "100 0 101 clear",
+        rules=rules,
+        start="0 120",
+        name=f"{expression}, 100 a falling, from 0 to 120",
+    )
+    given(
+        expression,
+        ">=",
+        FALLING,
+        "40 0 101 clear",
+        rules=rules,
+        place=60,
+        name=f"{expression}, 100 a falling, place 60",
+    )
+# Each a one column further in.
+STAIRS = [(1, i) for i in range(100)]
+given("X", "=", STAIRS, "100 0 0 clear", rules=DEEPER, name="X = a X^> / empty, 100 a at 0 to 99, mode =")
+given(
+    "X",
+    "=",
+    [(1, 5 + i) for i in range(100)],
+    "100 5 5 clear",
+    rules=DEEPER,
+    name="X = a X^> / empty, 100 a at 5 to 104, mode =",
+)
+given(
+    "X",
+    "=",
+    STAIRS,
+    "0 5 inf clear",
+    rules=DEEPER,
+    start="5 inf",
+    name="X = a X^> / empty, 100 a at 0 to 99, mode =, from 5",
+)
+given(
+    "X",
+    "=",
+    STAIRS[:60] + STAIRS[59:99],
+    "60 0 0 clear",
+    rules=DEEPER,
+    name="X = a X^> / empty, column 59 twice",
+)
+# 100 a and 100 b in pairs, a and b of a pair at one column; then with the innermost b a column off.
+PYRAMID = STAIRS + [(2, 99 - i) for i in range(100)]
+given("X", "=", PYRAMID, "200 0 0 clear", rules=NESTED, name="X = a X^> b / empty, 100 pairs")
+given(
+    "X",
+    "=",
+    PYRAMID[:199],
+    "0 0 inf clear",
+    rules=NESTED,
+    name="X = a X^> b / empty, 100 pairs less the last b",
+)
+# 4096 tokens at column 7, the most there may be.
+MOST = [(1, 7)] * 4096
+given("a*", ">=", MOST, "4096 0 7 clear", name="a*, 4096 a, mode >=")
+given("X", ">=", MOST, "4096 0 7 clear", rules=LIST, name="X = a X / empty, 4096 a, mode >=")
+given("X", ">", MOST, "4096 7 7 clear", rules="X = [a] X / empty", name="X = [a] X / empty, 4096 a, mode >")
+given("X", "any", MOST, "failure", rules="X = a X", name="X = a X, 4096 a, mode any")
+given("a*", ">=", MOST, "1 0 7 clear", place=4095, name="a*, 4096 a, place 4095")
+given("a*", ">=", MOST, "0 0 inf clear", place=4096, name="a*, 4096 a, place 4096")
+given("a* a", ">=", MOST, "failure", name="a* a, 4096 a")
+given("[a]* b", ">", MOST[:4095] + [(2, 8)], "4096 7 7 clear", name="[a]* b, 4095 a and b8, mode >")
+given("[a]* b", ">", MOST[:4095] + [(2, 7)], "failure", name="[a]* b, 4095 a and b7, mode >")
+given(
+    "X",
+    "any",
+    MOST,
+    "4096 65535 inf clear",
+    rules=DEEPER,
+    start="65535 inf",
+    name="X = a X^> / empty, 4096 a from 65535",
+)
+given("X", "=", MOST, "1 7 7 clear", rules=DEEPER, name="X = a X^> / empty, 4096 a, mode =")
+given("(a^>)*", "=", MOST, "4096 0 6 clear", name="(a^>)*, 4096 a, mode =")
+given("(a a)*", ">", MOST[:4095], "4094 0 6 clear", name="(a a)*, 4095 a, mode >")
+
+
+(CRATE / "data").mkdir(parents=True, exist_ok=True)
+(CRATE / "data" / "cases").write_bytes(b"".join(records))
+(CRATE / "stdout").write_bytes("".join(lines).encode())
+print(f"{len(records)} calls, {sum(map(len, records))} bytes")
