@@ -1,0 +1,158 @@
+#!/usr/bin/env python3
+"""Measures how much stack the interpreter needs for deep nesting.
+
+Run it at the top of the repository after `rt check depth`. For each grammar below it finds, by
+halving, the least stack with which target/bin/depth ends with the right answer, and prints it with
+the nested calls, the bytes of one of them and the time of a run. The exit status is 1 if a grammar
+needs more than its limit. `--write` only writes the stored run of the program depth.
+
+A nested call is one of the expression walk, at the deepest point of a run; a rule's call is counted
+with that of its node. A run over 4,096 tokens has 4,097 rounds, one over no token has one, with the
+same calls in each: the bytes of a call are the stack between the two runs, divided by the calls of
+4,096 rounds.
+"""
+
+import pathlib
+import resource
+import statistics
+import subprocess
+import sys
+import tempfile
+import time
+
+ROOT = pathlib.Path(__file__).resolve().parent.parent
+PROGRAM = ROOT / "target" / "bin" / "depth"
+STORED = ROOT / "crates" / "depth" / "data" / "shape"
+
+KIB, MIB = 1024, 1024 * 1024
+TOKENS, NODES, RULES = 4096, 512, 128
+AT_LEAST, ANY = 2, 3
+
+# (a X) / empty: nodes 0 to 4. Rule 0 is X, and terminal 0 is a.
+LIST = [(1, 0, 0, 0), (2, 0, 0, 0), (3, 0, 1, 0), (0, 0, 0, 0), (4, 2, 3, 0)]
+EMPTY_NODE = 3
+ALL_READ = f"success {TOKENS} 0 0 clear"
+NONE_READ = "success 0 0 inf clear"
+ALL_READ_ENDLESS = f"success {TOKENS} 0 inf clear"
+
+
+def chain(kind, count, b=0, relation=0, nodes=LIST):
+    """The nodes with one form laid over the last of them that many times."""
+    nodes = list(nodes)
+    for _ in range(count):
+        nodes.append((kind, len(nodes) - 1, b, relation))
+    return nodes
+
+
+def linked(count):
+    """The list under that many rules that each stand for the node below, and their nodes."""
+    nodes, targets = list(LIST), []
+    for number in range(1, count + 1):
+        targets.append(len(nodes) - 1)
+        nodes.append((2, number, 0, 0))
+    return nodes, targets
+
+
+class Shape:
+    """A grammar whose rule 0 stands for its last node, with the answer of a run and a limit in MiB."""
+
+    def __init__(self, name, nodes, answer=ALL_READ, rules=(), mode=AT_LEAST, limit=1024):
+        self.name, self.nodes, self.answer, self.mode, self.limit = name, nodes, answer, mode, limit
+        self.rules = [len(nodes) - 1, *rules]
+        # Every node calls the next but a, X behind a (a tail, walked by its sequence's call) and empty.
+        self.round = len(nodes) - 3
+
+    def words(self, tokens=TOKENS):
+        flat = [word for node in self.nodes for word in node]
+        header = [len(flat), len(self.rules), tokens, len(self.nodes) - 1, self.mode]
+        return b"".join(word.to_bytes(2, "big") for word in [*header, *flat, *self.rules])
+
+
+def shapes():
+    free = NODES - len(LIST)
+    nodes, targets = linked(RULES - 1)
+    return [
+        Shape("list: X = (a X) / empty", LIST, limit=4),
+        Shape("repeat: X = (a X)*", [*LIST[:4], (6, 2, 0, 0)], limit=4),
+        Shape("aligns", chain(9, free)),
+        Shape("indents, at least", chain(7, free, relation=2)),
+        Shape("indents, any", chain(7, free, relation=3), ALL_READ_ENDLESS),
+        Shape("indents, greater", chain(7, free, relation=1), ALL_READ_ENDLESS, mode=ANY),
+        # An even number of nots over the list looks ahead to the last token and reads none.
+        Shape("nots", chain(5, free // 2 * 2), NONE_READ),
+        Shape("choices", chain(4, free, b=EMPTY_NODE)),
+        Shape("sequences", chain(3, free, b=EMPTY_NODE)),
+        Shape("rules, aligns", chain(9, NODES - len(nodes), nodes=nodes), rules=targets),
+    ]
+
+
+def run(folder, stack):
+    """What the program prints with that much stack, in bytes; nothing where it ends by a signal."""
+
+    def limited():
+        hard = resource.getrlimit(resource.RLIMIT_STACK)[1]
+        soft = stack if hard == resource.RLIM_INFINITY else min(stack, hard)
+        resource.setrlimit(resource.RLIMIT_STACK, (soft, hard))
+        resource.setrlimit(resource.RLIMIT_CORE, (0, 0))
+
+    done = subprocess.run(
+        [PROGRAM], cwd=folder, env={}, preexec_fn=limited, stdout=subprocess.PIPE, check=False
+    )
+    return done.stdout.decode().strip() if done.returncode == 0 else ""
+
+
+def least(folder, answer, limit):
+    """The least stack that suffices, to a 1,024th of the limit, or None if twice the limit does not."""
+    low, high = 16 * KIB, 2 * limit
+    if run(folder, high) != answer:
+        return None
+    while high - low > limit // 1024:
+        middle = (low + high) // 2
+        if run(folder, middle) == answer:
+            high = middle
+        else:
+            low = middle
+    return high
+
+
+def seconds(folder, stack):
+    """The median time of five runs."""
+    times = []
+    for _ in range(5):
+        before = time.perf_counter()
+        run(folder, stack)
+        times.append(time.perf_counter() - before)
+    return statistics.median(times)
+
+
+def measure(shape, folder):
+    """Prints a line for a shape, and answers whether it keeps its limit."""
+    file = folder / "shape"
+    file.write_bytes(shape.words(0))
+    base = least(folder, NONE_READ, MIB)
+    file.write_bytes(shape.words())
+    need = least(folder, shape.answer, shape.limit * MIB)
+    if base is None or need is None:
+        print(f"{shape.name:26} no right answer with {2 * shape.limit} MiB")
+        return False
+    calls = (TOKENS + 1) * shape.round
+    each = (need - base) / (TOKENS * shape.round)
+    spent = seconds(folder, 2 * shape.limit * MIB)
+    print(f"{shape.name:26} {calls:>12,} {need / MIB:>8.2f} {each:>12.0f} {spent:>8.3f}", flush=True)
+    return need <= shape.limit * MIB
+
+
+def main():
+    if sys.argv[1:] == ["--write"]:
+        STORED.write_bytes(shapes()[0].words())
+        return 0
+    if not PROGRAM.exists():
+        sys.exit("target/bin/depth is not there: run rt check depth first")
+    print(f"{'grammar':26} {'nested calls':>12} {'MiB':>8} {'bytes a call':>12} {'seconds':>8}")
+    with tempfile.TemporaryDirectory() as folder:
+        kept = [measure(shape, pathlib.Path(folder)) for shape in shapes()]
+    return 0 if all(kept) else 1
+
+
+if __name__ == "__main__":
+    sys.exit(main())
