@@ -19,8 +19,8 @@ pub data NodeAnswer (A : Type 0) : Type 0 where
   refused : ℕ → NodeAnswer A
   refusedAt : (number node : ℕ) → NodeAnswer A
 
--- "Checks run in rising number": what a table is refused with, and otherwise what the later checks give.
-abbrev pub afterTable : {A : Type 0} → table.Answer Unit → NodeAnswer A → NodeAnswer A
+-- "Checks run in rising number": what an earlier part refuses with, and otherwise what the later checks give.
+abbrev pub afterTable : {A B : Type 0} → table.Answer B → NodeAnswer A → NodeAnswer A
 afterTable (table.given a) next = next
 afterTable (table.refused number) next = refused number
 

@@ -1,0 +1,154 @@
+-- `line::text::put_decimal`, which calls itself, meets its contract.
+use borrow.Fn.Kinds.{In}
+use borrow.Fn.PlainCycle.{Measures, is, falls, and}
+use Rattle.line.proofs.text.put_decimal.Reads as put-decimal
+use Rattle.line.proofs.text.put_decimal.Kinds as put-decimal-kinds
+use Rattle.line.proofs.text.+put_decimal.Lts-put_decimal as put-decimal-lts
+use Rattle.line.proofs.text.put.Reads as put-reads
+use Rattle.line.proofs.text.+put_decimal.{statement}
+use Rattle.line.proofs.text.+put_decimal.Tie.{close}
+use mathlib.Core.Path.{_≡_, refl, sym, ap, _∙_}
+use native.Mathlib.Omega.{arith}
+use Prim.Native.Nat.{ℕ, _-_, _*_, _+_, _≤_, _<_, _/_, _%_}
+use mathlib.Core.List.{List, [], _∷_}
+use lib.ListN.{length, getD, take}
+use Rattle.line.specs.InternalPut.{pasted}
+use Rattle.line.proofs.PutLaws.{paste-one, paste-none, word-next, take-whole, Put, digits-none, digits-last, digits-more, length-decimal}
+
+abbrev μ-put-decimal : Measures 1 put-decimal-kinds.ps ℕ
+μ-put-decimal κs a = a .1 .1 .0
+
+abbrev put-decimal-at : ℕ → In 1 put-decimal-kinds.ps
+put-decimal-at t =
+    and 1 put-decimal-kinds.ps (is 1 put-decimal-kinds.ps μ-put-decimal t) put-decimal.Pre
+
+abbrev put-decimal-below : ℕ → In 1 put-decimal-kinds.ps
+put-decimal-below t =
+    and 1 put-decimal-kinds.ps (falls 1 put-decimal-kinds.ps _<_ μ-put-decimal t) put-decimal.Pre
+
+put-decimal-returns : (t : ℕ) → put-decimal-lts.Need-returns (
+  put-reads.Asked,
+  put-reads.Learnt,
+  put-decimal-below t,
+  put-decimal.Post,
+) (put-decimal-at t) put-decimal.Post
+put-decimal-returns t c = let p = digits-none (c .before .before .args .out .now) (c .before .before .args .at) (c .before .before .args .n) (omega (arith, c .before .before .pre .1)) (c .if1 .taken) in (p .place, p .slice)
+
+put-decimal-cast-put : (t : ℕ) → put-decimal-lts.Need-cast-put (
+  put-reads.Asked,
+  put-reads.Learnt,
+  put-decimal-below t,
+  put-decimal.Post,
+) (put-decimal-at t) put-decimal.Post
+put-decimal-cast-put t c = omega arith
+
+put-decimal-add-put : (t : ℕ) → put-decimal-lts.Need-add-put (
+  put-reads.Asked,
+  put-reads.Learnt,
+  put-decimal-below t,
+  put-decimal.Post,
+) (put-decimal-at t) put-decimal.Post
+put-decimal-add-put t c = omega arith
+
+put-decimal-put-requires : (t : ℕ) → put-decimal-lts.Need-put-requires (
+  put-reads.Asked,
+  put-reads.Learnt,
+  put-decimal-below t,
+  put-decimal.Post,
+) (put-decimal-at t) put-decimal.Post
+put-decimal-put-requires t c κs = omega arith
+
+put-decimal-same-length : (t : ℕ) → put-decimal-lts.Need-same-length (
+  put-reads.Asked,
+  put-reads.Learnt,
+  put-decimal-below t,
+  put-decimal.Post,
+) (put-decimal-at t) put-decimal.Post
+put-decimal-same-length t c = omega arith
+
+put-decimal-returns-2 : (t : ℕ) → put-decimal-lts.Need-returns-2 (
+  put-reads.Asked,
+  put-reads.Learnt,
+  put-decimal-below t,
+  put-decimal.Post,
+) (put-decimal-at t) put-decimal.Post
+put-decimal-returns-2 t c = let p = digits-last (c .before .before .before .before .before .if1 .left) (c .before .before .before .before .if2 .taken) (record { place = c .before .before .put .ensures .0; slice = c .before .before .put .ensures .1 }) in (p .place, p .slice)
+
+put-decimal-sub-put-decimal : (t : ℕ) → put-decimal-lts.Need-sub-put-decimal (
+  put-reads.Asked,
+  put-reads.Learnt,
+  put-decimal-below t,
+  put-decimal.Post,
+) (put-decimal-at t) put-decimal.Post
+put-decimal-sub-put-decimal t c = omega arith
+
+put-decimal-put-decimal-requires : (t : ℕ) → put-decimal-lts.Need-put-decimal-requires (
+  put-reads.Asked,
+  put-reads.Learnt,
+  put-decimal-below t,
+  put-decimal.Post,
+) (put-decimal-at t) put-decimal.Post
+put-decimal-put-decimal-requires t c κs = (omega arith, omega arith)
+
+put-decimal-cast-put-2 : (t : ℕ) → put-decimal-lts.Need-cast-put-2 (
+  put-reads.Asked,
+  put-reads.Learnt,
+  put-decimal-below t,
+  put-decimal.Post,
+) (put-decimal-at t) put-decimal.Post
+put-decimal-cast-put-2 t c = omega arith
+
+put-decimal-add-put-2 : (t : ℕ) → put-decimal-lts.Need-add-put-2 (
+  put-reads.Asked,
+  put-reads.Learnt,
+  put-decimal-below t,
+  put-decimal.Post,
+) (put-decimal-at t) put-decimal.Post
+put-decimal-add-put-2 t c = omega arith
+
+put-decimal-put-requires-2 : (t : ℕ) → put-decimal-lts.Need-put-requires-2 (
+  put-reads.Asked,
+  put-reads.Learnt,
+  put-decimal-below t,
+  put-decimal.Post,
+) (put-decimal-at t) put-decimal.Post
+put-decimal-put-requires-2 t c κs = omega (arith, length-decimal (c .before .before .before .before .before .before .before .before .args .most - 1) (c .before .before .before .before .before .before .before .before .args .n / 10))
+
+put-decimal-same-length-2 : (t : ℕ) → put-decimal-lts.Need-same-length-2 (
+  put-reads.Asked,
+  put-reads.Learnt,
+  put-decimal-below t,
+  put-decimal.Post,
+) (put-decimal-at t) put-decimal.Post
+put-decimal-same-length-2 t c = omega arith
+
+put-decimal-returns-3 : (t : ℕ) → put-decimal-lts.Need-returns-3 (
+  put-reads.Asked,
+  put-reads.Learnt,
+  put-decimal-below t,
+  put-decimal.Post,
+) (put-decimal-at t) put-decimal.Post
+put-decimal-returns-3 t c = let p = digits-more (c .before .before .before .before .before .before .before .before .before .if1 .left) (c .before .before .before .before .before .before .before .before .if2 .left) (record { place = c .before .before .before .before .before .before .put-decimal .ensures .0; slice = c .before .before .before .before .before .before .put-decimal .ensures .1 }) (record { place = c .before .before .put2 .ensures .0; slice = c .before .before .put2 .ensures .1 }) in (p .place, p .slice)
+
+pub +put-decimal-spec : {M : Type 1} → statement M
++put-decimal-spec = close μ-put-decimal λ t. put-decimal-lts.spec (
+  put-reads.Asked,
+  put-reads.Learnt,
+  put-decimal-below t,
+  put-decimal.Post,
+)
+    (put-decimal-at t)
+    put-decimal.Post
+    (put-decimal-returns t)
+    (put-decimal-cast-put t)
+    (put-decimal-add-put t)
+    (put-decimal-put-requires t)
+    (put-decimal-same-length t)
+    (put-decimal-returns-2 t)
+    (put-decimal-sub-put-decimal t)
+    (put-decimal-put-decimal-requires t)
+    (put-decimal-cast-put-2 t)
+    (put-decimal-add-put-2 t)
+    (put-decimal-put-requires-2 t)
+    (put-decimal-same-length-2 t)
+    (put-decimal-returns-3 t)

@@ -1,0 +1,48 @@
+// Bytes of a line, put one behind the other into a lent slice.
+ghost use mathlib.Core.Path.{_≡_};
+ghost use mathlib.Core.List.{[], _∷_};
+ghost use Prim.Native.Nat.{_+_, _≤_, _<_};
+ghost use lib.ListN.{length};
+ghost use Rattle.line.specs.Line.{decimalTo};
+ghost use Rattle.line.specs.InternalPut.{pasted};
+
+// Puts a byte at a place, and says where the next one goes.
+pub(crate) fn put(out: &mut [u8], at: usize, byte: u8) -> usize
+    requires { ⌜ «at» < length (now out) ⌝ }
+    ensures { λ r. ⌜ r ≡ «at» + 1 ⌝ }
+    ensures { λ r. ⌜ now (out .exit) ≡ pasted (now (out .entry)) «at» (byte ∷ []) ⌝ }
+{
+    out[at] = byte;
+    at + 1
+}
+
+// Puts a word.
+pub(crate) fn put_word(out: &mut [u8], at: usize, word: &[u8]) -> usize
+    requires { ⌜ «at» + length (now word) ≤ length (now out) ⌝ }
+    ensures { λ r. ⌜ r ≡ «at» + length (now (word .entry)) ⌝ }
+    ensures { λ r. ⌜ now (out .exit) ≡ pasted (now (out .entry)) «at» (now (word .entry)) ⌝ }
+{
+    let mut next = at;
+    let mut i = 0;
+    while i < word.len() {
+        next = put(out, next, word[i]);
+        i += 1;
+    }
+    next
+}
+
+// Puts a number in decimal digits, at most so many.
+pub(crate) fn put_decimal(out: &mut [u8], at: usize, most: usize, n: u32) -> usize
+    requires { ⌜ «at» + «most» ≤ length (now out) ⌝ }
+    ensures { λ r. ⌜ r ≡ «at» + length (decimalTo «most» n) ⌝ }
+    ensures { λ r. ⌜ now (out .exit) ≡ pasted (now (out .entry)) «at» (decimalTo «most» n) ⌝ }
+{
+    if most == 0 {
+        return at;
+    }
+    if n < 10 {
+        return put(out, at, 48 + n as u8);
+    }
+    let next = put_decimal(out, at, most - 1, n / 10);
+    put(out, next, 48 + (n % 10) as u8)
+}
