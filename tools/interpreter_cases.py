@@ -17,6 +17,9 @@ import os
 import pathlib
 import re
 
+from stored_bytes import stored
+from table_nodes import EMPTY, align, choice, indent, not_, position, repeat, rule, seq
+
 CRATE = pathlib.Path(__file__).resolve().parent.parent / "crates" / "interpreter_cases"
 
 # "Relations: 0 equal, 1 greater, 2 at least, 3 any", "The same four numbers are token modes."
@@ -38,22 +41,6 @@ tokens_before = b""
 # --- Records and lines ---------------------------------------------------------------------------
 
 
-def stored(before, payload):
-    """The five numbers that tell how tokens are stored, and the bytes to be stored."""
-    same = len(os.path.commonprefix([before, payload]))
-    best = (same, 0, same)
-    if len(payload) - same > 100:
-        for distance in (4, 16, 32):
-            first = max(same, distance)
-            for i in range(first, len(payload) + 1):
-                if i == len(payload) or payload[i] != payload[i - distance]:
-                    if i - first > best[2] - best[0]:
-                        best = (first, distance, i)
-                    first = i + 1
-    head, distance, middle = best
-    return (same, head, distance, middle, len(payload)), payload[same:head] + payload[middle:]
-
-
 def words(width, numbers):
     return b"".join(n.to_bytes(width, "big") for n in numbers)
 
@@ -68,7 +55,7 @@ def record(label, node_words, rules, token_words, start, line):
     table = words(2, [*node_words, *rules])
     same = len(os.path.commonprefix([table_before, table]))
     text = words(4, token_words)
-    numbers, rest = stored(tokens_before, text)
+    numbers, rest = stored(tokens_before, text, 100, (4, 16, 32))
     table_before = table
     tokens_before = text
     name = label.encode()
@@ -109,43 +96,10 @@ def success(answer, place):
 # --- Tables --------------------------------------------------------------------------------------
 
 # "four words a node: kind, a, b, relation", "Unused words are 0".
-EMPTY = (0, 0, 0, 0)
 A = (1, 1, 0, 0)
 B = (1, 2, 0, 0)
 C = (1, 3, 0, 0)
 KIND_10 = (10, 0, 0, 0)
-
-
-def rule(number):
-    return (2, number, 0, 0)
-
-
-def seq(a, b):
-    return (3, a, b, 0)
-
-
-def choice(a, b):
-    return (4, a, b, 0)
-
-
-def not_(a):
-    return (5, a, 0, 0)
-
-
-def repeat(a):
-    return (6, a, 0, 0)
-
-
-def indent(a, relation):
-    return (7, a, 0, relation)
-
-
-def position(a, relation):
-    return (8, a, 0, relation)
-
-
-def align(a):
-    return (9, a, 0, 0)
 
 
 def flat(nodes):

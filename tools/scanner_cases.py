@@ -9,10 +9,10 @@ that are put together for it, and a comment quotes the words of document 01 that
 """
 
 import itertools
-import os
 import pathlib
 
 from grammar_fields import EMPTY, START, TAIL, VERSION, field, keyword, node, rule, start, with_keywords
+from stored_bytes import stored
 
 CRATE = pathlib.Path(__file__).resolve().parent.parent / "crates" / "scanner_cases"
 
@@ -26,29 +26,13 @@ report_before = b""
 # --- Records and lines ---------------------------------------------------------------------------
 
 
-def stored(before, payload):
-    """The five numbers that tell how a file or report is stored, and the bytes to be stored."""
-    same = len(os.path.commonprefix([before, payload]))
-    best = (same, 0, same)
-    if len(payload) - same > 60:
-        for distance in (1, 2, 4, 9):
-            first = max(same, distance)
-            for i in range(first, len(payload) + 1):
-                if i == len(payload) or payload[i] != payload[i - distance]:
-                    if i - first > best[2] - best[0]:
-                        best = (first, distance, i)
-                    first = i + 1
-    head, distance, middle = best
-    return (same, head, distance, middle, len(payload)), payload[same:head] + payload[middle:]
-
-
 def record(kind, label, x, y, mark, file, report, line):
     """One call and the line expected of it. The layout is that of the program's first comment."""
     global file_before, report_before
     assert label not in labels, label
     labels.add(label)
-    file_numbers, file_bytes = stored(file_before, file)
-    report_numbers, report_bytes = stored(report_before, report)
+    file_numbers, file_bytes = stored(file_before, file, 60, (1, 2, 4, 9))
+    report_numbers, report_bytes = stored(report_before, report, 60, (1, 2, 4, 9))
     file_before = file
     report_before = report
     name = label.encode()

@@ -14,6 +14,8 @@ import itertools
 import os
 import pathlib
 
+from table_nodes import EMPTY, align, choice, indent, not_, position, repeat, rule, seq
+
 CRATE = pathlib.Path(__file__).resolve().parent.parent / "crates" / "well_formed_cases"
 
 records = []
@@ -75,41 +77,8 @@ def verdict(label, is_bad, node, nodes, rules=()):
 # --- Nodes ---------------------------------------------------------------------------------------
 
 # "four words a node: kind, a, b, relation", "Unused words are 0".
-EMPTY = (0, 0, 0, 0)
 A = (1, 1, 0, 0)
 B = (1, 2, 0, 0)
-
-
-def rule(number):
-    return (2, number, 0, 0)
-
-
-def seq(a, b):
-    return (3, a, b, 0)
-
-
-def choice(a, b):
-    return (4, a, b, 0)
-
-
-def not_(a):
-    return (5, a, 0, 0)
-
-
-def repeat(a):
-    return (6, a, 0, 0)
-
-
-def indent(a, relation=1):
-    return (7, a, 0, relation)
-
-
-def position(a, relation=1):
-    return (8, a, 0, relation)
-
-
-def align(a):
-    return (9, a, 0, 0)
 
 
 def moved(nodes, by):
