@@ -1,0 +1,62 @@
+-- `reader_abi::report` meets its contract.
+use borrow.Author.Needs.{needs}
+use Rattle.reader_abi.proofs.report.Statement.{statement}
+use Rattle.reader_abi.proofs.report.Tie as tie
+use mathlib.Core.Path.{refl, _∙_}
+
+enum-known-x : tie.Need-enum-known-x
+enum-known-x c = search needs
+
+success-words-requires : tie.Need-success-words-requires
+success-words-requires c κs = search needs
+
+enum-told : tie.Need-enum-told
+enum-told c = search needs
+
+element-write-result : tie.Need-element-write-result
+element-write-result c = search needs
+
+enum-known-x-2 : tie.Need-enum-known-x-2
+enum-known-x-2 c = search needs
+
+cast-result : tie.Need-cast-result
+cast-result c = search needs
+
+enum-known-x-3 : tie.Need-enum-known-x-3
+enum-known-x-3 c = search needs
+
+cast-result-2 : tie.Need-cast-result-2
+cast-result-2 c = search needs
+
+element-write-result-2 : tie.Need-element-write-result-2
+element-write-result-2 c = search needs
+
+returns : tie.Need-returns
+returns c = (rw (c .before .before .x .given .1) refl, c .success-words .ensures ∙ rw (c .before .before .x .given .1) refl)
+
+returns-2 : tie.Need-returns-2
+returns-2 c = rw (c .enum-told .given .1) (refl, refl)
+
+returns-3 : tie.Need-returns-3
+returns-3 c = search needs
+
+returns-4 : tie.Need-returns-4
+returns-4 c = rw (c .before .x3 .given .1) (refl, refl)
+
+pub report-spec : {M : Type 1} → statement M
+report-spec =
+    tie.close
+    (tie.spec
+    enum-known-x
+    success-words-requires
+    enum-told
+    element-write-result
+    enum-known-x-2
+    cast-result
+    enum-known-x-3
+    cast-result-2
+    element-write-result-2
+    returns
+    returns-2
+    returns-3
+    returns-4)

@@ -1,0 +1,51 @@
+-- `reader_abi::saktroum_check` meets its contract.
+use borrow.Author.Needs.{needs}
+use Rattle.reader_abi.proofs.saktroum_check.Statement.{statement}
+use Rattle.reader_abi.proofs.saktroum_check.Tie as tie
+use mathlib.Core.Path.{refl, sym, ap, _∙_}
+use Rattle.well_formed.specs.Check.{numbers}
+
+check-requires : tie.Need-check-requires
+check-requires c κs = search needs
+
+enum-known-x : tie.Need-enum-known-x
+enum-known-x c = search needs
+
+cast-result : tie.Need-cast-result
+cast-result c = search needs
+
+enum-known-x-2 : tie.Need-enum-known-x-2
+enum-known-x-2 c = search needs
+
+cast-result-2 : tie.Need-cast-result-2
+cast-result-2 c = search needs
+
+element-write-result : tie.Need-element-write-result
+element-write-result c = search needs
+
+enum-told : tie.Need-enum-told
+enum-told c = search needs
+
+returns : tie.Need-returns
+returns c = rw (← (sym (ap numbers (c .before .x .given .1)) ∙ c .before .before .before .check .ensures .0)) (refl, refl)
+
+returns-2 : tie.Need-returns-2
+returns-2 c = rw (← (sym (ap numbers (c .before .x2 .given .1)) ∙ c .before .before .before .check .ensures .0)) (refl, refl)
+
+returns-3 : tie.Need-returns-3
+returns-3 c = rw (← (sym (ap numbers (c .enum-told .given .1)) ∙ c .before .before .check .ensures .0)) (refl, refl)
+
+pub saktroum-check-spec : {M : Type 1} → statement M
+saktroum-check-spec =
+    tie.close
+    (tie.spec
+    check-requires
+    enum-known-x
+    cast-result
+    enum-known-x-2
+    cast-result-2
+    element-write-result
+    enum-told
+    returns
+    returns-2
+    returns-3)

@@ -1,0 +1,65 @@
+-- What the C interface reports: a number, and words in a lent array.
+use Prim.Native.Nat.{ℕ}
+use mathlib.Core.Bool.{Bool, true, false, cond}
+use mathlib.Core.List.{List, [], _∷_, _++_}
+use lib.ListN.{set}
+use Rattle.table.specs.Answer as table
+use Rattle.columns.specs.Intervals.{to}
+use Rattle.columns.specs.declared.Upper.{Upper}
+use Rattle.columns.specs.declared.Upper.the-variants.{At, Endless}
+use Rattle.columns.specs.declared.Start.{Start}
+use Rattle.grammar_file.specs.File.{Contents}
+use Rattle.well_formed.specs.Check.{NodeAnswer, given, refused, refusedAt}
+use Rattle.interpreter.specs.RunAnswer.{Ended, success, failure}
+
+-- An answer that names no node.
+abbrev pub nodeless : {A : Type 0} → table.Answer A → NodeAnswer A
+nodeless (table.given a) = given a
+nodeless (table.refused number) = refused number
+
+-- The number: 0 where the call passes every check, else that of the first it fails.
+abbrev pub number : {A : Type 0} → NodeAnswer A → ℕ
+number (given a) = 0
+number (refused n) = n
+number (refusedAt n node) = n
+
+-- The lent words afterwards: the value in them, or for 7 the node in the first; another number leaves them as they were.
+abbrev pub reported : {A : Type 0} → (A → List ℕ → List ℕ) → NodeAnswer A → List ℕ → List ℕ
+reported value (given a) before = value a before
+reported value (refused n) before = before
+reported value (refusedAt n node) before = set before 0 node
+
+-- "A read answers the counts of nodes, rules and keywords and the start", node and mode: five words.
+abbrev pub contentsIn : Contents → List ℕ → List ℕ
+contentsIn c before = c .nodes ∷ c .rules ∷ c .keywords ∷ c .start ∷ c .mode ∷ []
+
+-- The number of tokens of a scan: one word.
+abbrev pub countIn : ℕ → List ℕ → List ℕ
+countIn n before = n ∷ []
+
+-- Nothing, where a grammar passes the check.
+abbrev pub nothingIn : {A : Type 0} → A → List ℕ → List ℕ
+nothingIn a before = before
+
+-- A truth value as a word.
+abbrev pub bit : Bool → ℕ
+bit b = cond b 1 0
+
+-- An upper end: the column and 0, or 0 and 1 where it is without end.
+abbrev pub upperWords : Upper → List ℕ
+upperWords (At h) = h ∷ 0 ∷ []
+upperWords Endless = 0 ∷ 1 ∷ []
+
+-- Success, six words: 1, the tokens read, the lower end, the two of the upper end, the flag. Failure: 0 in the first.
+abbrev pub endedIn : Ended → List ℕ → List ℕ
+endedIn (success read lower upper flag) before = 1 ∷ read ∷ lower ∷ (upperWords upper ++ (bit flag ∷ []))
+endedIn failure before = set before 0 0
+
+-- The upper end of plain values: a column, unless it is without end.
+abbrev pub upperFrom : ℕ → Bool → Upper
+upperFrom upper endless = cond endless Endless (At upper)
+
+-- The start of plain values.
+abbrev pub startFrom : (node place lower upper : ℕ) (endless flag : Bool) (mode : ℕ) → Start
+startFrom node place lower upper endless flag mode =
+    record { node = node; place = place; interval = to lower (upperFrom upper endless); flag = flag; mode = mode }
