@@ -1,0 +1,93 @@
+/* Saktroum: a reader for indentation grammars. The C interface of the archive libreader_abi.a (x86-64 Linux).
+ *
+ * Four parts: a grammar file reader, a report scanner, a well-formedness check and an interpreter; and the line of the
+ * program over them. Every call ends, keeps no state between calls and may be made from several threads at once on
+ * different memory. What a call answers and writes is proved; what it is owed by its caller is not checked:
+ *
+ * - A slice is a pointer and the number of its elements. The pointer is not null, even for 0 elements, is aligned for
+ *   its element type, and the elements are there and set. `result` points to as many words as its brackets say.
+ * - What a call may write (a pointer without `const`) overlaps no other argument of the call.
+ * - Nothing else reads or writes a slice that a call may write, and nothing writes the others, until the call ends.
+ * - saktroum_run and saktroum_line call themselves as deep as grammar and tokens make them: 1 GiB of stack is enough for
+ *   every grammar and 4,096 tokens, 4 MiB for one that only reads a list item by item (docs/BENCHMARKS.md).
+ *
+ * The answer of the first four is 0 if the call passed every check, or the number of the first check it failed:
+ *
+ *    1  file over length, a field cut short, missing, out of order, unknown or of a wrong length, over 253 keywords
+ *    2  a keyword or name breaks its rules
+ *    3  node words no multiple of 4, node or rule count outside the limits (1 to 512 nodes, 0 to 128 rules)
+ *    4  kind over 9, child not lower, no such rule, terminal over 255, relation over 3, unused word not 0
+ *    5  a rule's node or the file's start node not in the table, the file's mode over 3
+ *    6  a lent slice too short for the table or the rules
+ *    7  not well formed; the lowest such node is in result[0]
+ *    8  report over length or a refused byte
+ *    9  a token's column over 65,535
+ *   10  over 4,096 tokens, or too few words lent
+ *   11  token words no multiple of 4, over 4,096 tokens, terminal over 255, column over 65,535
+ *   12  start node or place past its end, lower end over the upper or over 65,535, upper end over 65,535, mode over 3
+ *
+ * A call that answers a number writes nothing but the node for 7. After success, words past those written are as before.
+ */
+#ifndef SAKTROUM_H
+#define SAKTROUM_H
+
+#include <stdbool.h>
+#include <stddef.h>
+#include <stdint.h>
+
+#ifdef __cplusplus
+extern "C" {
+#endif
+
+/* Lent slices of these lengths are always long enough. */
+enum {
+    SAKTROUM_NODE_WORDS = 2048,
+    SAKTROUM_RULE_WORDS = 128,
+    SAKTROUM_TOKEN_WORDS = 16384,
+    SAKTROUM_LINE_BYTES = 64
+};
+
+/* Relations and token modes. */
+enum { SAKTROUM_EQUAL = 0, SAKTROUM_GREATER = 1, SAKTROUM_AT_LEAST = 2, SAKTROUM_ANY = 3 };
+
+/* Reads a grammar file (1 to 6). Writes four words a node (kind, a, b, relation) to `nodes` and a node number a rule to
+ * `rules`; result: the number of nodes, of rules, of keywords, the start node, its mode. */
+uint32_t saktroum_read(const uint8_t *file, size_t file_bytes,
+                       uint16_t *nodes, size_t node_words,
+                       uint16_t *rules, size_t rule_words,
+                       size_t result[5]);
+
+/* Scans a report by the keywords of a grammar file (1 to 5, 8 to 10). Writes four words a token (terminal, column,
+ * offset, length) to `tokens`; result: the number of tokens. */
+uint32_t saktroum_scan(const uint8_t *file, size_t file_bytes,
+                       const uint8_t *report, size_t report_bytes,
+                       uint32_t *tokens, size_t token_words,
+                       size_t result[1]);
+
+/* Checks that a grammar is well formed (3, 4, 5, 7). Writes result[0] for 7 only. */
+uint32_t saktroum_check(const uint16_t *nodes, size_t node_words,
+                        const uint16_t *rules, size_t rule_words,
+                        size_t result[1]);
+
+/* Runs a grammar on tokens (3, 4, 5, 7, 11, 12) from a start: its node, the token place, the interval from `lower` to
+ * `upper`, or without end (then `upper` is not looked at), the alignment flag and the token mode.
+ * result, on success: 1, the number of tokens read, the lower end, the upper end (0 if there is none), whether the
+ * interval is without end (1 or 0), whether the flag is set (1 or 0). On failure: result[0] is 0, the others are as before. */
+uint32_t saktroum_run(const uint16_t *nodes, size_t node_words,
+                      const uint16_t *rules, size_t rule_words,
+                      const uint32_t *tokens, size_t token_words,
+                      uint16_t node, uint32_t place, uint32_t lower, uint32_t upper,
+                      bool endless, bool flag, uint16_t mode,
+                      size_t result[6]);
+
+/* Writes the line that the program prints for a grammar file and a report, with its line break, to `out` and answers how
+ * many bytes it has. A slice of fewer than 64 bytes is left as it is, and the answer is 0. */
+size_t saktroum_line(const uint8_t *file, size_t file_bytes,
+                     const uint8_t *report, size_t report_bytes,
+                     uint8_t *out, size_t out_bytes);
+
+#ifdef __cplusplus
+}
+#endif
+
+#endif
