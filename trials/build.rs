@@ -1,0 +1,13 @@
+//! Links the proved reader: the archive that `rt staticlib reader_abi` writes.
+
+use std::path::Path;
+
+fn main() {
+    let folder = Path::new(env!("CARGO_MANIFEST_DIR")).join("../target/staticlib");
+    println!(
+        "cargo:rerun-if-changed={}",
+        folder.join("libreader_abi.a").display()
+    );
+    println!("cargo:rustc-link-search=native={}", folder.display());
+    println!("cargo:rustc-link-lib=static=reader_abi");
+}

@@ -1,0 +1,480 @@
+//! Grammars: well formed by construction, of several shapes, and wild ones.
+
+use super::Rng;
+use crate::second::kind::*;
+use crate::second::run::{Interval, State};
+
+/// A table and its rules.
+#[derive(Debug, Clone)]
+pub(super) struct Grammar {
+    pub nodes: Vec<[u16; 4]>,
+    pub rules: Vec<u16>,
+}
+
+impl Grammar {
+    pub fn words(&self) -> Vec<u16> {
+        self.nodes.concat()
+    }
+
+    /// Adds a node and gives its number.
+    fn push(&mut self, kind: u16, a: u16, b: u16, relation: u16) -> u16 {
+        self.nodes.push([kind, a, b, relation]);
+        (self.nodes.len() - 1) as u16
+    }
+}
+
+/// A grammar of any shape over the terminals of `alphabet`, mostly well formed.
+pub(super) fn grammar(rng: &mut Rng, alphabet: &[u16]) -> Grammar {
+    match rng.below(100) {
+        0..=37 => {
+            let size = rng.between(1, 12);
+            grown(rng, size, alphabet)
+        }
+        38..=54 => {
+            let size = rng.between(13, 60);
+            grown(rng, size, alphabet)
+        }
+        55..=60 => {
+            let size = if rng.chance(25) {
+                512
+            } else {
+                rng.between(61, 512)
+            };
+            grown(rng, size, alphabet)
+        }
+        61..=83 => blocks(rng, alphabet),
+        84..=93 => chain(rng, alphabet),
+        _ => wild(rng, alphabet),
+    }
+}
+
+/// What is held to be true of a node while a grammar grows. Both err to the safe side.
+#[derive(Clone, Copy)]
+struct Known {
+    /// May succeed reading nothing.
+    reads_nothing: bool,
+    /// The rules that may be entered before a token is read.
+    at_once: u128,
+    /// About the fewest tokens of a success.
+    tokens: usize,
+}
+
+/// A well-formed grammar, grown from the bottom up. Each rule is promised beforehand
+/// to read something or not, and its node is chosen at the end so that the promise
+/// holds and that before the first token it enters rules of lower number only. So no
+/// rule comes back to itself without a token read.
+pub(super) fn grown(rng: &mut Rng, size: usize, alphabet: &[u16]) -> Grammar {
+    let rule_count = match rng.below(10) {
+        0..=3 => 0,
+        4..=7 => rng.between(1, 3),
+        8 => rng.between(1, 12),
+        _ => *rng.pick(&[40, 127, 128]),
+    };
+    let promises: Vec<bool> = (0..rule_count).map(|_| rng.chance(75)).collect();
+    let mut grammar = Grammar {
+        nodes: Vec::new(),
+        rules: Vec::new(),
+    };
+    let mut known: Vec<Known> = Vec::new();
+    // One leaf is a terminal, so that every promise can be kept.
+    let sure_terminal = rng.below(size.min(4));
+    while grammar.nodes.len() < size {
+        let number = grammar.nodes.len();
+        let (node, about) = if number == sure_terminal {
+            leaf(rng, TERMINAL, alphabet, &promises)
+        } else {
+            grow(rng, &known, alphabet, &promises)
+        };
+        grammar.nodes.push(node);
+        known.push(about);
+    }
+    for (rule, &reads) in promises.iter().enumerate() {
+        let lower_rules = (1u128 << rule) - 1;
+        let fits: Vec<u16> = (0u16..)
+            .zip(&known)
+            .filter(|(_, about)| !(reads && about.reads_nothing))
+            .filter(|(_, about)| about.at_once & !lower_rules == 0)
+            .map(|(number, _)| number)
+            .collect();
+        // The later nodes hold more.
+        let node = (0..3).map(|_| *rng.pick(&fits)).max();
+        grammar.rules.push(node.expect("three picks"));
+    }
+    grammar
+}
+
+/// A node without children.
+fn leaf(rng: &mut Rng, kind: u16, alphabet: &[u16], promises: &[bool]) -> ([u16; 4], Known) {
+    match kind {
+        TERMINAL => (
+            [TERMINAL, *rng.pick(alphabet), 0, 0],
+            Known {
+                reads_nothing: false,
+                at_once: 0,
+                tokens: 1,
+            },
+        ),
+        RULE => {
+            let rule = rng.below(promises.len());
+            (
+                [RULE, rule as u16, 0, 0],
+                Known {
+                    reads_nothing: !promises[rule],
+                    at_once: 1 << rule,
+                    tokens: usize::from(promises[rule]),
+                },
+            )
+        }
+        _ => (
+            [EMPTY, 0, 0, 0],
+            Known {
+                reads_nothing: true,
+                at_once: 0,
+                tokens: 0,
+            },
+        ),
+    }
+}
+
+/// The next node over those known.
+fn grow(rng: &mut Rng, known: &[Known], alphabet: &[u16], promises: &[bool]) -> ([u16; 4], Known) {
+    let rule_weight = if promises.is_empty() { 0 } else { 12 };
+    let first = known.is_empty();
+    let over = |weight| if first { 0 } else { weight };
+    let mut kind = rng.weighted(&[
+        5,
+        20,
+        rule_weight,
+        over(26),
+        over(12),
+        over(3),
+        over(8),
+        over(14),
+        over(8),
+        over(9),
+    ]) as u16;
+    if kind <= RULE {
+        return leaf(rng, kind, alphabet, promises);
+    }
+    let a = child(rng, known);
+    let b = child(rng, known);
+    let (one, two) = (known[a], known[b]);
+    // Sequences of sequences need too many tokens soon.
+    if kind == SEQUENCE && one.tokens + two.tokens > 8 {
+        kind = CHOICE;
+    }
+    // A repeat needs a child that reads.
+    if kind == REPEAT && one.reads_nothing {
+        kind = ALIGN;
+    }
+    let relation = rng.below(4) as u16;
+    let (a, b) = (a as u16, b as u16);
+    match kind {
+        SEQUENCE => (
+            [SEQUENCE, a, b, 0],
+            Known {
+                reads_nothing: one.reads_nothing && two.reads_nothing,
+                at_once: one.at_once | if one.reads_nothing { two.at_once } else { 0 },
+                tokens: one.tokens + two.tokens,
+            },
+        ),
+        CHOICE => (
+            [CHOICE, a, b, 0],
+            Known {
+                reads_nothing: one.reads_nothing || two.reads_nothing,
+                at_once: one.at_once | two.at_once,
+                tokens: one.tokens.min(two.tokens),
+            },
+        ),
+        NOT | REPEAT => (
+            [kind, a, 0, 0],
+            Known {
+                reads_nothing: true,
+                tokens: 0,
+                ..one
+            },
+        ),
+        INDENT | POSITION => ([kind, a, 0, relation], one),
+        _ => ([ALIGN, a, 0, 0], one),
+    }
+}
+
+/// A child among the nodes so far, mostly one of the last.
+fn child(rng: &mut Rng, known: &[Known]) -> usize {
+    let count = known.len();
+    if rng.chance(60) {
+        count - 1 - rng.below(count.min(4))
+    } else {
+        rng.below(count)
+    }
+}
+
+/// Zero or more layout nodes around a node.
+fn wrapped(rng: &mut Rng, grammar: &mut Grammar, node: u16, layers: usize) -> u16 {
+    let mut node = node;
+    for _ in 0..layers {
+        let kind = *rng.pick(&[INDENT, INDENT, POSITION, ALIGN]);
+        let relation = if kind == ALIGN {
+            0
+        } else {
+            rng.below(4) as u16
+        };
+        node = grammar.push(kind, node, 0, relation);
+    }
+    node
+}
+
+/// Blocks of statements, as in 001's example: a statement is a head and perhaps a
+/// block, a block is a row of statements under an indent, each of them aligned.
+fn blocks(rng: &mut Rng, alphabet: &[u16]) -> Grammar {
+    let mut grammar = Grammar {
+        nodes: Vec::new(),
+        rules: vec![0, 0],
+    };
+    let head = grammar.push(TERMINAL, *rng.pick(alphabet), 0, 0);
+    let tail = grammar.push(TERMINAL, *rng.pick(alphabet), 0, 0);
+    let empty = grammar.push(EMPTY, 0, 0, 0);
+    let statement = grammar.push(RULE, 0, 0, 0);
+    let block = grammar.push(RULE, 1, 0, 0);
+
+    // Rule 0, the statement.
+    let layers = rng.below(3);
+    let end = wrapped(rng, &mut grammar, tail, layers);
+    let ends = match rng.below(3) {
+        0 => grammar.push(REPEAT, end, 0, 0),
+        1 => grammar.push(CHOICE, end, empty, 0),
+        _ => end,
+    };
+    let own = grammar.push(SEQUENCE, head, ends, 0);
+    let inner = if rng.chance(70) {
+        grammar.push(CHOICE, block, empty, 0)
+    } else {
+        let stop = grammar.push(NOT, head, 0, 0);
+        grammar.push(CHOICE, block, stop, 0)
+    };
+    grammar.rules[0] = grammar.push(SEQUENCE, own, inner, 0);
+
+    // Rule 1, the block.
+    let layers = rng.between(0, 2);
+    let mut item = wrapped(rng, &mut grammar, statement, layers);
+    if rng.chance(70) {
+        item = grammar.push(ALIGN, item, 0, 0);
+    }
+    let more = grammar.push(REPEAT, item, 0, 0);
+    let row = grammar.push(SEQUENCE, item, more, 0);
+    let relation = *rng.pick(&[1, 1, 1, 2, 0, 3]);
+    let mut rows = grammar.push(INDENT, row, 0, relation);
+    if rng.chance(40) {
+        rows = grammar.push(POSITION, rows, 0, rng.below(4) as u16);
+    }
+    grammar.rules[1] = rows;
+    grammar
+}
+
+/// A rule that reads one token a round, or a repeat of one token, with layout around
+/// each round: deep or long runs.
+fn chain(rng: &mut Rng, alphabet: &[u16]) -> Grammar {
+    let mut grammar = Grammar {
+        nodes: Vec::new(),
+        rules: vec![0],
+    };
+    let letter = grammar.push(TERMINAL, *rng.pick(alphabet), 0, 0);
+    let again = grammar.push(RULE, 0, 0, 0);
+    let layers = match rng.below(20) {
+        0 => rng.between(100, 500),
+        1..=4 => rng.between(8, 40),
+        _ => rng.below(5),
+    };
+    grammar.rules[0] = if rng.chance(70) {
+        let rest = wrapped(rng, &mut grammar, again, layers);
+        let both = grammar.push(SEQUENCE, letter, rest, 0);
+        let other = if rng.chance(60) {
+            grammar.push(EMPTY, 0, 0, 0)
+        } else {
+            letter
+        };
+        grammar.push(CHOICE, both, other, 0)
+    } else {
+        let round = wrapped(rng, &mut grammar, letter, layers);
+        grammar.push(REPEAT, round, 0, 0)
+    };
+    grammar
+}
+
+/// A table that keeps to checks 3 to 5 and to nothing else, often not well formed.
+pub(super) fn wild(rng: &mut Rng, alphabet: &[u16]) -> Grammar {
+    let size = match rng.below(10) {
+        0..=6 => rng.between(1, 8),
+        7 | 8 => rng.between(9, 40),
+        _ => rng.between(41, 512),
+    };
+    let rules = if rng.chance(30) { 0 } else { rng.between(1, 4) };
+    let mut grammar = Grammar {
+        nodes: Vec::new(),
+        rules: (0..rules).map(|_| rng.below(size) as u16).collect(),
+    };
+    for number in 0..size {
+        let over = |weight| if number == 0 { 0 } else { weight };
+        let rule_weight = if rules == 0 { 0 } else { 8 };
+        let kind = rng.weighted(&[
+            8,
+            25,
+            rule_weight,
+            over(20),
+            over(14),
+            over(6),
+            over(4),
+            over(6),
+            over(5),
+            over(6),
+        ]) as u16;
+        let mut below = || rng.below(number.max(1)) as u16;
+        let (a, b) = (below(), below());
+        let relation = rng.below(4) as u16;
+        match kind {
+            EMPTY => grammar.push(EMPTY, 0, 0, 0),
+            TERMINAL => grammar.push(TERMINAL, *rng.pick(alphabet), 0, 0),
+            RULE => grammar.push(RULE, rng.below(rules) as u16, 0, 0),
+            SEQUENCE | CHOICE => grammar.push(kind, a, b, 0),
+            INDENT | POSITION => grammar.push(kind, a, 0, relation),
+            _ => grammar.push(kind, a, 0, 0),
+        };
+    }
+    grammar
+}
+
+/// Makes a grammar not well formed, if it can.
+pub(super) fn spoil(rng: &mut Rng, grammar: &mut Grammar) {
+    match rng.below(3) {
+        // A rule that is itself.
+        0 => {
+            if let Some(node) = grammar.nodes.iter().position(|node| node[0] == RULE) {
+                let rule = usize::from(grammar.nodes[node][1]);
+                grammar.rules[rule] = node as u16;
+            }
+        }
+        // A repeat over what may read nothing.
+        1 => {
+            let spots: Vec<usize> = (1..grammar.nodes.len()).collect();
+            if !spots.is_empty() {
+                let spot = *rng.pick(&spots);
+                let child = rng.below(spot);
+                grammar.nodes[spot] = [REPEAT, child as u16, 0, 0];
+                if rng.chance(70) {
+                    grammar.nodes[child] = [EMPTY, 0, 0, 0];
+                }
+            }
+        }
+        // Rules that stand for anything.
+        _ => {
+            let count = grammar.nodes.len();
+            for rule in &mut grammar.rules {
+                if rng.chance(50) {
+                    *rule = rng.below(count) as u16;
+                }
+            }
+        }
+    }
+}
+
+/// A walk through a grammar that makes up tokens which it could read.
+pub(super) struct Walk<'w> {
+    pub rng: &'w mut Rng,
+    pub grammar: &'w Grammar,
+    /// Terminal and column.
+    pub tokens: Vec<[u32; 2]>,
+    pub most: usize,
+    pub fuel: usize,
+}
+
+impl Walk<'_> {
+    /// Walks one expression; `None` once the walk gives up.
+    pub fn expression(
+        &mut self,
+        node: u16,
+        mode: u16,
+        state: State,
+        depth: usize,
+    ) -> Option<State> {
+        self.fuel = self.fuel.checked_sub(1)?;
+        if depth > 1_500 {
+            return None;
+        }
+        let [kind, a, b, relation] = self.grammar.nodes[usize::from(node)];
+        let depth = depth + 1;
+        match kind {
+            TERMINAL => {
+                if self.tokens.len() >= self.most {
+                    return None;
+                }
+                let column = self.column(mode, state);
+                self.tokens.push([u32::from(a), column]);
+                // The place is of no use here.
+                state
+                    .read(column, mode)
+                    .map(|end| State { place: 0, ..end })
+            }
+            RULE => self.expression(self.grammar.rules[usize::from(a)], mode, state, depth),
+            SEQUENCE => {
+                let between = self.expression(a, mode, state, depth)?;
+                self.expression(b, mode, between, depth)
+            }
+            CHOICE => {
+                // Towards the end of the fuel, the alternative that often is the plain one.
+                let first = self.rng.chance(if self.fuel > 50 { 60 } else { 20 });
+                self.expression(if first { a } else { b }, mode, state, depth)
+            }
+            REPEAT => {
+                let mut state = state;
+                for _ in 0..self.rng.below(4) {
+                    state = self.expression(a, mode, state, depth)?;
+                }
+                Some(state)
+            }
+            INDENT => {
+                let inside = State {
+                    interval: state.interval.inner(relation),
+                    ..state
+                };
+                let end = self.expression(a, mode, inside, depth)?;
+                Some(State {
+                    interval: state.interval.meet(end.interval.outer(relation)),
+                    ..end
+                })
+            }
+            POSITION => self.expression(a, relation, state, depth),
+            ALIGN => {
+                let inside = State {
+                    flag: true,
+                    ..state
+                };
+                let end = self.expression(a, mode, inside, depth)?;
+                Some(State {
+                    flag: state.flag && end.flag,
+                    ..end
+                })
+            }
+            // Empty, and not.
+            _ => Some(state),
+        }
+    }
+
+    /// A column at which the next token may stand.
+    fn column(&mut self, mode: u16, state: State) -> u32 {
+        let allowed: Interval = if state.flag {
+            state.interval
+        } else {
+            state.interval.inner(mode)
+        };
+        let near = match self.rng.below(10) {
+            0..=3 => 0,
+            4..=7 => self.rng.below(4) as u32,
+            _ => self.rng.below(12) as u32,
+        };
+        let near = match allowed.upper {
+            Some(upper) => near.min(upper - allowed.lower),
+            None => near,
+        };
+        (allowed.lower + near).min(65_535)
+    }
+}

@@ -1,0 +1,351 @@
+//! Inputs for the check and the interpreter.
+
+use super::grammars::{self, Grammar, Walk};
+use super::Rng;
+use crate::second::kind::*;
+use crate::second::run::{Interval, State};
+use crate::second::{run_within, Ran, Start};
+
+/// Lent words and a start.
+#[derive(Debug, Clone, PartialEq, Eq)]
+pub struct RunInput {
+    pub nodes: Vec<u16>,
+    pub rules: Vec<u16>,
+    pub tokens: Vec<u32>,
+    pub start: Start,
+}
+
+/// An input for the interpreter; its tables serve the check as well.
+pub fn run_input(rng: &mut Rng) -> RunInput {
+    let alphabet = alphabet(rng);
+    let mut grammar = if rng.chance(3) {
+        grammars::wild(rng, &alphabet)
+    } else {
+        grammars::grammar(rng, &alphabet)
+    };
+    if rng.chance(5) {
+        grammars::spoil(rng, &mut grammar);
+    }
+    let mut input = good_input(rng, &grammar, &alphabet);
+    // Mostly one thing is broken, sometimes several.
+    if rng.chance(15) {
+        loop {
+            match rng.below(10) {
+                0..=5 => break_table(rng, &mut input),
+                6 | 7 => break_tokens(rng, &mut input),
+                _ => break_start(rng, &mut input),
+            }
+            if rng.chance(80) {
+                break;
+            }
+        }
+    }
+    input
+}
+
+/// A few terminals, mostly low ones.
+fn alphabet(rng: &mut Rng) -> Vec<u16> {
+    let count = rng.between(1, 4);
+    (0..count)
+        .map(|_| match rng.below(10) {
+            0 => *rng.pick(&[254, 255]),
+            1 => rng.below(256) as u16,
+            _ => rng.below(4) as u16,
+        })
+        .collect()
+}
+
+/// Tokens and a start within the limits for a grammar.
+fn good_input(rng: &mut Rng, grammar: &Grammar, alphabet: &[u16]) -> RunInput {
+    let nodes = grammar.words();
+    let mut input = RunInput {
+        nodes,
+        rules: grammar.rules.clone(),
+        tokens: Vec::new(),
+        start: start(rng, grammar),
+    };
+    // Some tries for tokens that are read, two of them at least.
+    for _ in 0..rng.between(1, 3) {
+        input.start = start(rng, grammar);
+        input.tokens = tokens(rng, grammar, &mut input.start, alphabet);
+        let ran = run_within(
+            &input.nodes,
+            &input.rules,
+            &input.tokens,
+            &input.start,
+            3_000,
+        );
+        if matches!(ran, Some(Ran::Success { read: 2.., .. })) {
+            break;
+        }
+    }
+    input
+}
+
+/// A start within the limits, at place 0.
+fn start(rng: &mut Rng, grammar: &Grammar) -> Start {
+    let count = grammar.nodes.len();
+    let node = match rng.below(10) {
+        0..=4 => count - 1 - rng.below(count.min(3)),
+        5..=7 if !grammar.rules.is_empty() => usize::from(*rng.pick(&grammar.rules)),
+        _ => rng.below(count),
+    };
+    let (lower, upper) = match rng.below(20) {
+        0..=9 => (0, None),
+        10..=12 => (0, Some(rng.below(12) as u32)),
+        13..=15 => (rng.below(12) as u32, None),
+        16 | 17 => {
+            let lower = rng.below(10) as u32;
+            (lower, Some(lower + rng.below(6) as u32))
+        }
+        18 => (65_530 + rng.below(6) as u32, None),
+        _ => {
+            let lower = 65_500 + rng.below(36) as u32;
+            (lower, Some(rng.between(lower as usize, 65_535) as u32))
+        }
+    };
+    Start {
+        node: node as u16,
+        place: 0,
+        lower,
+        upper,
+        flag: rng.chance(25),
+        mode: rng.below(4) as u16,
+    }
+}
+
+/// Tokens for a start, which they may move to a later place.
+fn tokens(rng: &mut Rng, grammar: &Grammar, start: &mut Start, alphabet: &[u16]) -> Vec<u32> {
+    let mut list: Vec<[u32; 2]> = match rng.below(20) {
+        0..=15 => {
+            let most = match rng.below(40) {
+                0 => 4_096,
+                1..=3 => 300,
+                _ => 40,
+            };
+            let mut walk = Walk {
+                rng,
+                grammar,
+                tokens: Vec::new(),
+                most,
+                fuel: 40 * most,
+            };
+            let begin = State {
+                interval: Interval {
+                    lower: start.lower,
+                    upper: start.upper,
+                },
+                place: 0,
+                flag: start.flag,
+            };
+            walk.expression(start.node, start.mode, begin, 0);
+            walk.tokens
+        }
+        16 => long_row(rng, alphabet),
+        _ => {
+            let count = rng.below(12);
+            (0..count).map(|_| any_token(rng, alphabet)).collect()
+        }
+    };
+    // A change here and there.
+    if rng.chance(40) {
+        for _ in 0..rng.between(1, 3) {
+            alter(rng, &mut list, alphabet);
+        }
+    }
+    // More tokens behind, and some in front of the start's place.
+    if rng.chance(30) {
+        for _ in 0..rng.between(1, 4) {
+            list.push(any_token(rng, alphabet));
+        }
+    }
+    if rng.chance(20) {
+        let before = rng.between(1, 4);
+        let front: Vec<[u32; 2]> = (0..before).map(|_| any_token(rng, alphabet)).collect();
+        list.splice(0..0, front);
+        start.place = before as u32;
+    }
+    list.truncate(4_096);
+    if rng.chance(3) {
+        start.place = rng.between(0, list.len()) as u32;
+    }
+    // The last two words mean nothing to the interpreter.
+    let mut words = Vec::with_capacity(4 * list.len());
+    for (number, [terminal, column]) in list.into_iter().enumerate() {
+        let rest = if rng.chance(5) {
+            [rng.word() as u32, rng.word() as u32]
+        } else {
+            [number as u32, 1]
+        };
+        words.extend_from_slice(&[terminal, column, rest[0], rest[1]]);
+    }
+    words
+}
+
+/// Many tokens of one terminal, at one column or at rising ones.
+fn long_row(rng: &mut Rng, alphabet: &[u16]) -> Vec<[u32; 2]> {
+    let count = *rng.pick(&[20, 40, 200, 1_000, 4_095, 4_096]);
+    let terminal = u32::from(*rng.pick(alphabet));
+    let first = *rng.pick(&[0, 1, 3, 60_000]);
+    let step = *rng.pick(&[0, 0, 1]);
+    (0..count)
+        .map(|number| [terminal, first + step * number])
+        .collect()
+}
+
+fn any_token(rng: &mut Rng, alphabet: &[u16]) -> [u32; 2] {
+    let terminal = if rng.chance(90) {
+        u32::from(*rng.pick(alphabet))
+    } else {
+        rng.below(256) as u32
+    };
+    let column = if rng.chance(95) {
+        rng.below(13)
+    } else {
+        rng.between(65_520, 65_535)
+    };
+    [terminal, column as u32]
+}
+
+fn alter(rng: &mut Rng, list: &mut Vec<[u32; 2]>, alphabet: &[u16]) {
+    if list.is_empty() {
+        list.push(any_token(rng, alphabet));
+        return;
+    }
+    let at = rng.below(list.len());
+    match rng.below(6) {
+        0 => list[at][1] = (list[at][1] + 1).min(65_535),
+        1 => list[at][1] = list[at][1].saturating_sub(1),
+        2 => list[at] = any_token(rng, alphabet),
+        3 => list.insert(at, any_token(rng, alphabet)),
+        4 => list.truncate(at),
+        _ => {
+            list.remove(at);
+        }
+    }
+}
+
+/// Breaks checks 3, 4 or 5.
+fn break_table(rng: &mut Rng, input: &mut RunInput) {
+    match rng.below(13) {
+        // Check 3.
+        0 => {
+            for _ in 0..rng.between(1, 3) {
+                input.nodes.push(0);
+            }
+        }
+        1 => {
+            let cut = rng.between(1, 4);
+            input.nodes.truncate(input.nodes.len().saturating_sub(cut));
+        }
+        2 => input.nodes.clear(),
+        3 => input.nodes.resize(4 * *rng.pick(&[512, 513, 513]), 0),
+        4 => input.rules.resize(*rng.pick(&[128, 129, 129]), 0),
+        // Check 5.
+        5 | 6 => {
+            let count = input.nodes.len() / 4;
+            let node = *rng.pick(&[count, count + 1, 512, 65_535]) as u16;
+            if input.rules.is_empty() || rng.chance(30) {
+                input.rules.push(node);
+            } else {
+                let rule = rng.below(input.rules.len());
+                input.rules[rule] = node;
+            }
+        }
+        // Check 4.
+        _ => {
+            let count = input.nodes.len() / 4;
+            if count > 0 {
+                let number = rng.below(count);
+                let rules = input.rules.len();
+                break_node(
+                    rng,
+                    number,
+                    rules,
+                    &mut input.nodes[4 * number..4 * number + 4],
+                );
+            }
+        }
+    }
+}
+
+/// Breaks check 4 for one node.
+fn break_node(rng: &mut Rng, number: usize, rules: usize, node: &mut [u16]) {
+    let high = [number as u16, number as u16 + 1, 512, 65_535];
+    match rng.below(6) {
+        0 => node[0] = *rng.pick(&[10, 11, 255, 256, 65_535]),
+        1 => {
+            // A child that is not lower, a rule that is not there, a terminal over 255.
+            match node[0] {
+                EMPTY => node[1] = 1,
+                TERMINAL => node[1] = *rng.pick(&[256, 257, 65_535]),
+                RULE => node[1] = *rng.pick(&[rules as u16, rules as u16 + 1, 65_535]),
+                SEQUENCE | CHOICE if rng.chance(50) => node[2] = *rng.pick(&high),
+                _ => node[1] = *rng.pick(&high),
+            }
+        }
+        2 => node[3] = *rng.pick(&[1, 3, 4, 5, 255, 65_535]),
+        3 => node[2] = *rng.pick(&[1, number as u16, 65_535]),
+        4 => {
+            // Every kind on the words of another.
+            node[0] = rng.below(10) as u16;
+        }
+        _ => {
+            let word = rng.below(4);
+            node[word] = rng.word() as u16;
+        }
+    }
+}
+
+/// Breaks check 11.
+fn break_tokens(rng: &mut Rng, input: &mut RunInput) {
+    let count = input.tokens.len() / 4;
+    match rng.below(6) {
+        0 => {
+            for _ in 0..rng.between(1, 3) {
+                input.tokens.push(0);
+            }
+        }
+        1 => {
+            let cut = rng.between(1, 3);
+            input
+                .tokens
+                .truncate(input.tokens.len().saturating_sub(cut));
+        }
+        2 => input.tokens.resize(4 * *rng.pick(&[4_096, 4_097]), 0),
+        3 if count > 0 => {
+            let token = rng.below(count);
+            input.tokens[4 * token] = *rng.pick(&[255, 256, 65_536, u32::MAX]);
+        }
+        _ if count > 0 => {
+            let token = rng.below(count);
+            input.tokens[4 * token + 1] = *rng.pick(&[65_535, 65_536, u32::MAX]);
+        }
+        _ => input.tokens.extend([0, 65_536, 0, 0]),
+    }
+}
+
+/// Breaks check 12, or goes to its limits.
+fn break_start(rng: &mut Rng, input: &mut RunInput) {
+    let start = &mut input.start;
+    match rng.below(8) {
+        0 => {
+            let count = (input.nodes.len() / 4) as u16;
+            start.node = *rng.pick(&[count, count.saturating_sub(1), 512, 65_535]);
+        }
+        1 => {
+            let count = (input.tokens.len() / 4) as u32;
+            start.place = *rng.pick(&[count, count + 1, 4_097, u32::MAX]);
+        }
+        2 => {
+            start.upper = Some(rng.below(10) as u32);
+            start.lower = start.upper.unwrap_or(0) + rng.between(0, 2) as u32;
+        }
+        3 => {
+            start.lower = *rng.pick(&[65_535, 65_536, u32::MAX]);
+            start.upper = *rng.pick(&[None, Some(start.lower), Some(u32::MAX)]);
+        }
+        4 | 5 => start.upper = Some(*rng.pick(&[65_535, 65_536, u32::MAX])),
+        _ => start.mode = *rng.pick(&[3, 4, 5, 65_535]),
+    }
+}

@@ -1,0 +1,6 @@
+//! Trials of the proved reader against a second one that was written from the papers alone: generated inputs, published
+//! examples and benchmarks.
+
+pub mod generate;
+pub mod ours;
+pub mod second;

@@ -1,0 +1,51 @@
+//! The trials.
+//!
+//!     trials compare SEED RUNS FILES    both readers on generated inputs
+//!     trials published CASES            both readers on the published examples
+//!     trials round CASES                a short round of both, as the gate makes it
+//!     trials bench                      both readers' time for the same work
+
+mod bench;
+mod compare;
+mod published;
+
+use std::process::ExitCode;
+
+/// The stack of the thread that all runs are made on.
+const STACK: usize = 2 << 30;
+
+/// The short round's seed, and how many runs and files it compares.
+const ROUND: (u64, u64, u64) = (1, 60_000, 12_000);
+
+fn trials(words: &[&str]) -> Result<(), String> {
+    match words {
+        ["compare", seed, runs, files] => {
+            let number = |word: &str| word.parse().map_err(|_| format!("{word} is no number"));
+            compare::compare(number(seed)?, number(runs)?, number(files)?)
+        }
+        ["published", cases] => published::published(cases),
+        ["round", cases] => {
+            published::published(cases)?;
+            compare::compare(ROUND.0, ROUND.1, ROUND.2)
+        }
+        ["bench"] => bench::bench(),
+        _ => Err(
+            "usage: trials compare SEED RUNS FILES | published CASES | round CASES | bench".into(),
+        ),
+    }
+}
+
+fn main() -> ExitCode {
+    let words: Vec<String> = std::env::args().skip(1).collect();
+    let thread = std::thread::Builder::new()
+        .stack_size(STACK)
+        .spawn(move || trials(&words.iter().map(String::as_str).collect::<Vec<_>>()));
+    match thread.expect("a thread with a large stack").join() {
+        Ok(Ok(())) => ExitCode::SUCCESS,
+        Ok(Err(message)) => {
+            eprintln!("{message}");
+            ExitCode::FAILURE
+        }
+        Err(_) => ExitCode::FAILURE,
+    }
+}

@@ -1,0 +1,54 @@
+//! The indentation grammar reader, written from the paper `01-scope.md` (called
+//! 01 below) and from Nestra 2017 (called 001 below) alone.
+//!
+//! Four parts: the file reader (`read`), the scanner (`scan`, `next_token`), the
+//! check (`check`) and the interpreter (`run`); `line` is the program over them.
+//! `sets` holds the same clauses over sets of natural numbers.
+
+mod check;
+mod file;
+mod line;
+pub(crate) mod run;
+mod scan;
+pub mod sets;
+
+pub use check::{check, Verdict};
+pub use file::{read, FileRead};
+pub use line::line;
+pub use run::{run, run_within, Ran, Start};
+pub use scan::{next_token, scan, Handed, Value};
+
+/// The kinds of nodes, 01 "The grammar table".
+pub mod kind {
+    pub const EMPTY: u16 = 0;
+    pub const TERMINAL: u16 = 1;
+    pub const RULE: u16 = 2;
+    pub const SEQUENCE: u16 = 3;
+    pub const CHOICE: u16 = 4;
+    pub const NOT: u16 = 5;
+    pub const REPEAT: u16 = 6;
+    pub const INDENT: u16 = 7;
+    pub const POSITION: u16 = 8;
+    pub const ALIGN: u16 = 9;
+}
+
+/// The relations, which are also the token modes.
+pub mod relation {
+    pub const EQUAL: u16 = 0;
+    pub const GREATER: u16 = 1;
+    pub const AT_LEAST: u16 = 2;
+    pub const ANY: u16 = 3;
+}
+
+/// "At most 65,535 bytes", for the grammar file and for the report.
+pub(crate) const MOST_BYTES: usize = 65_535;
+/// "1 to 512 nodes".
+pub(crate) const MOST_NODES: usize = 512;
+/// "0 to 128 rules".
+pub(crate) const MOST_RULES: usize = 128;
+/// "At most 253 keywords".
+pub(crate) const MOST_KEYWORDS: usize = 253;
+/// "At most 4,096 tokens".
+pub(crate) const MOST_TOKENS: usize = 4_096;
+/// "columns at most 65,535".
+pub(crate) const MOST_COLUMN: u32 = 65_535;

@@ -1,0 +1,346 @@
+//! The interpreter, with two ends for the column interval: 01 "Columns and states",
+//! and the ten clauses of 001.
+
+use super::{check, kind, relation, Verdict, MOST_COLUMN, MOST_TOKENS};
+use std::convert::Infallible;
+
+/// "A start gives a node, a token place, an interval, a flag and a mode."
+#[derive(Debug, Clone, Copy, PartialEq, Eq)]
+pub struct Start {
+    pub node: u16,
+    pub place: u32,
+    pub lower: u32,
+    /// `None` is without end.
+    pub upper: Option<u32>,
+    pub flag: bool,
+    pub mode: u16,
+}
+
+/// What the interpreter answers.
+#[derive(Debug, Clone, Copy, PartialEq, Eq)]
+pub enum Ran {
+    Success {
+        /// The number of tokens read from the start's place on.
+        read: u32,
+        lower: u32,
+        upper: Option<u32>,
+        flag: bool,
+    },
+    Failure,
+    /// 3, 4, 5, 11 or 12.
+    Refused(u8),
+    /// 7, with the lowest node that is not well formed.
+    IllFormed(u16),
+}
+
+/// Runs the start on the tokens. The recursion may be some millions of calls deep:
+/// the caller lends the stack.
+pub fn run(nodes: &[u16], rules: &[u16], tokens: &[u32], start: &Start) -> Ran {
+    match run_metered(nodes, rules, tokens, start, Unmetered) {
+        Ok(ran) => ran,
+        Err(never) => match never {},
+    }
+}
+
+/// As `run`, but `None` once more than `steps` expressions were entered.
+pub fn run_within(
+    nodes: &[u16],
+    rules: &[u16],
+    tokens: &[u32],
+    start: &Start,
+    steps: u64,
+) -> Option<Ran> {
+    run_metered(nodes, rules, tokens, start, Steps(steps)).ok()
+}
+
+/// Checks 3, 4, 5, 7, 11 and 12, in this order.
+pub(super) fn refusal(
+    nodes: &[u16],
+    rules: &[u16],
+    tokens: &[u32],
+    start: &Start,
+) -> Result<(), Ran> {
+    match check::check(nodes, rules) {
+        Verdict::Passes => {}
+        Verdict::Refused(number) => return Err(Ran::Refused(number)),
+        Verdict::IllFormed(node) => return Err(Ran::IllFormed(node)),
+    }
+    // Check 11: "token words no multiple of 4, over 4,096 tokens, terminal over 255,
+    // column over 65,535".
+    let (list, over) = tokens.as_chunks::<4>();
+    if !over.is_empty()
+        || list.len() > MOST_TOKENS
+        || list
+            .iter()
+            .any(|token| token[0] > 255 || token[1] > MOST_COLUMN)
+    {
+        return Err(Ran::Refused(11));
+    }
+    // Check 12: the start.
+    if usize::from(start.node) >= nodes.len() / 4
+        || start.place as usize > list.len()
+        || start.upper.is_some_and(|upper| start.lower > upper)
+        || start.lower > MOST_COLUMN
+        || start.upper.is_some_and(|upper| upper > MOST_COLUMN)
+        || start.mode > 3
+    {
+        return Err(Ran::Refused(12));
+    }
+    Ok(())
+}
+
+fn run_metered<M: Meter>(
+    nodes: &[u16],
+    rules: &[u16],
+    tokens: &[u32],
+    start: &Start,
+    meter: M,
+) -> Result<Ran, M::Stop> {
+    if let Err(refused) = refusal(nodes, rules, tokens, start) {
+        return Ok(refused);
+    }
+    let begin = State {
+        interval: Interval {
+            lower: start.lower,
+            upper: start.upper,
+        },
+        // At most 4,096 by checks 11 and 12.
+        place: start.place as u16,
+        flag: start.flag,
+    };
+    let mut reader = Reader {
+        nodes: nodes.as_chunks().0,
+        rules,
+        tokens: tokens.as_chunks().0,
+        state: begin,
+        meter,
+    };
+    if !reader.expression(start.node, start.mode)? {
+        return Ok(Ran::Failure);
+    }
+    let end = reader.state;
+    Ok(Ran::Success {
+        read: u32::from(end.place - begin.place),
+        lower: end.interval.lower,
+        upper: end.interval.upper,
+        flag: end.flag,
+    })
+}
+
+/// Counts the expressions entered.
+trait Meter {
+    type Stop;
+    fn enter(&mut self) -> Result<(), Self::Stop>;
+}
+
+struct Unmetered;
+
+impl Meter for Unmetered {
+    type Stop = Infallible;
+    #[inline]
+    fn enter(&mut self) -> Result<(), Infallible> {
+        Ok(())
+    }
+}
+
+/// The steps left.
+struct Steps(u64);
+
+impl Meter for Steps {
+    type Stop = ();
+    #[inline]
+    fn enter(&mut self) -> Result<(), ()> {
+        self.0 = self.0.checked_sub(1).ok_or(())?;
+        Ok(())
+    }
+}
+
+/// "An interval is a lower column and an upper end that is either a column or
+/// without end." It is never empty (001, theorem 2.1). The lower end grows by one an
+/// indent, so it stays below 65,536 + 512 * 4,097.
+#[derive(Debug, Clone, Copy, PartialEq, Eq)]
+pub(crate) struct Interval {
+    pub lower: u32,
+    pub upper: Option<u32>,
+}
+
+impl Interval {
+    /// i to i.
+    pub(crate) fn only(column: u32) -> Self {
+        Interval {
+            lower: column,
+            upper: Some(column),
+        }
+    }
+
+    pub(crate) fn holds(self, column: u32) -> bool {
+        self.lower <= column && self.upper.is_none_or(|upper| column <= upper)
+    }
+
+    /// The table's "inner set on the way in".
+    pub(crate) fn inner(self, relation: u16) -> Self {
+        let (lower, upper) = match relation {
+            relation::EQUAL => (self.lower, self.upper),
+            relation::GREATER => (self.lower + 1, None),
+            relation::AT_LEAST => (self.lower, None),
+            _ => (0, None),
+        };
+        Interval { lower, upper }
+    }
+
+    /// The table's "outer set on the way out". Under greater the upper end is at
+    /// least 1, since the interval lies within an inner set under greater.
+    pub(crate) fn outer(self, relation: u16) -> Self {
+        let (lower, upper) = match relation {
+            relation::EQUAL => (self.lower, self.upper),
+            relation::GREATER => (0, self.upper.map(|upper| upper - 1)),
+            relation::AT_LEAST => (0, self.upper),
+            _ => (0, None),
+        };
+        Interval { lower, upper }
+    }
+
+    pub(crate) fn meet(self, other: Self) -> Self {
+        Interval {
+            lower: self.lower.max(other.lower),
+            upper: match (self.upper, other.upper) {
+                (Some(one), Some(two)) => Some(one.min(two)),
+                (one, two) => one.or(two),
+            },
+        }
+    }
+}
+
+/// "A state is the place in the token list, the interval and the alignment flag."
+#[derive(Debug, Clone, Copy, PartialEq, Eq)]
+pub(crate) struct State {
+    pub interval: Interval,
+    pub place: u16,
+    pub flag: bool,
+}
+
+impl State {
+    /// Clause 2 on one token of the right terminal.
+    #[inline]
+    pub(crate) fn read(self, column: u32, mode: u16) -> Option<State> {
+        let interval = if self.flag {
+            // "with the flag set, i must lie in the interval, which becomes i to i"
+            if !self.interval.holds(column) {
+                return None;
+            }
+            Interval::only(column)
+        } else {
+            // "else i must lie in the mode's inner set, and the interval is met with
+            // the mode's outer set of i to i"
+            if !self.interval.inner(mode).holds(column) {
+                return None;
+            }
+            self.interval.meet(Interval::only(column).outer(mode))
+        };
+        Some(State {
+            interval,
+            place: self.place + 1,
+            flag: false,
+        })
+    }
+}
+
+/// The tables, and the state reached. The state is held here and not handed from call
+/// to call, which keeps the calls small on the stack.
+struct Reader<'t, M> {
+    nodes: &'t [[u16; 4]],
+    rules: &'t [u16],
+    tokens: &'t [[u32; 4]],
+    state: State,
+    meter: M,
+}
+
+impl<M: Meter> Reader<'_, M> {
+    /// One expression in a mode from the state reached: whether it succeeds, and then
+    /// the state is where it ended. After a failure the state may be anything, and
+    /// whoever goes on puts its own copy back. Where the last part's outcome is the
+    /// whole's, the loop goes on with that part instead of a call.
+    fn expression(&mut self, mut node: u16, mut mode: u16) -> Result<bool, M::Stop> {
+        loop {
+            self.meter.enter()?;
+            let [kind, a, b, relation] = self.nodes[usize::from(node)];
+            match kind {
+                // Clause 1.
+                kind::EMPTY => return Ok(true),
+                // Clause 2.
+                kind::TERMINAL => {
+                    let place = usize::from(self.state.place);
+                    let end = match self.tokens.get(place) {
+                        Some(&[terminal, column, ..]) if terminal == u32::from(a) => {
+                            self.state.read(column, mode)
+                        }
+                        _ => None,
+                    };
+                    if let Some(end) = end {
+                        self.state = end;
+                    }
+                    return Ok(end.is_some());
+                }
+                // Clause 3.
+                kind::RULE => node = self.rules[usize::from(a)],
+                // Clause 4: b from where a ended.
+                kind::SEQUENCE => {
+                    if !self.expression(a, mode)? {
+                        return Ok(false);
+                    }
+                    node = b;
+                }
+                // Clause 5: b from the old state.
+                kind::CHOICE => {
+                    let old = self.state;
+                    if self.expression(a, mode)? {
+                        return Ok(true);
+                    }
+                    self.state = old;
+                    node = b;
+                }
+                // Clause 6: the old state is handed on.
+                kind::NOT => {
+                    let old = self.state;
+                    let child = self.expression(a, mode)?;
+                    self.state = old;
+                    return Ok(!child);
+                }
+                // Clause 7. It ends: in a well-formed grammar each round reads.
+                kind::REPEAT => loop {
+                    let old = self.state;
+                    if !self.expression(a, mode)? {
+                        self.state = old;
+                        return Ok(true);
+                    }
+                },
+                // Clause 8, under a set flag too.
+                kind::INDENT => {
+                    let old = self.state.interval;
+                    self.state.interval = old.inner(relation);
+                    if !self.expression(a, mode)? {
+                        return Ok(false);
+                    }
+                    self.state.interval = old.meet(self.state.interval.outer(relation));
+                    return Ok(true);
+                }
+                // Clause 9.
+                kind::POSITION => {
+                    mode = relation;
+                    node = a;
+                }
+                // Clause 10: "set exactly if it was set both before and at the inner
+                // end".
+                _ => {
+                    let old = self.state.flag;
+                    self.state.flag = true;
+                    if !self.expression(a, mode)? {
+                        return Ok(false);
+                    }
+                    self.state.flag &= old;
+                    return Ok(true);
+                }
+            }
+        }
+    }
+}

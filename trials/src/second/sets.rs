@@ -1,0 +1,339 @@
+//! 01 "The clauses over sets": the ten clauses with a set of natural numbers in the
+//! state, and nothing of the two ends.
+
+use super::{kind, relation, run::refusal, Ran, Start};
+
+/// What a run over sets answers.
+#[derive(Debug, Clone, PartialEq, Eq)]
+pub enum SetRan {
+    Success {
+        read: u32,
+        set: ColumnSet,
+        flag: bool,
+    },
+    Failure,
+    /// 3, 4, 5, 11 or 12.
+    Refused(u8),
+    /// 7, with the lowest node that is not well formed.
+    IllFormed(u16),
+}
+
+/// A set of natural numbers whose membership changes at finitely many numbers: the
+/// numbers at which it changes, rising. A number is in the set exactly if an odd
+/// count of changes lies at or below it.
+#[derive(Debug, Clone, PartialEq, Eq)]
+pub struct ColumnSet {
+    changes: Vec<u64>,
+}
+
+impl ColumnSet {
+    pub fn contains(&self, n: u64) -> bool {
+        self.changes.partition_point(|&change| change <= n) % 2 == 1
+    }
+
+    pub fn is_empty(&self) -> bool {
+        self.changes.is_empty()
+    }
+
+    /// The set as its longest runs, rising: the first number of each and the last,
+    /// `None` for a run without end.
+    pub fn runs(&self) -> Vec<(u64, Option<u64>)> {
+        self.changes
+            .chunks(2)
+            .map(|ends| (ends[0], ends.get(1).map(|&end| end - 1)))
+            .collect()
+    }
+
+    /// The one number.
+    fn only(n: u64) -> Self {
+        ColumnSet {
+            changes: vec![n, n + 1],
+        }
+    }
+
+    /// The set of which `member` tells, if membership changes at `points` only.
+    fn told(mut points: Vec<u64>, member: impl Fn(u64) -> bool) -> Self {
+        points.push(0);
+        points.sort_unstable();
+        points.dedup();
+        let mut inside = false;
+        points.retain(|&point| {
+            let changes = member(point) != inside;
+            inside ^= changes;
+            changes
+        });
+        ColumnSet { changes: points }
+    }
+
+    /// The numbers in both.
+    fn meet(&self, other: &ColumnSet) -> Self {
+        let points = [&self.changes[..], &other.changes].concat();
+        Self::told(points, |n| self.contains(n) && other.contains(n))
+    }
+
+    /// "The inner set of S is every i that stands in the relation to some k in S".
+    fn inner(&self, relation: u16) -> Self {
+        Self::told(self.near_changes(), |i| {
+            self.some(i, |k| stands(relation, i, k))
+        })
+    }
+
+    /// "the outer set of T, every k to which some i in T so stands".
+    fn outer(&self, relation: u16) -> Self {
+        Self::told(self.near_changes(), |k| {
+            self.some(k, |i| stands(relation, i, k))
+        })
+    }
+
+    /// The changes and their neighbours. Whether a number has a partner in the set
+    /// turns at these only: the relations compare two numbers by order, so a number
+    /// and the next have the same partners unless one of them, or one next to them,
+    /// enters or leaves the set.
+    fn near_changes(&self) -> Vec<u64> {
+        self.changes
+            .iter()
+            .flat_map(|&change| [change.saturating_sub(1), change, change + 1])
+            .collect()
+    }
+
+    /// Whether some number of the set passes the test. The test asks only for the
+    /// order of the number and `from`, so in each run of the set its first number,
+    /// its last (or, without end, one above `from`), and `from` itself and its
+    /// neighbours stand for all.
+    fn some(&self, from: u64, test: impl Fn(u64) -> bool) -> bool {
+        let beyond = self.changes.last().map_or(0, |&last| last.max(from) + 1);
+        let ends = self
+            .changes
+            .iter()
+            .flat_map(|&change| [change.saturating_sub(1), change]);
+        let near = [from.saturating_sub(1), from, from + 1, beyond];
+        ends.chain(near).any(|n| self.contains(n) && test(n))
+    }
+}
+
+/// How an inner column `i` stands to an outer baseline `k`.
+fn stands(relation: u16, i: u64, k: u64) -> bool {
+    match relation {
+        relation::EQUAL => i == k,
+        relation::GREATER => i > k,
+        relation::AT_LEAST => i >= k,
+        _ => true,
+    }
+}
+
+/// "Their state is a place, a set S of natural numbers and the flag".
+#[derive(Clone)]
+struct State {
+    place: usize,
+    set: ColumnSet,
+    flag: bool,
+}
+
+/// More expressions were entered than allowed.
+struct OutOfSteps;
+
+type Outcome = Result<Option<State>, OutOfSteps>;
+
+struct Clauses<'t> {
+    nodes: &'t [u16],
+    rules: &'t [u16],
+    tokens: &'t [u32],
+    steps_left: u64,
+}
+
+/// Runs the clauses over sets; the caller lends the stack.
+pub fn run(nodes: &[u16], rules: &[u16], tokens: &[u32], start: &Start) -> SetRan {
+    // So many steps are never taken in the lifetime of a machine.
+    run_within(nodes, rules, tokens, start, u64::MAX).expect("the steps do not run out")
+}
+
+/// As `run`, but `None` once more than `steps` expressions were entered.
+pub fn run_within(
+    nodes: &[u16],
+    rules: &[u16],
+    tokens: &[u32],
+    start: &Start,
+    steps: u64,
+) -> Option<SetRan> {
+    match refusal(nodes, rules, tokens, start) {
+        Err(Ran::IllFormed(node)) => return Some(SetRan::IllFormed(node)),
+        Err(Ran::Refused(number)) => return Some(SetRan::Refused(number)),
+        _ => {}
+    }
+    let mut clauses = Clauses {
+        nodes,
+        rules,
+        tokens,
+        steps_left: steps,
+    };
+    // "at first the start's place and flag, and every natural number in its interval"
+    let mut changes = vec![u64::from(start.lower)];
+    changes.extend(start.upper.map(|upper| u64::from(upper) + 1));
+    let begin = State {
+        place: start.place as usize,
+        set: ColumnSet { changes },
+        flag: start.flag,
+    };
+    let place = begin.place;
+    match clauses.expression(start.node, start.mode, begin) {
+        Err(OutOfSteps) => None,
+        Ok(None) => Some(SetRan::Failure),
+        Ok(Some(end)) => Some(SetRan::Success {
+            read: (end.place - place) as u32,
+            set: end.set,
+            flag: end.flag,
+        }),
+    }
+}
+
+impl Clauses<'_> {
+    /// An expression in a mode from a state: the state of its success, or `None` for
+    /// its failure.
+    fn expression(&mut self, node: u16, mode: u16, state: State) -> Outcome {
+        self.steps_left = self.steps_left.checked_sub(1).ok_or(OutOfSteps)?;
+        let words = &self.nodes[4 * usize::from(node)..][..4];
+        let (a, b, relation) = (words[1], words[2], words[3]);
+        match words[0] {
+            // "Empty changes nothing."
+            kind::EMPTY => Ok(Some(state)),
+            kind::TERMINAL => Ok(self.terminal(a, mode, state)),
+            // "A rule is its node."
+            kind::RULE => self.expression(self.rules[usize::from(a)], mode, state),
+            // "a, then b from where a ended"
+            kind::SEQUENCE => match self.expression(a, mode, state)? {
+                Some(between) => self.expression(b, mode, between),
+                None => Ok(None),
+            },
+            // "a, or if a fails b from the old state"
+            kind::CHOICE => match self.expression(a, mode, state.clone())? {
+                Some(end) => Ok(Some(end)),
+                None => self.expression(b, mode, state),
+            },
+            // "Not succeeds exactly if its child fails"; "Not and failure hand the old
+            // state on".
+            kind::NOT => match self.expression(a, mode, state.clone())? {
+                Some(_) => Ok(None),
+                None => Ok(Some(state)),
+            },
+            // "success in the old state if the child fails, else the repeat again from
+            // where the child ended"
+            kind::REPEAT => {
+                let mut old = state;
+                while let Some(end) = self.expression(a, mode, old.clone())? {
+                    old = end;
+                }
+                Ok(Some(old))
+            }
+            kind::INDENT => self.indent(a, relation, mode, state),
+            // "Position changes the mode for its child, through rules too."
+            kind::POSITION => self.expression(a, relation, state),
+            _ => self.align(a, mode, state),
+        }
+    }
+
+    /// "A terminal also fails at the token count and at another terminal; success
+    /// moves one place on."
+    fn terminal(&self, terminal: u16, mode: u16, state: State) -> Option<State> {
+        let words = self.tokens.get(4 * state.place..4 * state.place + 4)?;
+        if words[0] != u32::from(terminal) {
+            return None;
+        }
+        let column = u64::from(words[1]);
+        let alone = ColumnSet::only(column);
+        let set = if state.flag {
+            // "i must lie in [S], which becomes [i alone]"
+            state.set.contains(column).then_some(alone)?
+        } else {
+            // "i must lie in the mode's inner set, and [S] is met with the mode's
+            // outer set of [i alone]"
+            state.set.inner(mode).contains(column).then_some(())?;
+            state.set.meet(&alone.outer(mode))
+        };
+        Some(State {
+            place: state.place + 1,
+            set,
+            flag: false,
+        })
+    }
+
+    /// "the child gets the inner set of S; after its success S is met with the outer
+    /// set of its set, the rest as it left it"
+    fn indent(&mut self, child: u16, relation: u16, mode: u16, state: State) -> Outcome {
+        let inside = State {
+            set: state.set.inner(relation),
+            ..state
+        };
+        let end = self.expression(child, mode, inside)?;
+        Ok(end.map(|end| State {
+            set: state.set.meet(&end.set.outer(relation)),
+            ..end
+        }))
+    }
+
+    /// "Align sets the flag inside; after success it is set exactly if it was set both
+    /// before and at the inner end."
+    fn align(&mut self, child: u16, mode: u16, state: State) -> Outcome {
+        let before = state.flag;
+        let inside = State {
+            flag: true,
+            ..state
+        };
+        let end = self.expression(child, mode, inside)?;
+        Ok(end.map(|end| State {
+            flag: before && end.flag,
+            ..end
+        }))
+    }
+}
+
+#[cfg(test)]
+mod tests {
+    use super::*;
+
+    /// Every set that is one of the 2^7 choices among 0 to 6 and all or nothing from 7
+    /// on: images and meets against the definitions, number by number.
+    #[test]
+    fn images_and_meets_by_definition() {
+        const BOUND: u64 = 7;
+        let sets: Vec<ColumnSet> = (0u64..256)
+            .map(|bits| {
+                let member = |n: u64| bits >> n.min(BOUND) & 1 == 1;
+                let set = ColumnSet::told((0..=BOUND).collect(), member);
+                for n in 0..20 {
+                    assert_eq!(set.contains(n), member(n));
+                }
+                set
+            })
+            .collect();
+        for set in &sets {
+            assert_eq!(set.is_empty(), (0..=BOUND).all(|n| !set.contains(n)));
+            let listed = |n: u64| {
+                set.runs()
+                    .iter()
+                    .any(|&(first, last)| first <= n && last.is_none_or(|last| n <= last))
+            };
+            for n in 0..20 {
+                assert_eq!(set.contains(n), listed(n));
+            }
+            for relation in 0..4 {
+                let inner = set.inner(relation);
+                let outer = set.outer(relation);
+                // Partners up to 40 stand for all: beyond 8 the set does not change.
+                for n in 0..20 {
+                    let has_k = (0..40).any(|k| set.contains(k) && stands(relation, n, k));
+                    assert_eq!(inner.contains(n), has_k, "{set:?} {relation} {n}");
+                    let has_i = (0..40).any(|i| set.contains(i) && stands(relation, i, n));
+                    assert_eq!(outer.contains(n), has_i, "{set:?} {relation} {n}");
+                }
+                assert_eq!(inner.contains(1 << 40), inner.contains(19));
+                assert_eq!(outer.contains(1 << 40), outer.contains(19));
+            }
+            for other in sets.iter().step_by(7) {
+                let both = set.meet(other);
+                for n in 0..20 {
+                    assert_eq!(both.contains(n), set.contains(n) && other.contains(n));
+                }
+            }
+        }
+    }
+}
