@@ -1,10 +1,6 @@
-pub mod Lists
-pub mod FieldLaws
-pub mod Offsets
 pub mod OrderLaws
 pub mod ShapeLaws
 pub mod TableLaws
 pub mod PartLaws
 pub mod ReadLaws
-pub mod SpellingLaws
 pub mod CheckLaws

@@ -13,12 +13,11 @@ use lib.ListN.{length, getD, drop, length-drop, drop-of-length-le}
 use lib.Seq.{length-take-le}
 use lib.Dec.{leb, eqb}
 use Rattle.table.proofs.Every.{and-left, and-right}
-use Rattle.grammar_file.specs.Fields.{Field, before, fields, laterTags}
-use Rattle.grammar_file.specs.File.{rightLength, rightValue, rightValues}
-use Rattle.grammar_file.specs.Offsets.{lengthAt, valueAt, nextAt, fieldAt}
-use Rattle.grammar_file.specs.InternalShape.{rightAt}
+use Rattle.file_fields.specs.Fields.{Field, before, fields, laterTags, rightLength}
+use Rattle.grammar_file.specs.File.{rightValue, rightValues}
+use Rattle.file_fields.specs.Offsets.{lengthAt, valueAt, nextAt, fieldAt, rightAt}
 use Rattle.table.proofs.Orders.{le-or-lt}
-use Rattle.grammar_file.proofs.FieldLaws.{fields-none, fields-whole, fields-cut}
+use Rattle.file_fields.proofs.FieldLaws.{fields-none, fields-whole, fields-cut}
 
 -- What number 1 asks of the fields behind tag 1, no tag below a number.
 unfoldable pub good : ℕ → Option (List Field) → Bool

@@ -15,14 +15,14 @@ use Rattle.table.specs.Every.{every}
 use Rattle.table.specs.Limits.{relationCount}
 use Rattle.table.specs.Form.{nodeCount}
 use Rattle.table.specs.Checks.{tableAnswer, fails3, fails4, fails5}
-use Rattle.grammar_file.specs.Fields.{fields, inOrder, Field, twoBytes}
-use Rattle.grammar_file.specs.Spellings.{singleAlone, rightSpellings}
+use Rattle.file_fields.specs.Fields.{fields, inOrder, Field, twoBytes}
+use Rattle.file_fields.specs.Spellings.{singleAlone, rightSpellings}
 use Rattle.grammar_file.specs.File.{mostBytes, mostKeywords, rightValues, unreadable, fails1, Contents, keywords, ruleNames, ruleNode, ruleList, wordsOf, nodeTable, startValue, startNode, startMode, fieldsOf, fails2, fails5ByFile, contents, checks1to5, numbers}
-use Rattle.grammar_file.specs.Offsets.{keywordsFrom, valueAt, fieldsFrom}
-use Rattle.grammar_file.specs.InternalShape.{spellingsFrom, Parts}
+use Rattle.file_fields.specs.Offsets.{keywordsFrom, valueAt, fieldsFrom, spellingsFrom}
+use Rattle.grammar_file.specs.InternalShape.{Parts}
 use Rattle.grammar_file.specs.declared.shape.Shape.{Shape}
 use Rattle.grammar_file.specs.declared.FileRead.the-variants.{Read}
-use Rattle.grammar_file.proofs.Offsets.{length-spellings}
+use Rattle.file_fields.proofs.Offsets.{length-spellings}
 use Rattle.grammar_file.proofs.TableLaws.{length-rules, count-nodes}
 
 module _ (file : List ℕ) (s : Shape) (p : Parts file s) where

@@ -10,12 +10,12 @@ use native.Mathlib.Omega.{arith}
 use borrow.Author.Tests.{le-ltb, lt-ltb}
 use Rattle.table.specs.Answer.{Answer, given, refused, refuseIf, afterwards}
 use Rattle.grammar_file.specs.File.{Contents, keywords, ruleNames, ruleNode, ruleList, wordsOf, nodeTable, fieldsOf, fails6, contents, checks1to5, fileAnswer, readAnswer, partOf, keywordBytes, nameBytes}
-use Rattle.grammar_file.specs.Offsets.{valueAt, offsetOf, fieldsFrom}
+use Rattle.file_fields.specs.Offsets.{valueAt, offsetOf, fieldsFrom}
 use Rattle.grammar_file.specs.InternalShape.{Parts, Inspects}
 use Rattle.grammar_file.specs.declared.shape.Shape.{Shape}
 use Rattle.grammar_file.specs.declared.Inspected.{Inspected}
 use Rattle.grammar_file.specs.declared.Inspected.the-variants.{Whole, Refused}
-use Rattle.grammar_file.proofs.Offsets.{length-spellings, spelling-from}
+use Rattle.file_fields.proofs.Offsets.{length-spellings, spelling-from}
 use Rattle.grammar_file.proofs.TableLaws.{length-nodes}
 use Rattle.grammar_file.proofs.PartLaws.{keywords-are, names-are, rules-are, nodes-are, keyword-count, rule-count}
 

@@ -12,15 +12,15 @@ use lib.ListN.{length, getD, drop, length-map, drop-of-length-le}
 use lib.Seq.{append-snoc, getD-take, getD-drop}
 use lib.Dec.{leb, ltb, eqb}
 use Rattle.table.proofs.Every.{and-left, and-right}
-use Rattle.grammar_file.specs.Fields.{Field, before, fields, laterTags, inOrder, tagged}
-use Rattle.grammar_file.specs.File.{mostBytes, mostKeywords, rightLength, rightValue, rightValues, keywords, fieldsOf, unreadable, fails1}
-use Rattle.grammar_file.specs.Offsets.{lengthAt, valueAt, nextAt, fieldAt, offsetOf, fieldsFrom}
-use Rattle.grammar_file.specs.InternalShape.{rightAt, framedBy, LongestRun, Shaped}
+use Rattle.file_fields.specs.Fields.{Field, before, fields, laterTags, inOrder, tagged, rightLength}
+use Rattle.grammar_file.specs.File.{mostBytes, mostKeywords, rightValue, rightValues, keywords, fieldsOf, unreadable, fails1}
+use Rattle.file_fields.specs.Offsets.{lengthAt, valueAt, nextAt, fieldAt, offsetOf, fieldsFrom, rightAt}
+use Rattle.grammar_file.specs.InternalShape.{framedBy, LongestRun, Shaped}
 use Rattle.grammar_file.specs.declared.shape.Run.{Run}
 use Rattle.grammar_file.specs.declared.shape.Shape.{Shape}
 use Rattle.table.proofs.Orders.{le-or-lt}
-use Rattle.grammar_file.proofs.FieldLaws.{fields-none, fields-whole, fields-cut}
-use Rattle.grammar_file.proofs.Offsets.{length-from}
+use Rattle.file_fields.proofs.FieldLaws.{fields-none, fields-whole, fields-cut}
+use Rattle.file_fields.proofs.Offsets.{length-from}
 use Rattle.grammar_file.proofs.OrderLaws.{same-or-not, good, good-step, good-next, good-last, whole, its-tag, its-length, length-value, one-false}
 
 -- Fields in front of fields, where they are there.

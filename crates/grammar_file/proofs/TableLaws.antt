@@ -15,9 +15,9 @@ use Rattle.table.specs.Form.{nodeCount}
 use Rattle.table.specs.Checks.{fails3, tableAnswer}
 use lib.ListN.{length, take, drop, set, length-map}
 use Rattle.grammar_file.specs.File.{ruleNode, fourWords, wordsOf}
-use Rattle.grammar_file.specs.Offsets.{fieldAt, offsetOf, fieldsFrom}
-use Rattle.grammar_file.proofs.Lists.{write-next, four-more}
-use Rattle.grammar_file.proofs.Offsets.{length-from, from-next}
+use Rattle.file_fields.specs.Offsets.{fieldAt, offsetOf, fieldsFrom}
+use Rattle.file_fields.proofs.Lists.{write-next, four-more}
+use Rattle.file_fields.proofs.Offsets.{length-from, from-next}
 
 module _ (file : List ℕ) (first : ℕ) where
   pub length-nodes : (k : ℕ) → length (wordsOf (fieldsFrom file first k)) ≡ k * 4

@@ -1,20 +1,20 @@
 -- What a grammar file stands for, and numbers 1 to 6 of the file reader (01, "The grammar file" and "Turned-down calls").
-use Prim.Native.Nat.{ℕ, zero, suc, _≤_}
+use Prim.Native.Nat.{ℕ, _≤_}
 use mathlib.Core.Path.{_≡_}
-use mathlib.Core.Bool.{Bool, true, false, not, _&&_, _||_}
+use mathlib.Core.Bool.{Bool, true, not, _&&_, _||_}
 use mathlib.Core.List.{List, [], _∷_, map}
 use mathlib.Core.Option.{Option, some, none, Option·getD}
 use lib.ListN.{length, getD, drop}
-use lib.Dec.{leb, ltb, eqb}
+use lib.Dec.{ltb, eqb}
 use Rattle.table.specs.Answer.{Answer, given, refused, refuseIf}
 use Rattle.table.specs.Every.{every}
 use Rattle.table.specs.Words.{eachWords}
 use Rattle.table.specs.Limits.{relationCount}
 use Rattle.table.specs.Form.{nodeCount}
 use Rattle.table.specs.Checks.{fails3, fails4, fails5}
-use Rattle.grammar_file.specs.Fields.{Field, twoBytes, fields, inOrder, tagged}
-use Rattle.grammar_file.specs.Offsets.{keywordsFrom}
-use Rattle.grammar_file.specs.Spellings.{singleAlone, rightSpellings}
+use Rattle.file_fields.specs.Fields.{Field, twoBytes, fields, inOrder, tagged, rightLength}
+use Rattle.file_fields.specs.Offsets.{keywordsFrom}
+use Rattle.file_fields.specs.Spellings.{singleAlone, rightSpellings}
 use Rattle.grammar_file.specs.declared.FileRead.{FileRead}
 use Rattle.grammar_file.specs.declared.FileRead.the-variants.{Read, Refused}
 
@@ -25,18 +25,6 @@ mostBytes = 65535
 -- "At most 253 keywords"
 abbrev pub mostKeywords : ℕ
 mostKeywords = 253
-
--- The length of a tag's value: tag 1 has one byte, a keyword any number, a rule "two-byte node number, then its name",
--- a node "kind (one byte), a (two), b (two), relation (one)", tag 5 "start node (two bytes), start mode (one)". No
--- other tag is known.
-unfoldable pub rightLength : ℕ → ℕ → Bool
-rightLength zero n = false
-rightLength (suc zero) n = eqb n 1
-rightLength (suc (suc zero)) n = true
-rightLength (suc (suc (suc zero))) n = leb 2 n
-rightLength (suc (suc (suc (suc zero)))) n = eqb n 6
-rightLength (suc (suc (suc (suc (suc zero))))) n = eqb n 3
-rightLength (suc (suc (suc (suc (suc (suc t)))))) n = false
 
 -- A value has its tag's length, and tag 1's is "the byte 1".
 unfoldable pub rightValue : Field → Bool

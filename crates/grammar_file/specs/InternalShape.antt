@@ -1,22 +1,18 @@
 -- What the file reader's private functions promise one another. No public promise rests on this file.
-use Prim.Native.Nat.{ℕ, _+_, _<_}
+use Prim.Native.Nat.{ℕ, _<_}
 use mathlib.Core.Path.{_≡_}
 use mathlib.Core.Bool.{Bool, true, false, _&&_}
-use mathlib.Core.List.{List, [], _∷_, map}
-use lib.ListN.{length, getD, drop}
+use mathlib.Core.List.{List, [], _∷_}
+use lib.ListN.{length, getD}
 use lib.Dec.{leb, eqb}
 use Rattle.table.specs.Answer.{Answer, refused}
-use Rattle.grammar_file.specs.Fields.{tagged}
-use Rattle.grammar_file.specs.File.{Contents, mostBytes, rightLength, fieldsOf, fails1, checks1to5}
-use Rattle.grammar_file.specs.Offsets.{lengthAt, nextAt, fieldAt, offsetOf, fieldsFrom}
+use Rattle.file_fields.specs.Fields.{tagged}
+use Rattle.grammar_file.specs.File.{Contents, mostBytes, fieldsOf, fails1, checks1to5}
+use Rattle.file_fields.specs.Offsets.{nextAt, fieldAt, offsetOf, fieldsFrom, rightAt}
 use Rattle.grammar_file.specs.declared.shape.Run.{Run}
 use Rattle.grammar_file.specs.declared.shape.Shape.{Shape}
 use Rattle.grammar_file.specs.declared.Inspected.{Inspected}
 use Rattle.grammar_file.specs.declared.Inspected.the-variants.{Whole, Refused}
-
--- Whether a whole field of a tag, its value of the tag's length, stands at an offset.
-unfoldable pub rightAt : List ℕ → ℕ → ℕ → Bool
-rightAt file at t = leb (at + 3 + lengthAt file at) (length file) && (eqb (getD file at 0) t && rightLength t (lengthAt file at))
 
 -- Whether a file is not over length, begins with tag 1 and its byte, and ends with a tag 5 at an offset.
 unfoldable pub framedBy : List ℕ → ℕ → Bool
@@ -26,10 +22,6 @@ framedBy file start =
     && eqb (getD file 3 0) 1
     && rightAt file start 5
     && eqb (nextAt file start) (length file)
-
--- The spellings of some fields from an offset on: their values without the first bytes.
-unfoldable pub spellingsFrom : List ℕ → ℕ → ℕ → ℕ → List (List ℕ)
-spellingsFrom file at count skip = map (λ f. drop skip (f .value)) (fieldsFrom file at count)
 
 -- The longest run of such fields from an offset on.
 pub record LongestRun (file : List ℕ) (at t : ℕ) (r : Run) : Type 0 where

@@ -1,8 +1,5 @@
 // The grammar file reader: from the bytes of a grammar file to its table, its rules and its start (numbers 1 to 6).
-pub mod bytes;
-pub mod fields;
 mod shape;
-pub mod spellings;
 mod tables;
 
 ghost use mathlib.Core.Path.{_≡_};
@@ -10,17 +7,17 @@ ghost use lib.ListN.{length};
 ghost use Rattle.table.specs.Answer.{given, afterwards};
 ghost use Rattle.grammar_file.specs.File.{numbers, contents, fieldsOf, fails2, fileAnswer, KeywordsStand, readAnswer, nodeTable, ruleList, keywordBytes, nameBytes};
 ghost use Rattle.grammar_file.specs.InternalShape.{Parts, Inspects};
-use fields::byte_in;
-use fields::number_in;
-use fields::offset_of;
-use fields::spelling_at;
-use fields::value_at;
+use file_fields::fields::byte_in;
+use file_fields::fields::offset_of;
+use file_fields::fields::spelling_at;
+use file_fields::fields::value_at;
+use file_fields::spellings::right_spellings;
+use file_fields::spellings::singles_alone;
 use shape::Shape;
 use shape::shape_of;
-use spellings::right_spellings;
-use spellings::singles_alone;
 use table::Checked;
 use tables::check_tables;
+use tables::number_in;
 use tables::write_nodes;
 use tables::write_rules;
 

@@ -1,17 +1,27 @@
 // The table and the rule list that a file's fields stand for.
 ghost use mathlib.Core.Path.{_≡_};
 ghost use mathlib.Core.List.{_++_, map};
-ghost use Prim.Native.Nat.{_*_, _≤_};
-ghost use lib.ListN.{length, drop};
+ghost use Prim.Native.Nat.{_+_, _*_, _≤_, _<_};
+ghost use lib.ListN.{length, getD, drop};
 ghost use Rattle.table.specs.Checks.{tableAnswer};
 ghost use Rattle.table.specs.Checks.{numbers as checkedNumbers};
 ghost use Rattle.grammar_file.specs.File.{ruleNode, wordsOf};
-ghost use Rattle.grammar_file.specs.Offsets.{fieldsFrom};
-use crate::fields::byte_in;
-use crate::fields::next_at;
-use crate::fields::number_in;
-use crate::fields::value_at;
+ghost use Rattle.file_fields.specs.Fields.{twoBytes};
+ghost use Rattle.file_fields.specs.Offsets.{fieldsFrom};
+use file_fields::fields::byte_in;
+use file_fields::fields::next_at;
+use file_fields::fields::value_at;
 use table::Checked;
+
+// The two-byte number at an index of a value, high byte first.
+pub(crate) fn number_in(value: &[u8], i: usize) -> u16
+    requires { ⌜ i < 256 ⌝ }
+    ensures { λ r. ⌜ r ≡ twoBytes (getD (now (value .entry)) i 0) (getD (now (value .entry)) (i + 1) 0) ⌝ }
+{
+    let high = byte_in(value, i);
+    let low = byte_in(value, i + 1);
+    high * 256 + low
+}
 
 // Writes the words of count node fields from an offset on.
 pub(crate) fn write_nodes(file: &[u8], first: usize, count: usize, out: &mut [u16])

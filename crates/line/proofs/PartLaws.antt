@@ -14,7 +14,7 @@ use Rattle.table.proofs.Every.{both-false}
 use Rattle.table.proofs.Words.{length-words}
 use Rattle.grammar_file.specs.File.{Contents, contents, fieldsOf, nodeTable, ruleList, fourWords, startNode, startMode, fails1, fails2, fails5ByFile, fails6, checks1to5, readAnswer}
 use Rattle.table.specs.Checks.{fails3, fails4}
-use Rattle.grammar_file.specs.Fields.{Field, tagged}
+use Rattle.file_fields.specs.Fields.{Field, tagged}
 use Rattle.scanner.specs.Places.{places}
 use Rattle.scanner.specs.Tokens.{tokens, tokenWords, wordsOf}
 use Rattle.scanner.specs.Scan.{scanTokens, scanAnswer, fails8, fails9, fails10}

@@ -8,10 +8,10 @@ use mathlib.Core.Option.{some}
 use lib.ListN.{length, getD, take, drop, drop-of-length-le}
 use native.Mathlib.Nat.{le-of-eq}
 use native.Mathlib.Omega.{arith}
-use Rattle.grammar_file.specs.Bytes.{classOf}
-use Rattle.grammar_file.specs.declared.bytes.Class.{Class}
-use Rattle.grammar_file.specs.declared.bytes.Class.the-variants.{Break, Tab, Blank, Single, Digit, Run, Refused}
-use Rattle.grammar_file.proofs.FieldLaws.{from-one}
+use Rattle.file_fields.specs.Bytes.{classOf}
+use Rattle.file_fields.specs.declared.bytes.Class.{Class}
+use Rattle.file_fields.specs.declared.bytes.Class.the-variants.{Break, Tab, Blank, Single, Digit, Run, Refused}
+use Rattle.file_fields.proofs.FieldLaws.{from-one}
 use Rattle.scanner.specs.Columns.{columnBy, columnAfter, columnOver}
 use Rattle.scanner.specs.Places.{runClass, inRun, runLength}
 use Rattle.scanner.specs.Steps.{Position, position, Move, move, moveBy, nextPlace, nextIn}

@@ -8,7 +8,7 @@ use lib.ListN.{length, drop, set, length-append, length-map}
 use lib.Dec.{ltb}
 use native.Mathlib.Omega.{arith}
 use Rattle.table.specs.Limits.{mostColumn}
-use Rattle.grammar_file.proofs.Lists.{four-more, length-written}
+use Rattle.file_fields.proofs.Lists.{four-more, length-written}
 use Rattle.table.specs.Words.{eachWords}
 use Rattle.table.proofs.Words.{words-append, length-words}
 use Rattle.scanner.specs.Places.{Place, places}

@@ -2,9 +2,9 @@
 use Prim.Native.Nat.{ℕ, zero, suc, _+_, _*_, _/_}
 use mathlib.Core.List.{List, [], _∷_}
 use lib.ListN.{getD}
-use Rattle.grammar_file.specs.Bytes.{classOf}
-use Rattle.grammar_file.specs.declared.bytes.Class.{Class}
-use Rattle.grammar_file.specs.declared.bytes.Class.the-variants.{Break, Tab, Blank, Single, Digit, Run, Refused}
+use Rattle.file_fields.specs.Bytes.{classOf}
+use Rattle.file_fields.specs.declared.bytes.Class.{Class}
+use Rattle.file_fields.specs.declared.bytes.Class.the-variants.{Break, Tab, Blank, Single, Digit, Run, Refused}
 
 -- The column behind a byte of a class: "Byte 10 ends a line and sets the column to 0. Byte 9 moves to the next higher
 -- multiple of 8." "Each byte but 9 and 10 advances the column by one."

@@ -10,7 +10,7 @@ ghost use mathlib.Core.List.{_++_};
 ghost use Prim.Native.Nat.{_*_, _≤_};
 ghost use lib.ListN.{length, drop};
 ghost use Rattle.table.specs.Answer.{afterwards};
-ghost use Rattle.grammar_file.specs.Offsets.{keywordsFrom};
+ghost use Rattle.file_fields.specs.Offsets.{keywordsFrom};
 ghost use Rattle.scanner.specs.Places.{places};
 ghost use Rattle.scanner.specs.Tokens.{tokens as tokensOf, terminalAt, wordsOf};
 ghost use Rattle.scanner.specs.Scan.{fails8, scanTokens, scanAnswer};

@@ -3,12 +3,12 @@ ghost use mathlib.Core.Path.{_≡_};
 ghost use mathlib.Core.Bool.{_&&_};
 ghost use Prim.Native.Nat.{_+_, _≤_, _<_};
 ghost use lib.ListN.{length, drop};
-ghost use Rattle.grammar_file.specs.Offsets.{keywordsFrom};
+ghost use Rattle.file_fields.specs.Offsets.{keywordsFrom};
 ghost use Rattle.scanner.specs.Tokens.{isNumber, unsigned, terminalFrom, afterDigits};
 use crate::classes::is_digit;
-use grammar_file::fields::next_at;
-use grammar_file::fields::value_at;
-use grammar_file::spellings::same;
+use file_fields::fields::next_at;
+use file_fields::fields::value_at;
+use file_fields::spellings::same;
 
 // 3 + k where a spelling equals keyword k of count, else 0 for a number, else 1.
 pub(crate) fn terminal(file: &[u8], count: usize, s: &[u8]) -> u32

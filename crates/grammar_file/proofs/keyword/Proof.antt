@@ -3,7 +3,7 @@ use borrow.Author.Needs.{needs}
 use Rattle.grammar_file.proofs.keyword.Statement.{statement}
 use Rattle.grammar_file.proofs.keyword.Tie as tie
 use mathlib.Core.Path.{ap, _∙_}
-use Rattle.grammar_file.specs.Offsets.{valueAt}
+use Rattle.file_fields.specs.Offsets.{valueAt}
 use Rattle.grammar_file.proofs.ReadLaws.{no-keyword, keyword-at, keyword-past}
 
 inspect-requires : tie.Need-inspect-requires

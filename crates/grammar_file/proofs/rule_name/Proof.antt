@@ -5,7 +5,7 @@ use Rattle.grammar_file.proofs.rule_name.Tie as tie
 use Prim.Native.Nat.{ℕ}
 use mathlib.Core.Path.{ap, _∙_}
 use lib.ListN.{drop}
-use Rattle.grammar_file.specs.Offsets.{valueAt}
+use Rattle.file_fields.specs.Offsets.{valueAt}
 use Rattle.grammar_file.proofs.ReadLaws.{no-name, name-at, name-past}
 
 inspect-requires : tie.Need-inspect-requires

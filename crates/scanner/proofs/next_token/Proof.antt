@@ -5,7 +5,7 @@ use Rattle.scanner.proofs.next_token.Tie as tie
 use native.Mathlib.Omega.{arith}
 use mathlib.Core.Path.{sym, ap, subst, _∙_}
 use Rattle.grammar_file.specs.File.{KeywordsStand, numbers as fileNumbers}
-use Rattle.grammar_file.specs.Offsets.{keywordsFrom}
+use Rattle.file_fields.specs.Offsets.{keywordsFrom}
 use Rattle.scanner.specs.Steps.{position}
 use Rattle.scanner.proofs.LoopLaws.{lies-inside}
 use Rattle.scanner.proofs.StepLaws.{short-report, step-file, step-8, step-9, step-on, step-8-text, step-8-offset, step-8-column, step-passes8}

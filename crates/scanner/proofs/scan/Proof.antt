@@ -7,7 +7,7 @@ use mathlib.Core.Path.{refl, sym, ap, subst, _∙_}
 use mathlib.Core.Bool.{true, false}
 use lib.ListN.{length}
 use Rattle.grammar_file.specs.File.{KeywordsStand, numbers as fileNumbers}
-use Rattle.grammar_file.specs.Offsets.{keywordsFrom}
+use Rattle.file_fields.specs.Offsets.{keywordsFrom}
 use Rattle.table.specs.Answer.{given}
 use Rattle.scanner.specs.Scan.{fails9}
 use Rattle.scanner.proofs.StepLaws.{short-report, scan-file, scan-by, many-tokens, few-words, enough-words, words-after}

@@ -5,7 +5,7 @@ use native.Mathlib.Omega.{arith}
 use borrow.Author.Tests.{not-true, not-false}
 use Rattle.scanner.specs.Steps.{position}
 use lib.ListN.{length-set}
-use Rattle.grammar_file.specs.Offsets.{keywordsFrom}
+use Rattle.file_fields.specs.Offsets.{keywordsFrom}
 use Rattle.scanner.proofs.LoopLaws.{Writing, writing-start, writing-ends, writing-room, writing-next, out-length, lies-inside, less-left}
 use Rattle.scanner.proofs.PlaceLaws.{left}
 

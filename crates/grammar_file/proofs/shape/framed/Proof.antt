@@ -8,9 +8,9 @@ use mathlib.Core.List.{List}
 use mathlib.Core.Bool.{true}
 use borrow.Author.Tests.{le-leb, lt-leb, ne-eqb, eq-eqb, not-true, not-false, eqb-true}
 use lib.ListN.{length}
-use Rattle.grammar_file.specs.File.{rightLength}
-use Rattle.grammar_file.specs.Offsets.{lengthAt}
-use Rattle.grammar_file.specs.InternalShape.{rightAt, framedBy}
+use Rattle.file_fields.specs.Fields.{rightLength}
+use Rattle.file_fields.specs.Offsets.{lengthAt, rightAt}
+use Rattle.grammar_file.specs.InternalShape.{framedBy}
 use Rattle.grammar_file.proofs.OrderLaws.{whole, its-length}
 
 -- A file that begins with a right tag 1 has four bytes at least.

@@ -9,8 +9,7 @@ use mathlib.Core.Bool.{true}
 use native.Mathlib.Numerals.{add-one}
 use lib.ListN.{length}
 use borrow.Author.Count.{below-more}
-use Rattle.grammar_file.specs.Offsets.{nextAt, offsetOf}
-use Rattle.grammar_file.specs.InternalShape.{rightAt}
+use Rattle.file_fields.specs.Offsets.{nextAt, offsetOf, rightAt}
 use Rattle.grammar_file.proofs.OrderLaws.{whole}
 
 -- Behind a right field less of the file is left.

@@ -7,7 +7,7 @@ use mathlib.Core.List.{map}
 use lib.ListN.{length}
 use Rattle.table.specs.Checks.{tableAnswer}
 use Rattle.grammar_file.specs.File.{ruleNode, wordsOf}
-use Rattle.grammar_file.specs.Offsets.{fieldsFrom}
+use Rattle.file_fields.specs.Offsets.{fieldsFrom}
 use Rattle.grammar_file.proofs.TableLaws.{length-nodes, length-rules, nodes-front, rules-front, count-nodes, many-nodes, many-rules}
 
 returns : tie.Need-returns

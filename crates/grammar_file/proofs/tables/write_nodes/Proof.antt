@@ -6,12 +6,12 @@ use Prim.Native.Nat.{ℕ, _-_, _*_, _≤_}
 use mathlib.Core.Path.{_≡_, refl, sym, ap, _∙_}
 use mathlib.Core.List.{List, [], _∷_, _++_}
 use lib.ListN.{length, getD, drop, length-set}
-use Rattle.grammar_file.specs.Fields.{twoBytes}
+use Rattle.file_fields.specs.Fields.{twoBytes}
 use Rattle.table.specs.Words.{eachWords}
 use Rattle.grammar_file.specs.File.{wordsOf}
-use Rattle.grammar_file.specs.Offsets.{valueAt, nextAt, offsetOf, fieldsFrom}
-use Rattle.grammar_file.proofs.Lists.{length-written}
-use Rattle.grammar_file.proofs.Offsets.{offset-next}
+use Rattle.file_fields.specs.Offsets.{valueAt, nextAt, offsetOf, fieldsFrom}
+use Rattle.file_fields.proofs.Lists.{length-written}
+use Rattle.file_fields.proofs.Offsets.{offset-next}
 use Rattle.grammar_file.proofs.TableLaws.{length-nodes, node-next}
 
 -- Four words that were read from a value are those of the field with this value.

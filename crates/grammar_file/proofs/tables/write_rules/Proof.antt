@@ -7,11 +7,11 @@ use mathlib.Core.Path.{_≡_, refl, sym, ap, _∙_}
 use mathlib.Core.List.{List, _++_, map}
 use lib.ListN.{length, drop, getD}
 use Rattle.grammar_file.specs.File.{ruleNode}
-use Rattle.grammar_file.specs.Offsets.{nextAt, offsetOf, fieldsFrom, valueAt}
-use Rattle.grammar_file.specs.Fields.{twoBytes}
-use Rattle.grammar_file.proofs.Lists.{length-written}
+use Rattle.file_fields.specs.Offsets.{nextAt, offsetOf, fieldsFrom, valueAt}
+use Rattle.file_fields.specs.Fields.{twoBytes}
+use Rattle.file_fields.proofs.Lists.{length-written}
 use Rattle.grammar_file.proofs.TableLaws.{length-rules, rule-next}
-use Rattle.grammar_file.proofs.Offsets.{offset-next}
+use Rattle.file_fields.proofs.Offsets.{offset-next}
 
 abbrev Inv-loop : tie.InvT-loop
 Inv-loop file first count out₀ at₀ i₀ out at i = (i ≤ count) × (at ≡ offsetOf file first i) × (out ≡ map ruleNode (fieldsFrom file first i) ++ drop i out₀)

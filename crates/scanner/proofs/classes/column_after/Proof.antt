@@ -2,8 +2,8 @@
 use Prim.Native.Nat.{ℕ}
 use mathlib.Core.Path.{_≡_, sym, ap, _∙_}
 use borrow.Author.Needs.{needs}
-use Rattle.grammar_file.specs.Bytes.{classOf}
-use Rattle.grammar_file.specs.declared.bytes.Class.{Class}
+use Rattle.file_fields.specs.Bytes.{classOf}
+use Rattle.file_fields.specs.declared.bytes.Class.{Class}
 use Rattle.scanner.specs.Columns.{columnBy, columnAfter}
 use Rattle.scanner.proofs.classes.column_after.Statement.{statement}
 use Rattle.scanner.proofs.classes.column_after.Tie as tie

@@ -11,7 +11,7 @@ use lib.ListN.{length, getD, take, drop, drop-of-length-le}
 use Rattle.scanner.specs.InternalFind.{Room, RunEnd}
 use Rattle.scanner.specs.Columns.{columnAfter, columnOver}
 use Rattle.scanner.specs.Places.{inRun, runLength}
-use Rattle.grammar_file.proofs.FieldLaws.{from-one}
+use Rattle.file_fields.proofs.FieldLaws.{from-one}
 use Rattle.scanner.proofs.FindLaws.{room-next, run-more, run-none, run-empty}
 
 -- The run and its last column, from what is left of it.

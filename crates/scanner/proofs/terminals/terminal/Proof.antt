@@ -8,9 +8,9 @@ use native.Mathlib.Omega.{arith}
 use native.Mathlib.Numerals.{add-one}
 use lib.ListN.{length, getD, drop, length-map, drop-of-length-le}
 use lib.Seq.{drop-cons}
-use Rattle.grammar_file.specs.Spellings.{sameBytes}
-use Rattle.grammar_file.specs.Offsets.{valueAt, offsetOf, fieldsFrom, keywordsFrom}
-use Rattle.grammar_file.proofs.Offsets.{length-from, map-at, offset-next}
+use Rattle.file_fields.specs.Spellings.{sameBytes}
+use Rattle.file_fields.specs.Offsets.{valueAt, offsetOf, fieldsFrom, keywordsFrom}
+use Rattle.file_fields.proofs.Offsets.{length-from, map-at, offset-next}
 use Rattle.scanner.specs.Tokens.{isNumber, terminalFrom}
 use Rattle.scanner.proofs.terminals.terminal.Statement.{statement}
 use Rattle.scanner.proofs.terminals.terminal.Tie as tie

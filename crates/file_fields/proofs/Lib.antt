@@ -1,0 +1,4 @@
+pub mod Lists
+pub mod FieldLaws
+pub mod Offsets
+pub mod SpellingLaws

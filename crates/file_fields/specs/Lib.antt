@@ -1,0 +1,4 @@
+pub mod Bytes
+pub mod Fields
+pub mod Spellings
+pub mod Offsets
