@@ -1,4 +1,5 @@
 pub mod Bytes
 pub mod Fields
 pub mod Spellings
+pub mod InternalKeys
 pub mod Offsets

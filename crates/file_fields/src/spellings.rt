@@ -1,16 +1,42 @@
 // The rules of keywords and rule names: number 2.
 ghost use mathlib.Core.Path.{_≡_};
 ghost use mathlib.Core.Bool.{not};
+ghost use Prim.Native.Nat.{_<_, _-_};
 ghost use mathlib.Core.List.{[]};
 ghost use lib.ListN.{length, getD};
 ghost use Rattle.table.specs.Every.{every};
 ghost use Rattle.file_fields.specs.Bytes.{isSingle};
 ghost use Rattle.file_fields.specs.Spellings.{spelled as isSpelled, singleAlone, sameBytes, distinct as areDistinct, rightSpellings};
 ghost use Rattle.file_fields.specs.Offsets.{spellingsFrom};
+ghost use Rattle.file_fields.specs.InternalKeys.{keyOf};
 use crate::bytes::Class;
 use crate::bytes::class_of;
+use crate::fields::byte_in;
 use crate::fields::next_at;
 use crate::fields::spelling_at;
+
+// How many keys there are.
+pub const KEYS: usize = 4096;
+
+// The key of a spelling: spellings with different keys differ.
+pub fn key(s: &[u8]) -> usize
+    ensures { λ r. ⌜ r ≡ keyOf (now (s .entry)) ⌝ }
+    ensures { λ r. ⌜ r < 4096 ⌝ }
+{
+    let n = s.len();
+    let a = byte_in(s, 0) as usize;
+    let b = byte_in(s, before(n, 1)) as usize;
+    let c = byte_in(s, before(n, 2)) as usize;
+    let d = byte_in(s, before(n, 3)) as usize;
+    (a + b * 7 + c * 61 + d * 331 + n % 64 * 17) % KEYS
+}
+
+// An index k before n, 0 at least.
+fn before(n: usize, k: usize) -> usize
+    ensures { λ r. ⌜ r ≡ n - k ⌝ }
+{
+    if n < k { 0 } else { n - k }
+}
 
 // Whether two spellings are the same, byte for byte.
 pub fn same(s: &[u8], t: &[u8]) -> bool
