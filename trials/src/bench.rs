@@ -35,12 +35,12 @@ fn time(
     while once(&mut ours, rounds) < LEAST {
         rounds *= 2;
     }
-    let mut times = [[0.0; ROUNDS]; 2];
-    for round in 0..ROUNDS {
-        times[0][round] = once(&mut ours, rounds);
-        times[1][round] = once(&mut second, rounds);
+    let mut times = ([0.0; ROUNDS], [0.0; ROUNDS]);
+    for (one, two) in times.0.iter_mut().zip(times.1.iter_mut()) {
+        *one = once(&mut ours, rounds);
+        *two = once(&mut second, rounds);
     }
-    let [ours, second] = times.map(|mut side| {
+    let [ours, second] = [times.0, times.1].map(|mut side| {
         side.sort_by(f64::total_cmp);
         side[ROUNDS / 2] / rounds as f64 * 1e6
     });

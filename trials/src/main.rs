@@ -15,7 +15,7 @@ use std::process::ExitCode;
 const STACK: usize = 2 << 30;
 
 /// The short round's seed, and how many runs and files it compares.
-const ROUND: (u64, u64, u64) = (1, 60_000, 12_000);
+const ROUND: (u64, u64, u64) = (1, 300_000, 50_000);
 
 fn trials(words: &[&str]) -> Result<(), String> {
     match words {
