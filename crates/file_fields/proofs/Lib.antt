@@ -2,3 +2,4 @@ pub mod Lists
 pub mod FieldLaws
 pub mod Offsets
 pub mod SpellingLaws
+pub mod KeyLaws

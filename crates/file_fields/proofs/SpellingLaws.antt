@@ -17,7 +17,7 @@ use Rattle.file_fields.specs.Spellings.{sameBytes}
 use Rattle.file_fields.proofs.Offsets.{spelling-from}
 
 -- What holds of each number below n holds of every one.
-every-each : (n : ℕ) (test : ℕ → Bool) → ((i : ℕ) → i < n → test i ≡ true) → every n test ≡ true
+pub every-each : (n : ℕ) (test : ℕ → Bool) → ((i : ℕ) → i < n → test i ≡ true) → every n test ≡ true
 unfolding every
 every-each zero test h = refl
 every-each (suc n) test h = ap₂ _&&_ (every-each n test (λ i a. h i (omega arith))) (h n (omega arith))
@@ -57,7 +57,7 @@ module _ {file : List ℕ} {first count skip : ℕ} {test : ℕ → List ℕ →
   passed-none = record { within = omega arith; stands = refl; right = refl }
 
   -- The spelling that it stands before.
-  here : {i at : ℕ} {s : List ℕ} → Passed file first count skip test i at → i < count → s ≡ drop skip (valueAt file at) → getD (spellingsFrom file first count skip) i [] ≡ s
+  pub here : {i at : ℕ} {s : List ℕ} → Passed file first count skip test i at → i < count → s ≡ drop skip (valueAt file at) → getD (spellingsFrom file first count skip) i [] ≡ s
   here p h e = rw (spelling-from file first count skip _ h, ← p .stands, ← e)
 
   -- A right one is passed.

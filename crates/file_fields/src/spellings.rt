@@ -1,6 +1,6 @@
 // The rules of keywords and rule names: number 2.
 ghost use mathlib.Core.Path.{_≡_};
-ghost use mathlib.Core.Bool.{not};
+ghost use mathlib.Core.Bool.{not, true, false};
 ghost use Prim.Native.Nat.{_<_, _-_};
 ghost use mathlib.Core.List.{[]};
 ghost use lib.ListN.{length, getD};
@@ -145,19 +145,34 @@ pub fn singles_alone(file: &[u8], first: usize, count: usize) -> bool
     true
 }
 
-// Each spelling differs from those before it.
+// Each spelling differs from those before it. A key that none before it has tells so at once.
 fn distinct(file: &[u8], first: usize, count: usize, skip: usize) -> bool
     ensures { λ r. ⌜ r ≡ areDistinct (spellingsFrom (now (file .entry)) first count skip) ⌝ }
 {
+    let mut met = [false; 4096];
     let mut at = first;
     let mut j = 0;
     while j < count {
         let s = spelling_at(file, at, skip);
-        if !unlike(file, first, j, skip, s) {
+        let h = key(s);
+        if !differs(file, first, j, skip, s, met[h]) {
             return false;
         }
+        met[h] = true;
         at = next_at(file, at);
         j += 1;
+    }
+    true
+}
+
+// Whether a spelling differs from those of count fields from an offset on, of which none is the same unless one of them
+// was met with its key.
+fn differs(file: &[u8], first: usize, count: usize, skip: usize, s: &[u8], met: bool) -> bool
+    requires { ⌜ ((met ≡ false) → every count (λ i. not (sameBytes (getD (spellingsFrom (now file) first count skip) i []) (now s))) ≡ true) ⌝ }
+    ensures { λ r. ⌜ r ≡ every count (λ i. not (sameBytes (getD (spellingsFrom (now (file .entry)) first count skip) i []) (now (s .entry)))) ⌝ }
+{
+    if met {
+        return unlike(file, first, count, skip, s);
     }
     true
 }

@@ -3,3 +3,4 @@ pub mod Inside
 pub mod Orders
 pub mod Words
 pub mod NodeKinds
+pub mod Cells

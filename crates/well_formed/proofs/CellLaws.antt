@@ -6,6 +6,7 @@ use mathlib.Core.List.{List, [], _∷_}
 use mathlib.Core.Logic.{_⊎_, inl, inr, ⊎-elim}
 use lib.ListN.{length, getD, set, replicate, length-set}
 use lib.Seq.{getD-set-same}
+use Rattle.table.proofs.Cells.{set-stays}
 use Rattle.well_formed.specs.Facts.{Fact, nothing, something, fails}
 use Rattle.well_formed.specs.InternalPasses.{learnt, Cell, cell, three, known}
 use Rattle.well_formed.proofs.PassLaws.{Change}
@@ -14,13 +15,6 @@ pub length-learnt : (cells : List Bool) (n : ℕ) (b : Bool) → length (learnt 
 unfolding learnt
 length-learnt cells n true = length-set cells n true
 length-learnt cells n false = refl
-
-set-stays : (cells : List Bool) (n m : ℕ) → getD cells m false ≡ true → getD (set cells n true) m false ≡ true
-set-stays [] n m e = e
-set-stays (x ∷ xs) zero zero e = refl
-set-stays (x ∷ xs) zero (suc m) e = e
-set-stays (x ∷ xs) (suc n) zero e = e
-set-stays (x ∷ xs) (suc n) (suc m) e = set-stays xs n m e
 
 set-only : (cells : List Bool) (n m : ℕ) → getD (set cells n true) m false ≡ true → (getD cells m false ≡ true) ⊎ (m ≡ n)
 set-only [] n m e = inl e
