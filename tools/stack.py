@@ -1,10 +1,12 @@
 #!/usr/bin/env python3
 """Measures how much stack the interpreter needs for deep nesting.
 
-Run it at the top of the repository after `rt check depth`. For each grammar below it finds, by
-halving, the least stack with which target/bin/depth ends with the right answer, and prints it with
-the nested calls, the bytes of one of them and the time of a run. The exit status is 1 if a grammar
-needs more than its limit. `--write` only writes the stored run of the program depth.
+Run it at the top of the repository after `rt check depth reader`. For each grammar below it finds,
+by halving, the least stack with which target/bin/depth ends with the right answer, and prints it with
+the nested calls, the bytes of one of them and the time of a run. Then it does the same with
+target/bin/reader, for the list and for a chain of indents, on a report of one line with 4,095 words.
+The exit status is 1 if a grammar needs more than its limit. `--write` only writes the stored run of
+the program depth.
 
 A nested call is one of the expression walk, at the deepest point of a run; a rule's call is counted
 with that of its node. A run over 4,096 tokens has 4,097 rounds, one over no token has one, with the
@@ -20,8 +22,11 @@ import sys
 import tempfile
 import time
 
+import grammar_fields
+
 ROOT = pathlib.Path(__file__).resolve().parent.parent
 PROGRAM = ROOT / "target" / "bin" / "depth"
+READER = ROOT / "target" / "bin" / "reader"
 STORED = ROOT / "crates" / "depth" / "data" / "shape"
 
 KIB, MIB = 1024, 1024 * 1024
@@ -51,6 +56,14 @@ def linked(count):
         targets.append(len(nodes) - 1)
         nodes.append((2, number, 0, 0))
     return nodes, targets
+
+
+def grammar_file(nodes):
+    """The file of the list's grammar for words, whose rule 0 stands for the last node, in mode any."""
+    last = len(nodes) - 1
+    fields = [grammar_fields.VERSION, grammar_fields.rule(last, b"list")]
+    fields += [grammar_fields.node(1, 1) if node == LIST[0] else grammar_fields.node(*node) for node in nodes]
+    return b"".join([*fields, grammar_fields.start(last, ANY)])
 
 
 class Shape:
@@ -86,8 +99,9 @@ def shapes():
     ]
 
 
-def run(folder, stack):
-    """What the program prints with that much stack, in bytes; nothing where it ends by a signal."""
+def run(program, folder, stack):
+    """What a program prints with that much stack, in bytes; nothing where it ends by a signal. It reads the
+    file `report` if there is one."""
 
     def limited():
         hard = resource.getrlimit(resource.RLIMIT_STACK)[1]
@@ -95,32 +109,34 @@ def run(folder, stack):
         resource.setrlimit(resource.RLIMIT_STACK, (soft, hard))
         resource.setrlimit(resource.RLIMIT_CORE, (0, 0))
 
+    report = folder / "report"
+    given = report.read_bytes() if report.exists() else b""
     done = subprocess.run(
-        [PROGRAM], cwd=folder, env={}, preexec_fn=limited, stdout=subprocess.PIPE, check=False
+        [program], cwd=folder, env={}, preexec_fn=limited, input=given, stdout=subprocess.PIPE, check=False
     )
     return done.stdout.decode().strip() if done.returncode == 0 else ""
 
 
-def least(folder, answer, limit):
+def least(program, folder, answer, limit):
     """The least stack that suffices, to a 1,024th of the limit, or None if twice the limit does not."""
     low, high = 16 * KIB, 2 * limit
-    if run(folder, high) != answer:
+    if run(program, folder, high) != answer:
         return None
     while high - low > limit // 1024:
         middle = (low + high) // 2
-        if run(folder, middle) == answer:
+        if run(program, folder, middle) == answer:
             high = middle
         else:
             low = middle
     return high
 
 
-def seconds(folder, stack):
+def seconds(program, folder, stack):
     """The median time of five runs."""
     times = []
     for _ in range(5):
         before = time.perf_counter()
-        run(folder, stack)
+        run(program, folder, stack)
         times.append(time.perf_counter() - before)
     return statistics.median(times)
 
@@ -129,28 +145,48 @@ def measure(shape, folder):
     """Prints a line for a shape, and answers whether it keeps its limit."""
     file = folder / "shape"
     file.write_bytes(shape.words(0))
-    base = least(folder, NONE_READ, MIB)
+    base = least(PROGRAM, folder, NONE_READ, MIB)
     file.write_bytes(shape.words())
-    need = least(folder, shape.answer, shape.limit * MIB)
+    need = least(PROGRAM, folder, shape.answer, shape.limit * MIB)
     if base is None or need is None:
         print(f"{shape.name:26} no right answer with {2 * shape.limit} MiB")
         return False
     calls = (TOKENS + 1) * shape.round
     each = (need - base) / (TOKENS * shape.round)
-    spent = seconds(folder, 2 * shape.limit * MIB)
+    spent = seconds(PROGRAM, folder, 2 * shape.limit * MIB)
     print(f"{shape.name:26} {calls:>12,} {need / MIB:>8.2f} {each:>12.0f} {spent:>8.3f}", flush=True)
     return need <= shape.limit * MIB
+
+
+def measure_reader(name, nodes, limit, folder):
+    """Prints a line for a grammar that the program reader runs on a line of words, and answers whether it
+    keeps its limit."""
+    words = TOKENS - 1
+    (folder / "grammar.bin").write_bytes(grammar_file(nodes))
+    (folder / "report").write_bytes(b"a " * words)
+    need = least(READER, folder, f"success {words} 0 inf clear", limit * MIB)
+    if need is None:
+        print(f"{name:26} no right answer with {2 * limit} MiB")
+        return False
+    calls = TOKENS * (len(nodes) - 3)
+    spent = seconds(READER, folder, 2 * limit * MIB)
+    print(f"{name:26} {calls:>12,} {need / MIB:>8.2f} {'':>12} {spent:>8.3f}", flush=True)
+    return need <= limit * MIB
 
 
 def main():
     if sys.argv[1:] == ["--write"]:
         STORED.write_bytes(shapes()[0].words())
         return 0
-    if not PROGRAM.exists():
-        sys.exit("target/bin/depth is not there: run rt check depth first")
+    if not (PROGRAM.exists() and READER.exists()):
+        sys.exit("a program is not there: run rt check depth reader first")
     print(f"{'grammar':26} {'nested calls':>12} {'MiB':>8} {'bytes a call':>12} {'seconds':>8}")
     with tempfile.TemporaryDirectory() as folder:
         kept = [measure(shape, pathlib.Path(folder)) for shape in shapes()]
+    with tempfile.TemporaryDirectory() as folder:
+        deep = chain(7, NODES - len(LIST), relation=ANY)
+        kept.append(measure_reader("reader: list", LIST, 4, pathlib.Path(folder)))
+        kept.append(measure_reader("reader: indents, any", deep, 1024, pathlib.Path(folder)))
     return 0 if all(kept) else 1
 
 
