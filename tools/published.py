@@ -301,31 +301,254 @@ def pair(name, source, shows, expected, left, right, tokens, **more):
     run(f"001 2.3 {name} right", source, shows, expected, right, tokens, **more)
 
 
+# The plain laws named before theorem 2.3.
+PLAIN = "001 section 2.3, line 146"
+
+# In 2.., a3 3..3, out 1..6 with 0..2 = 1..2; the empty behind it keeps that.
+# Right: the same without the empty.
+pair("empty behind an indent", PLAIN, "p empty and p, p = a^>", "success 1 1 2 clear",
+     seq(ind(GT, a), EPS), ind(GT, a), "a3", low=1, high=6)
+# flag: 6 is not in 3..5, so not succeeds with the old state, flag set; the empty keeps it.
+# Right: not by itself hands the same state on.
+pair("empty behind a not", PLAIN, "p empty and p, p = !a, flag set", "success 0 3 5 set",
+     seq(no(a), EPS), no(a), "a6", low=3, high=5, flag=1, mode=GE)
+# Mode greater: 4 is not in 5.., a fails and so does the sequence.
+# Right: a fails by itself.
+pair("empty behind a failure", PLAIN, "p empty and p, p = a left of the mode", "failure",
+     seq(a, EPS), a, "a4", low=4, high=4, mode=GT)
+# The empty keeps 2..6 and clear; align: flag: a6 in 2..6, 6..6.
+# Right: the align from the same state.
+pair("empty before an align", PLAIN, "empty p and p, p = |a|", "success 1 6 6 clear",
+     seq(EPS, al(a)), al(a), "a6", low=2, high=6, mode=ANY)
+# The empty leaves the flag set: a2 in 1..3, 2..2, clear; then a1 is not in 2..: the repeat ends.
+# Right: the repeat starts with the flag set too.
+pair("empty before a repeat", PLAIN, "empty p and p, p = a*, flag set", "success 1 2 2 clear",
+     seq(EPS, star(a)), star(a), "a2 a1", low=1, high=3, flag=1, mode=GE)
+# The empty keeps the state; in 4.., flag: 3 is not in it.
+# Right: the same in 4...
+pair("empty before a failure", PLAIN, "empty p and p, p = a^> at the baseline", "failure",
+     seq(EPS, ind(GT, a)), ind(GT, a), "a3", low=3, high=3, flag=1)
+
+# a4 N with 0..4 = 0..4. b^>: in 1.., b3 >= 1, 1..3, out 0..4 with 0..2 = 0..2. c1 >= 0, 0..1.
+# Right: a and b^> come to 0..2 first, then c.
+pair("sequence grouping", PLAIN, "p(qr) and (pq)r, q = b^>", "success 3 0 1 clear",
+     seq(a, seq(ind(GT, b), c)), seq(seq(a, ind(GT, b)), c), "a4 b3 c1", mode=GE)
+# !b meets a and holds, flag still set; flag: a3 in 2..6, 3..3; mode greater: b4 in 4.., 3..3 with 0..3.
+# Right: !b and a come to 3..3 first, then b.
+pair("sequence grouping with flag", PLAIN, "p(qr) and (pq)r, p = !b, flag set", "success 2 3 3 clear",
+     seq(no(b), seq(a, b)), seq(seq(no(b), a), b), "a3 b4", low=2, high=6, flag=1, mode=GT)
+# a2 in 1..5, 2..2; |b|: flag: b2 in 2..2; c3 is not in 2..2.
+# Right: a and |b| read, then c fails the same way.
+pair("sequence grouping failing", PLAIN, "p(qr) and (pq)r, c off the baseline", "failure",
+     seq(a, seq(al(b), c)), seq(seq(a, al(b)), c), "a2 b2 c3", low=1, high=5)
+
+# p = ab, q = ac, r = a: p: a4 2..4, b meets c. q from 2..9: a4 2..4, c3 >= 2, 2..3.
+# Right: p/q is p failing and q giving 2..3; r is not tried.
+pair("choice grouping", PLAIN, "p/(q/r) and (p/q)/r, q taken", "success 2 2 3 clear",
+     alt(seq(a, b), alt(seq(a, c), a)), alt(alt(seq(a, b), seq(a, c)), a), "a4 c3", low=2, high=9, mode=GE)
+# p = b meets a. q = a^>: in 3.. has no 2. r = a from the old state, flag: a2 in 2..6, 2..2.
+# Right: p/q fails, so r from the old state.
+pair("choice grouping with flag", PLAIN, "p/(q/r) and (p/q)/r, r taken, flag set", "success 1 2 2 clear",
+     alt(b, alt(ind(GT, a), a)), alt(alt(b, ind(GT, a)), a), "a2", low=2, high=6, flag=1)
+# Mode greater. p = a^>: in 5.., 4 is not in 6... q = ab: 4 is not in 5... r = |a^>|: in 5.., flag: no 4.
+# Right: the same three failures.
+pair("choice grouping failing", PLAIN, "p/(q/r) and (p/q)/r, none fits", "failure",
+     alt(ind(GT, a), alt(seq(a, b), al(ind(GT, a)))), alt(alt(ind(GT, a), seq(a, b)), al(ind(GT, a))),
+     "a4 b4", low=4, high=4, mode=GT)
+
+# p = a, q = b|c|, r = b: a5 0..5; q: b3 0..3, flag: c4 is not in 0..3; r from 0..5: b3 0..3.
+# Right: pq fails at c; pr from N: a5 0..5, b3 0..3.
+pair("sequence over choice", PLAIN, "p(q/r) and pq/pr, r taken", "success 2 0 3 clear",
+     seq(a, alt(seq(b, al(c)), b)), alt(seq(a, seq(b, al(c))), seq(a, b)), "a5 b3 c4", mode=GE)
+# !b holds, flag still set; a^>: in 3.. has no 2; a: flag: 2 in 2..6, 2..2.
+# Right: !b a^> fails; !b a from the old state, flag set, gives 2..2.
+pair("sequence over choice with flag", PLAIN, "p(q/r) and pq/pr, p = !b, flag set", "success 1 2 2 clear",
+     seq(no(b), alt(ind(GT, a), a)), alt(seq(no(b), ind(GT, a)), seq(no(b), a)), "a2", low=2, high=6, flag=1)
+# a3 3..3; b^>: in 4.. has no 2; |b|: 2 is not in 3..3.
+# Right: a is read twice, 3..3 each time, and b fails each time.
+pair("sequence over choice failing", PLAIN, "p(q/r) and pq/pr, b left of a", "failure",
+     seq(a, alt(ind(GT, b), al(b))), alt(seq(a, ind(GT, b)), seq(a, al(b))), "a3 b2", low=1, high=4)
+
+# p = a|b|, q = a: a4 2..4, flag: b5 is not in 2..4; q from 2..9: a4 2..4.
+# Right: p fails, so !p holds in the old 2..9; then q.
+pair("choice with a not", PLAIN, "p/q and p/!pq, q taken", "success 1 2 4 clear",
+     alt(seq(a, al(b)), a), alt(seq(a, al(b)), seq(no(seq(a, al(b))), a)), "a4 b5", low=2, high=9, mode=GE)
+# p = a^>: in 2.., flag: a3 3..3, out 1..5 with 0..2 = 1..2.
+# Right: p succeeds, so !p is not reached.
+pair("choice with a not first taken", PLAIN, "p/q and p/!pq, p taken, flag set", "success 1 1 2 clear",
+     alt(ind(GT, a), a), alt(ind(GT, a), seq(no(ind(GT, a)), a)), "a3", low=1, high=5, flag=1)
+# p = b meets a; q = !b holds in the old state, flag set.
+# Right: !b holds and then !b again, nothing changed.
+pair("choice with a not nothing read", PLAIN, "p/q and p/!pq, q = !b, flag set", "success 0 3 7 set",
+     alt(b, no(b)), alt(b, seq(no(b), no(b))), "a1", low=3, high=7, flag=1)
+# p = a^>: in 4.., mode greater 5.., no 2; q = |a|: 2 is not in 3..3.
+# Right: !p holds, then |a| fails.
+pair("choice with a not failing", PLAIN, "p/q and p/!pq, neither fits", "failure",
+     alt(ind(GT, a), al(a)), alt(ind(GT, a), seq(no(ind(GT, a)), al(a))), "a2", low=3, high=3, mode=GT)
+
+# Theorem 2.3, empty.
 # Empty under each of the three: in 4.., out 3..7 with 0.. = 3..7; align: set and set is set.
 for name, e in (("position", pos(GT, EPS)), ("indent", ind(GT, EPS)), ("align", al(EPS))):
     run(f"001 2.3 empty under {name}", "001 theorem 2.3", "empty changes nothing", "success 0 3 7 set",
         e, "a0", low=3, high=7, flag=1)
+# The right side of the three laws: clause 1 hands 3..7 and the set flag on.
+run("001 2.3 empty by itself", "001 theorem 2.3", "empty changes nothing", "success 0 3 7 set",
+    EPS, "a0", low=3, high=7, flag=1)
+# No tokens. Position any: only the mode changes. Indent any: in N, out N with N = N.
+# Align: set inside, clear before, so clear.
+for name, e in (("position", pos(ANY, EPS)), ("indent", ind(ANY, EPS)), ("align", al(EPS))):
+    run(f"001 2.3 empty under {name} without tokens", "001 theorem 2.3", "empty needs no token",
+        "success 0 0 inf clear", e)
+# The right side again: N and clear stay.
+run("001 2.3 empty by itself without tokens", "001 theorem 2.3", "empty needs no token",
+    "success 0 0 inf clear", EPS)
+# From place 1, where a5 stands unread. Position at least: only the mode changes.
+# Indent at least: in 5.., out 5..5 with 0.. = 5..5. Align: set inside, clear before, so clear.
+for name, e in (("position", pos(GE, EPS)), ("indent", ind(GE, EPS)), ("align", al(EPS))):
+    run(f"001 2.3 empty under {name} from place 1", "001 theorem 2.3", "no token is read from place 1 on",
+        "success 0 5 5 clear", e, "a0 a5", low=5, high=5, mode=GT, place=1)
+# The right side again: 5..5 and clear stay, nothing read.
+run("001 2.3 empty by itself from place 1", "001 theorem 2.3", "no token is read from place 1 on",
+    "success 0 5 5 clear", EPS, "a0 a5", low=5, high=5, mode=GT, place=1)
+
+# Theorem 2.3 (1), position.
 # Mode greater for both: a5 N with 0..4 = 0..4; b3 >= 1, 0..4 with 0..2 = 0..2.
+# Right: each terminal has its own position greater.
 pair("position over sequence", "001 theorem 2.3 (1)", "(pq)_> and p_> q_>", "success 2 0 2 clear",
      pos(GT, seq(a, b)), seq(pos(GT, a), pos(GT, b)), "a5 b3")
+# flag: a3 in 2..6, 3..3, clear; mode any: b0 leaves 3..3.
+# Right: a_any under the flag gives 3..3, b_any keeps it.
+pair("position over sequence with flag", "001 theorem 2.3 (1)", "(pq)_any and p_any q_any, flag set",
+     "success 2 3 3 clear",
+     pos(ANY, seq(a, b)), seq(pos(ANY, a), pos(ANY, b)), "a3 b0", low=2, high=6, flag=1)
+# Mode greater, not any: a5 in 3.., 2..6 with 0..4 = 2..4; b2 is not in 3...
+# Right: b_> fails from 2..4 too.
+pair("position over sequence failing", "001 theorem 2.3 (1)", "(pq)_> and p_> q_>, b at the baseline",
+     "failure", pos(GT, seq(a, b)), seq(pos(GT, a), pos(GT, b)), "a5 b2", low=2, high=6, mode=ANY)
+# p = ab, q = a, mode at least: a4 2..4, b1 is not in 2..; q from 2..9: a4 2..4. (Mode equal: 4..4.)
+# Right: p_>= fails at b, q_>= gives 2..4.
+pair("position over choice", "001 theorem 2.3 (1)", "(p/q)_>= and p_>=/q_>=", "success 1 2 4 clear",
+     pos(GE, alt(seq(a, b), a)), alt(pos(GE, seq(a, b)), pos(GE, a)), "a4 b1", low=2, high=9)
+# b meets a; a under the flag: 6 in 2..6, 6..6. (Without the flag mode greater would give 2..5.)
+# Right: b_> fails, a_> under the flag gives 6..6.
+pair("position over choice with flag", "001 theorem 2.3 (1)", "(p/q)_> and p_>/q_>, flag set",
+     "success 1 6 6 clear", pos(GT, alt(b, a)), alt(pos(GT, b), pos(GT, a)), "a6", low=2, high=6, flag=1,
+     mode=GE)
+# Mode greater: 4 is not in 5.., so ab and a both fail. (The outer mode any would take it.)
+# Right: (ab)_> and a_> both fail.
+pair("position over choice failing", "001 theorem 2.3 (1)", "(p/q)_> and p_>/q_>, a at the baseline",
+     "failure", pos(GT, alt(seq(a, b), a)), alt(pos(GT, seq(a, b)), pos(GT, a)), "a4 b5", low=4, high=4,
+     mode=ANY)
 # Mode greater: a4 is not in 5.., so not succeeds (in mode at least a4 would have matched).
+# Right: a_> fails, so not succeeds with the old state.
 pair("position over not", "001 theorem 2.3 (1)", "(!p)_> and !(p_>)", "success 0 4 4 clear",
      pos(GT, no(a)), no(pos(GT, a)), "a4", low=4, high=4, mode=GE)
+# Mode any: a0 matches, so not fails (in mode equal 0 is not in 4..4).
+# Right: a_any matches, so not fails.
+pair("position over not failing", "001 theorem 2.3 (1)", "(!p)_any and !(p_any), p matches", "failure",
+     pos(ANY, no(a)), no(pos(ANY, a)), "a0", low=4, high=4)
+# flag: 5 is not in 2..3 whatever the mode; not hands the old state on, flag set.
+# Right: a_any fails under the flag too.
+pair("position over not with flag", "001 theorem 2.3 (1)", "(!p)_any and !(p_any), flag set",
+     "success 0 2 3 set", pos(ANY, no(a)), no(pos(ANY, a)), "a5", low=2, high=3, flag=1)
 # Mode any: a0 and a9 match and leave 2..2; then b.
+# Right: each round is in mode any.
 pair("position over repeat", "001 theorem 2.3 (1)", "(p*)_any and (p_any)*", "success 2 2 2 clear",
      pos(ANY, star(a)), star(pos(ANY, a)), "a0 a9 b2", low=2, high=2)
+# flag: a4 in 1..9, 4..4; mode greater: a6 in 5.., 4..4 with 0..5 = 4..4; a4 is not in 5..: ends.
+# Right: a_> under the flag 4..4, a_> 4..4, then a_> fails.
+pair("position over repeat with flag", "001 theorem 2.3 (1)", "(p*)_> and (p_>)*, flag set",
+     "success 2 4 4 clear", pos(GT, star(a)), star(pos(GT, a)), "a4 a6 a4", low=1, high=9, flag=1)
+# Mode greater: 5 is not in 6.., no round; the old state. (Mode at least would read it.)
+# Right: a_> fails at once.
+pair("position over repeat without a round", "001 theorem 2.3 (1)", "(p*)_> and (p_>)*, nothing read",
+     "success 0 5 5 clear", pos(GT, star(a)), star(pos(GT, a)), "a5", low=5, high=5, mode=GE)
 # Indent greater: in 2..; mode at least: a5 2..5; out 1..6 with 0..4 = 1..4.
+# Right: in 2.. first, then mode at least: the same 2..5 and way out.
 pair("position over indent", "001 theorem 2.3 (1) and (2)", "(p^>)_>= and (p_>=)^>", "success 1 1 4 clear",
      pos(GE, ind(GT, a)), ind(GT, pos(GE, a)), "a5", low=1, high=6)
+# In 2.., flag: a4 4..4; mode greater: b5 in 5.., 4..4 with 0..4 = 4..4; out 2..6 with 0..4 = 2..4.
+# Right: the position stands inside the indent, both tokens are in it.
+pair("position over indent with flag", "001 theorem 2.3 (1) and (2)", "(p^>=)_> and (p_>)^>=, flag set",
+     "success 2 2 4 clear", pos(GT, ind(GE, seq(a, b))), ind(GE, pos(GT, seq(a, b))), "a4 b5", low=2, high=6,
+     flag=1)
+# In 4..; mode greater: 4 is not in 5...
+# Right: in 4.., a_> needs 5...
+pair("position over indent failing", "001 theorem 2.3 (1) and (2)", "(p^>)_> and (p_>)^>, one column short",
+     "failure", pos(GT, ind(GT, a)), ind(GT, pos(GT, a)), "a4", low=3, high=3, mode=ANY)
+# Any: in N; mode equal: a0 0..0; out 5..5 with N = 5..5. (The outer mode greater would not take a0.)
+# Right: in N, a_= 0..0, out 5..5.
+pair("position over indent any", "001 theorem 2.3 (1) and (2)", "(p^any)_= and (p_=)^any",
+     "success 1 5 5 clear", pos(EQ, ind(ANY, a)), ind(ANY, pos(EQ, a)), "a0", low=5, high=5, mode=GT)
+
+# Theorem 2.3 (2), indent.
 # p = ab, q = a: in 3.., a4 4..4, b5 fails; q from 3..: a4 4..4; out 2..5 with 0..3 = 2..3.
+# Right: p^> fails; q^> from 2..5: in 3.., 4..4, out 2..3.
 pair("indent over choice", "001 theorem 2.3 (2)", "(p/q)^> and p^>/q^>", "success 1 2 3 clear",
      ind(GT, alt(seq(a, b), a)), alt(ind(GT, seq(a, b)), ind(GT, a)), "a4 b5", low=2, high=5)
+# p = a^>, q = a. At least: in 3..; p: in 4.. has no 3; q: flag: 3..3; out 3..8 with 0..3 = 3..3.
+# Right: (a^>)^>= fails the same way; a^>=: in 3.., 3..3, out 3..3.
+pair("indent over choice with flag", "001 theorem 2.3 (2)", "(p/q)^>= and p^>=/q^>=, flag set",
+     "success 1 3 3 clear", ind(GE, alt(ind(GT, a), a)), alt(ind(GE, ind(GT, a)), ind(GE, a)), "a3", low=3,
+     high=8, flag=1, mode=GT)
+# In 5.., mode at least: a4 is not in 5..; q = b meets a.
+# Right: (ab)^> fails in 5.., b^> meets a.
+pair("indent over choice failing", "001 theorem 2.3 (2)", "(p/q)^> and p^>/q^>, a at the baseline", "failure",
+     ind(GT, alt(seq(a, b), b)), alt(ind(GT, seq(a, b)), ind(GT, b)), "a4 b6", low=4, high=4, mode=GE)
+# In N; b meets a; a0 0..0; out 6..6 with N = 6..6.
+# Right: b^any fails; a^any: in N, 0..0, out 6..6.
+pair("indent any over choice", "001 theorem 2.3 (2)", "(p/q)^any and p^any/q^any", "success 1 6 6 clear",
+     ind(ANY, alt(b, a)), alt(ind(ANY, b), ind(ANY, a)), "a0", low=6, high=6)
+# In 5.. has no 4, a fails, not hands 5.. on; out 4..4 with 0.. = 4..4. (!a without the indent fails.)
+# Right: a^> fails, not hands the old 4..4 on.
+pair("indent over not", "001 theorem 2.3 (2)", "(!p)^> and !(p^>)", "success 0 4 4 clear",
+     ind(GT, no(a)), no(ind(GT, a)), "a4", low=4, high=4)
+# In 3.., flag: 3 lies in it, a succeeds and not fails. (Without the flag mode greater needs 4...)
+# Right: a^> succeeds, so not fails.
+pair("indent over not failing", "001 theorem 2.3 (2)", "(!p)^> and !(p^>), p matches under the flag",
+     "failure", ind(GT, no(a)), no(ind(GT, a)), "a3", low=2, high=6, flag=1, mode=GT)
+# In 5.., flag: 4 is not in it, not hands 5.. and set on; out 5..7 with 0.. = 5..7; flag set.
+# Right: a^>= fails, not hands 5..7 and set on.
+pair("indent over not with flag", "001 theorem 2.3 (2)", "(!p)^>= and !(p^>=), flag set", "success 0 5 7 set",
+     ind(GE, no(a)), no(ind(GE, a)), "a4", low=5, high=7, flag=1)
+
+# Theorem 2.3 (3), align.
 # p = ab, q = a: flag: a4 4..4, b3 not in 4..; q from 2..9, flag: a4 4..4.
+# Right: |p| fails at b; |q| sets the flag anew.
 pair("align over choice", "001 theorem 2.3 (3)", "|p/q| and |p|/|q|", "success 1 4 4 clear",
      al(alt(seq(a, b), a)), alt(al(seq(a, b)), al(a)), "a4 b3", low=2, high=9, mode=GE)
+# b meets a; !b holds, nothing read; the flag is set before and at the inner end: set.
+# Right: |b| fails; |!b| gives set and set.
+pair("align over choice with flag", "001 theorem 2.3 (3)", "|p/q| and |p|/|q|, q = !b, flag set",
+     "success 0 2 9 set", al(alt(b, no(b))), alt(al(b), al(no(b))), "a4", low=2, high=9, flag=1, mode=GE)
+# p = a^>: in 4.. has no 2. q = a: flag: 2 is not in 3..4, though the mode is any.
+# Right: |a^>| and |a| fail for the same columns.
+pair("align over choice failing", "001 theorem 2.3 (3)", "|p/q| and |p|/|q|, a left of the baseline",
+     "failure", al(alt(ind(GT, a), a)), alt(al(ind(GT, a)), al(a)), "a2", low=3, high=4, mode=ANY)
 # flag: a5 not in 2..3, so not succeeds with the old state; flag clear before, so clear after.
+# Right: |a| fails, not hands 2..3 and clear on.
 pair("align over not", "001 theorem 2.3 (3)", "|!p| and !|p|", "success 0 2 3 clear",
      al(no(a)), no(al(a)), "a5", low=2, high=3, mode=GE)
+# flag: 4 lies in 4..4, so not fails. (Mode greater without the flag needs 5...)
+# Right: |a| succeeds, so not fails.
+pair("align over not failing", "001 theorem 2.3 (3)", "|!p| and !|p|, p matches", "failure",
+     al(no(a)), no(al(a)), "a4", low=4, high=4, mode=GT)
+# flag: 0 is not in 2..3, not hands the state on with the flag set; set before, so set.
+# Right: |a| fails, not hands 2..3 and set on.
+pair("align over not with flag", "001 theorem 2.3 (3)", "|!p| and !|p|, flag set", "success 0 2 3 set",
+     al(no(a)), no(al(a)), "a0", low=2, high=3, flag=1, mode=ANY)
+# flag: a3 in 2..6, 3..3, clear; mode any: b0 leaves 3..3. (The outer mode greater would not take b0.)
+# Right: the position stands outside, both tokens are in it all the same.
+pair("align over position", "001 theorem 2.3 (3)", "|p_any| and |p|_any", "success 2 3 3 clear",
+     al(pos(ANY, seq(a, b))), pos(ANY, al(seq(a, b))), "a3 b0", low=2, high=6, mode=GT)
+# flag: a4 4..4; mode greater: b4 is not in 5.., though the outer mode is any.
+# Right: b is in mode greater there too.
+pair("align over position failing", "001 theorem 2.3 (3)", "|p_>| and |p|_>, b at the baseline", "failure",
+     al(pos(GT, seq(a, b))), pos(GT, al(seq(a, b))), "a4 b4", low=1, high=7, mode=ANY)
+# flag: 6 is not in 3..5 (mode at least would take it): no round, flag set; set before, so set.
+# Right: the same repeat in mode at least under the flag.
+pair("align over position with flag", "001 theorem 2.3 (3)", "|p_>=| and |p|_>=, p = a*, flag set",
+     "success 0 3 5 set", al(pos(GE, star(a))), pos(GE, al(star(a))), "a6", low=3, high=5, flag=1)
 
 # (pq)^> against p^> q^>: not equal.
 JOINT, APART = ind(GT, seq(a, b)), seq(ind(GT, a), ind(GT, b))
@@ -339,52 +562,206 @@ run("001 2.3 indent over falling sequence left", SPLIT, "one baseline for both",
 # a^>: out N with 0..4 = 0..4; b^>: in 1.., b3 3..3, out 0..4 with 0..2 = 0..2.
 run("001 2.3 indent over falling sequence right", SPLIT, "a baseline for each", "success 2 0 2 clear",
     APART, "a5 b3")
-# a1 1..1, b1 1..1, out N with 0..0; and 0..0, then in 1.., b1 1..1, out 0..0: here they agree.
+# In 3.., flag: a4 lies in it, 4..4, clear.
+# Mode at least: b3 is not in 4.., so the sequence and the indent fail.
+run("001 2.3 indent over falling sequence with flag left", SPLIT, "one baseline for both, flag set",
+    "failure", JOINT, "a4 b3", low=2, high=6, flag=1, mode=GE)
+# a^>: in 3.., flag: 4..4, out 2..6 with 0..3 = 2..3, clear. b^>: in 3.., b3 >= 3, 3..3, out 2..3 with
+# 0..2 = 2..2.
+run("001 2.3 indent over falling sequence with flag right", SPLIT, "a baseline for each, flag set",
+    "success 2 2 2 clear", APART, "a4 b3", low=2, high=6, flag=1, mode=GE)
+# In 1.., a1 1..1, b1 1..1, out N with 0..0 = 0..0.
+# Right: a^> gives 0..0, then in 1.., b1 1..1, out 0..0: here they agree.
 pair("indent over level sequence", SPLIT, "equal on tokens of one column", "success 2 0 0 clear",
      JOINT, APART, "a1 b1")
+# In 3.., flag: a4 4..4; b5 >= 4, 4..4 with 0..5 = 4..4; out 2..6 with 0..3 = 2..3.
+# Right: a^> 2..3 and clear; b^>: in 3.., 3.. with 0..5 = 3..5, out 2..3 with 0..4 = 2..3: they agree.
+pair("indent over rising sequence with flag", SPLIT, "equal where the first token sets the bound",
+     "success 2 2 3 clear", JOINT, APART, "a4 b5", low=2, high=6, flag=1, mode=GE)
+# In 3.., mode equal: 2 is not in it.
+# Right: a^> fails in 3.. too.
+pair("indent over sequence at the baseline", SPLIT, "equal where the first part fails", "failure",
+     JOINT, APART, "a2 b2", low=2, high=2)
 
 # Theorem 2.4.
 # In 2..8; a6 2..6; b5 >= 2, 2..5; out 2..8 with 2..5 = 2..5.
+# Right: the same without way in and out.
 pair("identity indentation", "001 theorem 2.4 (1)", "p^= and p", "success 2 2 5 clear",
      ind(EQ, seq(a, b)), seq(a, b), "a6 b5", low=2, high=8, mode=GE)
+# In 2..6; flag: a2 2..2; mode greater: b3 in 3.., 2..2 with 0..2 = 2..2; out 2..6 with 2..2 = 2..2.
+# Right: from 2..6 at once, 2..2.
+pair("identity indentation with flag", "001 theorem 2.4 (1)", "p^= and p, flag set", "success 2 2 2 clear",
+     ind(EQ, seq(a, b)), seq(a, b), "a2 b3", low=2, high=6, flag=1, mode=GT)
+# In 2..6 keeps the upper end: 7 is not in it.
+# Right: 7 is not in 2..6.
+pair("identity indentation failing", "001 theorem 2.4 (1)", "p^= and p, a right of the interval", "failure",
+     ind(EQ, a), a, "a7", low=2, high=6)
 # At least: in 2..; greater: in 3.., a5 5..5, out 2.. with 0..4 = 2..4; out 2..6 with 0..4 = 2..4.
 # Right: in 3.., 5..5, out 2..6 with 0..4.
 pair("composition", "001 theorem 2.4 (2)", "(p^>)^>= and p^>", "success 1 2 4 clear",
      ind(GE, ind(GT, a)), ind(GT, a), "a5", low=2, high=6)
-# Greater: in 3..; any: in N, a0 0..0, out 3.. with N = 3..; out 2..6 with 0.. = 2..6. Right: N, 2..6.
+# Greater: in 3..; at least: in 3.., flag: a3 3..3, out 3.. with 0..3 = 3..3; out 2..6 with 0..2 = 2..2.
+# Right: in 3.., 3..3, out 2..6 with 0..2 = 2..2.
+pair("composition with flag", "001 theorem 2.4 (2)", "(p^>=)^> and p^>, flag set", "success 1 2 2 clear",
+     ind(GT, ind(GE, a)), ind(GT, a), "a3", low=2, high=6, flag=1, mode=GE)
+# At least: in 2..; greater: in 3.. has no 2.
+# Right: in 3.. has no 2.
+pair("composition failing", "001 theorem 2.4 (2)", "(p^>)^>= and p^>, a at the baseline", "failure",
+     ind(GE, ind(GT, a)), ind(GT, a), "a2", low=2, high=6)
+# At least twice: in 2.., in 2.., a5 5..5, out 2.. with 0..5 = 2..5; out 2..6 with 0..5 = 2..5.
+# Right: in 2.., 5..5, out 2..6 with 0..5 = 2..5.
+pair("composition of at least", "001 theorem 2.4 (2)", "(p^>=)^>= and p^>=", "success 1 2 5 clear",
+     ind(GE, ind(GE, a)), ind(GE, a), "a5", low=2, high=6)
+# Greater: in 3..; any: in N, a0 0..0, out 3.. with N = 3..; out 2..6 with 0.. = 2..6.
+# Right: in N, 0..0, out 2..6 with N.
 pair("composition with any", "001 theorem 2.4 (2)", "(p^any)^> and p^any", "success 1 2 6 clear",
      ind(GT, ind(ANY, a)), ind(ANY, a), "a0", low=2, high=6)
+# Greater: in 3..; any: in N, flag: a0 0..0, b1 >= 0, 0..0; out 3.. with N = 3..; out 2..6 with 0.. = 2..6.
+# Right: in N, 0..0, 0..0, out 2..6.
+pair("composition with any and flag", "001 theorem 2.4 (2)", "(p^any)^> and p^any, flag set",
+     "success 2 2 6 clear", ind(GT, ind(ANY, seq(a, b))), ind(ANY, seq(a, b)), "a0 b1", low=2, high=6, flag=1,
+     mode=GE)
+# Greater: in 3..; any: in N; mode greater: 0 is not in 1...
+# Right: in N; 0 is not in 1...
+pair("composition with any failing", "001 theorem 2.4 (2)", "(p^any)^> and p^any, a left of all", "failure",
+     ind(GT, ind(ANY, a)), ind(ANY, a), "a0", low=2, high=6, mode=GT)
+# Any: in N; at least: in N; mode greater: a1 N with 0..0 = 0..0, out N with 0..0; out 5..5 with N = 5..5.
+# Right: in N, 0..0, out 5..5 with N.
+pair("composition under any", "001 theorem 2.4 (2)", "(p^>=)^any and p^any", "success 1 5 5 clear",
+     ind(ANY, ind(GE, a)), ind(ANY, a), "a1", low=5, high=5, mode=GT)
 # In 2.., flag: a4 4..4, b4 >= 4, 4..4; out 1..1 with 0..3 = 1..1. (000 would fail on the right.)
+# Right: the flag first, then in 2.., 4..4 and the same way out.
 pair("indentation and alignment", "001 theorem 2.4 (3)", "|p|^> and |p^>|", "success 2 1 1 clear",
      ind(GT, al(seq(a, b))), al(ind(GT, seq(a, b))), "a4 b4", low=1, high=1, mode=GE)
+# In 4.., flag: 3 is not in it, though the mode is any.
+# Right: the flag first, then in 4.. has no 3. (000 would take it.)
+pair("indentation and alignment failing", "001 theorem 2.4 (3)", "|p|^> and |p^>|, a at the baseline",
+     "failure", ind(GT, al(seq(a, b))), al(ind(GT, seq(a, b))), "a3 b3", low=3, high=3, mode=ANY)
+# In N, flag: a0 0..0; mode greater: b1 in 1.., 0..0 with 0..0; out 2..6 with N = 2..6.
+# Right: the flag first, then in N, 0..0, out 2..6; the flag is clear inside.
+pair("indentation and alignment with flag", "001 theorem 2.4 (3)", "|p|^any and |p^any|, flag set",
+     "success 2 2 6 clear", ind(ANY, al(seq(a, b))), al(ind(ANY, seq(a, b))), "a0 b1", low=2, high=6, flag=1,
+     mode=GT)
+# In 4.., flag: 3 is not in it, !a holds: 4.. and set; set before; out 4..6 with 0.. = 4..6, set.
+# Right: !a in 4.., out 4..6, set inside and before.
+pair("indentation and alignment nothing read", "001 theorem 2.4 (3)", "|p|^>= and |p^>=|, p = !a, flag set",
+     "success 0 4 6 set", ind(GE, al(no(a))), al(ind(GE, no(a))), "a3", low=4, high=6, flag=1, mode=ANY)
 # flag: a4 4..4; mode greater: b5 in 5.., 4..4 with 0..4 = 4..4.
+# Right: one align sets the flag just as well.
 pair("alignment twice", "001 theorem 2.4 (4)", "||p|| and |p|", "success 2 4 4 clear",
      al(al(seq(a, b))), al(seq(a, b)), "a4 b5", mode=GT)
+# flag: 3 is not in 4..6, no round; inner align: set and set; outer: set and set.
+# Right: set and set once.
+pair("alignment twice with flag", "001 theorem 2.4 (4)", "||p|| and |p|, p = a*, flag set",
+     "success 0 4 6 set", al(al(star(a))), al(star(a)), "a3", low=4, high=6, flag=1, mode=GE)
+# !b holds, nothing read; inner align: set and set = set; outer: clear and set = clear.
+# Right: clear and set = clear.
+pair("alignment twice nothing read", "001 theorem 2.4 (4)", "||p|| and |p|, p = !b", "success 0 2 6 clear",
+     al(al(no(b))), al(no(b)), "a9", low=2, high=6, mode=GE)
+# In 3.. has no 2, so the indent and both aligns fail.
+# Right: the same 3.. under one align.
+pair("alignment twice failing", "001 theorem 2.4 (4)", "||p|| and |p|, p = a^> at the baseline", "failure",
+     al(al(ind(GT, a))), al(ind(GT, a)), "a2", low=2, high=2, mode=ANY)
 # Mode equal is the inner one: a4 in 3..5, 4..4.
+# Right: mode equal in place of greater: 4..4.
 pair("position twice", "001 theorem 2.4 (5)", "(p_=)_any and p_=", "success 1 4 4 clear",
      pos(ANY, pos(EQ, a)), pos(EQ, a), "a4", low=3, high=5, mode=GT)
-# flag: a4 in 2..6, 4..4. Mode equal: the same.
+# Mode greater is the inner one: 3 is not in 4.. (any and at least would take it).
+# Right: 3 is not in 4...
+pair("position twice failing", "001 theorem 2.4 (5)", "(p_>)_any and p_>, a at the baseline", "failure",
+     pos(ANY, pos(GT, a)), pos(GT, a), "a3", low=3, high=5, mode=GE)
+# flag: a6 in 2..6, 6..6; mode any is the inner one: b0 leaves 6..6.
+# Right: 6..6, then b0 in mode any.
+pair("position twice with flag", "001 theorem 2.4 (5)", "(p_any)_> and p_any, flag set",
+     "success 2 6 6 clear",
+     pos(GT, pos(ANY, seq(a, b))), pos(ANY, seq(a, b)), "a6 b0", low=2, high=6, flag=1)
+# flag: a4 in 2..6, 4..4.
+# Right: mode equal: a4 in 2..6, met with 4..4.
 pair("terminal alignment", "001 theorem 2.4 (6)", "|a| and a_=", "success 1 4 4 clear",
      al(a), pos(EQ, a), "a4", low=2, high=6, mode=GE)
+# flag: 7 is not in 2..6, though the mode is any.
+# Right: mode equal: 7 is not in 2..6.
+pair("terminal alignment failing", "001 theorem 2.4 (6)", "|a| and a_=, a right of the interval", "failure",
+     al(a), pos(EQ, a), "a7", low=2, high=6, mode=ANY)
+# From 5.., flag set: a5 lies in it, 5..5, clear inside and so after.
+# Right: the flag is set: 5 in 5.., 5..5.
+pair("terminal alignment with flag", "001 theorem 2.4 (6)", "|a| and a_=, flag set, from 5 on",
+     "success 1 5 5 clear", al(a), pos(EQ, a), "a5", low=5, flag=1, mode=GT)
 
 # Theorem 2.5.
-# Left: flag set, !b holds, flag: a4 4..4. Right: |!b| hands clear on, |a| gives 4..4.
+# The flag is set, !b holds, flag: a4 4..4.
+# Right: |!b| hands clear on, |a| sets the flag anew and gives 4..4.
 pair("align over empty first part", "001 theorem 2.5 (1)", "|pq| and |p||q|, p reads nothing",
      "success 1 4 4 clear", al(seq(no(b), a)), seq(al(no(b)), al(a)), "a4", low=2, high=6, mode=GE)
+# p = !!a, q = ab: flag: 3 in 2..6, so !a fails and !!a holds, flag set; a3 3..3; b4 in 4.., 3..3.
+# Right: |!!a| leaves the flag set (set and set); |ab| gives 3..3.
+pair("align over empty first part with flag", "001 theorem 2.5 (1) and section 3, stage 2",
+     "|!!aq| and |!!a||q|, flag set", "success 2 3 3 clear",
+     al(seq(no(no(a)), a, b)), seq(al(no(no(a))), al(seq(a, b))), "a3 b4", low=2, high=6, flag=1, mode=GT)
+# !b holds; flag: 4 is not in 2..3, though the mode is any.
+# Right: |!b| holds, |a|: 4 is not in 2..3.
+pair("align over empty first part failing", "001 theorem 2.5 (1)", "|pq| and |p||q|, a off the baseline",
+     "failure", al(seq(no(b), a)), seq(al(no(b)), al(a)), "a4", low=2, high=3, mode=ANY)
+# flag: c2 in 2..6, so !!c holds, twice; set inside, clear before: clear. (Mode greater needs 3...)
+# Right: the second align sets the flag anew, c2 in 2..6; clear after each.
+pair("align over two empty parts", "001 theorem 2.5 (1) and section 3, stage 2",
+     "|!!c!!c| and |!!c||!!c|", "success 0 2 6 clear",
+     al(seq(no(no(c)), no(no(c)))), seq(al(no(no(c))), al(no(no(c)))), "c2", low=2, high=6, mode=GT)
 # |!b| a: the flag is clear again at a: 4 >= 2, 2..6 with 0..4 = 2..4.
 run("001 2.3 align on an empty first part only", "001 theorem 2.5 (1)", "|p|q is not |pq| if p reads nothing",
     "success 1 2 4 clear", seq(al(no(b)), a), "a4", low=2, high=6, mode=GE)
 # flag: a4 4..4; b5 >= 4, 4..4.
+# Right: |a| gives 4..4 and clear; b5 >= 4.
 pair("align over reading first part", "001 theorem 2.5 (2)", "|pq| and |p|q, p reads", "success 2 4 4 clear",
      al(seq(a, b)), seq(al(a), b), "a4 b5", low=2, high=6, mode=GE)
+# flag: a4 4..4; mode greater: b4 is not in 5...
+# Right: |a| gives 4..4, b4 is not in 5...
+pair("align over reading first part failing", "001 theorem 2.5 (2)", "|pq| and |p|q, b at the baseline",
+     "failure", al(seq(a, b)), seq(al(a), b), "a4 b4", mode=GT)
+# flag: a3 in 1..6, 3..3, clear; c5 >= 3, so !!c holds, nothing read; clear. (Under a flag c5 would fail.)
+# Right: |a| gives 3..3 and clear, then !!c holds.
+pair("align over reading first part with flag", "001 theorem 2.5 (2) and section 3, stage 2",
+     "|a!!c| and |a|!!c, flag set", "success 1 3 3 clear",
+     al(seq(a, no(no(c)))), seq(al(a), no(no(c))), "a3 c5", low=1, high=6, flag=1, mode=GE)
 # |a||b|: 4..4, then flag: 5 is not in it.
 run("001 2.3 align on both parts", "001 theorem 2.5 (2)", "|p||q| is not |pq| if p reads", "failure",
     seq(al(a), al(b)), "a4 b5", low=2, high=6, mode=GE)
+# In 3.., !b holds, a4 4..4; out 2..6 with 0..3 = 2..3.
+# Right: (!b)^>: in 3.., out 2..6 with 0.. = 2..6; a^>: in 3.., 4..4, out 2..3.
+pair("indent over empty first part", "001 section 2.3, line 176", "(pq)^> and p^> q^>, p reads nothing",
+     "success 1 2 3 clear", ind(GT, seq(no(b), a)), seq(ind(GT, no(b)), ind(GT, a)), "a4", low=2, high=6)
+# In 3..; flag: 3 lies in it, !!a holds, set; a3 3..3; mode greater: b4 in 4.., 3..3; out 3..8 with 0..3.
+# Right: (!!a)^>=: 3..8 and set stay; (ab)^>=: in 3.., 3..3, 3..3, out 3..3.
+pair("indent over empty first part with flag", "001 section 2.3, line 176",
+     "(pq)^>= and p^>= q^>=, p = !!a, flag set", "success 2 3 3 clear",
+     ind(GE, seq(no(no(a)), a, b)), seq(ind(GE, no(no(a))), ind(GE, seq(a, b))), "a3 b4", low=3, high=8,
+     flag=1, mode=GT)
+# In 3..: a3 lies in it, so !a fails. (From 2..2 itself !a would hold.)
+# Right: (!a)^> fails in 3...
+pair("indent over empty first part failing", "001 section 2.3, line 176", "(pq)^> and p^> q^>, p = !a fails",
+     "failure", ind(GT, seq(no(a), a)), seq(ind(GT, no(a)), ind(GT, a)), "a3", low=2, high=2)
 
 # Theorem 2.6.
-# Position: a4 in 3.., 2..6 with 0..3 = 2..3. Indent: in 3.., 4..4, out 2..6 with 0..3 = 2..3.
+# Position: a4 in 3.., 2..6 with 0..3 = 2..3.
+# Right: in 3.., 4..4, out 2..6 with 0..3 = 2..3.
 pair("terminal position and indent", "001 theorem 2.6", "a_> and a^> in mode equal, flag clear",
      "success 1 2 3 clear", pos(GT, a), ind(GT, a), "a4", low=2, high=6)
+# Position: 9 in 2.., 2..6 with 0..9 = 2..6.
+# Right: in 2.., 9..9, out 2..6 with 0..9 = 2..6.
+pair("terminal position and indent at least", "001 theorem 2.6", "a_>= and a^>= right of the interval",
+     "success 1 2 6 clear", pos(GE, a), ind(GE, a), "a9", low=2, high=6)
+# Position: 0 in N, 5..8 with N = 5..8.
+# Right: in N, 0..0, out 5..8 with N = 5..8.
+pair("terminal position and indent any", "001 theorem 2.6", "a_any and a^any left of the interval",
+     "success 1 5 8 clear", pos(ANY, a), ind(ANY, a), "a0", low=5, high=8)
+# Position: 7 in N, met with 7..7.
+# Right: in N, 7..7, out N with 7..7 = 7..7.
+pair("terminal position and indent equal", "001 theorem 2.6", "a_= and a^= from 0 on",
+     "success 1 7 7 clear", pos(EQ, a), ind(EQ, a), "a7")
+# Position: 4 is not in 5...
+# Right: in 5.. has no 4.
+pair("terminal position and indent failing", "001 theorem 2.6", "a_> and a^> at the baseline", "failure",
+     pos(GT, a), ind(GT, a), "a4", low=4, high=4)
 # With the flag set the mode is not looked at: a4 in 2..6, 4..4.
 run("001 2.3 terminal position with flag", "001 theorem 2.6", "with the flag set a_> gives the column alone",
     "success 1 4 4 clear", pos(GT, a), "a4", low=2, high=6, flag=1)
@@ -475,6 +852,20 @@ run("001 3 repetition", "001 section 3, line 203", "p* with p = |a|", "success 2
     star(al(a)), "a2 a2 a5", mode=GE)
 run("001 3 repetition as a rule", "001 section 3, line 203", "X = pX/empty does the same",
     "success 2 2 2 clear", r("X"), "a2 a2 a5", {"X": alt(seq(al(a), r("X")), EPS)}, mode=GE)
+
+# p = a: flag: a3 in 2..6, 3..3; mode greater: a5 in 4.., 3..3 with 0..4 = 3..3; a3 is not in 4..: ends.
+# As a rule: pX, pX, then the third p fails and empty keeps 3..3.
+run("001 3 repetition with flag", "001 section 3, line 203", "p* with p = a, flag set", "success 2 3 3 clear",
+    star(a), "a3 a5 a3", low=2, high=6, flag=1, mode=GT)
+run("001 3 repetition with flag as a rule", "001 section 3, line 203", "X = pX/empty does the same",
+    "success 2 3 3 clear", r("X"), "a3 a5 a3", {"X": alt(seq(a, r("X")), EPS)}, low=2, high=6, flag=1,
+    mode=GT)
+# p = a^>: in 5.. has no 4: no round, the old 4..4.
+# As a rule: p fails, so empty from the old 4..4.
+run("001 3 repetition without a round", "001 section 3, line 203", "p* with p = a^> at the baseline",
+    "success 0 4 4 clear", star(ind(GT, a)), "a4", low=4, high=4)
+run("001 3 repetition without a round as a rule", "001 section 3, line 203", "X = pX/empty does the same",
+    "success 0 4 4 clear", r("X"), "a4", {"X": alt(seq(ind(GT, a), r("X")), EPS)}, low=4, high=4)
 
 # ---- 001, section 4 ----
 
