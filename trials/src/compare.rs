@@ -5,7 +5,7 @@ use trials::generate::{
     file_input, report_input, run_input, FileInput, ReportInput, Rng, RunInput, Stats,
 };
 use trials::ours::{self, Odd};
-use trials::second::{self, sets, Ran, Start, Verdict};
+use trials::second::{self, sets, Ran};
 
 /// Grammars may take time that doubles with each token: inputs on which a run enters more expressions are passed over.
 const MOST_STEPS: u64 = 200_000;
@@ -160,36 +160,8 @@ fn report_once(input: &ReportInput, stats: &mut Stats) -> Result<(), String> {
         scanned,
         bytes,
     )?);
-    if few_steps(file, report) {
-        let line = same(
-            "the line",
-            ours::line(file, report),
-            second::line(file, report),
-            bytes,
-        )?;
-        stats.note_line(&line);
+    if let Some(line) = second::line_within(file, report, MOST_STEPS) {
+        stats.note_line(&same("the line", ours::line(file, report), line, bytes)?);
     }
     Ok(())
-}
-
-/// Whether the run of the program on a file and a report takes few steps, or there is none.
-pub fn few_steps(file: &[u8], report: &[u8]) -> bool {
-    let Ok(grammar) = second::read(file, 2048, 128) else {
-        return true;
-    };
-    let Ok(tokens) = second::scan(file, report, 16_384) else {
-        return true;
-    };
-    if second::check(&grammar.nodes, &grammar.rules) != Verdict::Passes {
-        return true;
-    }
-    let start = Start {
-        node: grammar.start,
-        place: 0,
-        lower: 0,
-        upper: None,
-        flag: false,
-        mode: grammar.mode,
-    };
-    second::run_within(&grammar.nodes, &grammar.rules, &tokens, &start, MOST_STEPS).is_some()
 }

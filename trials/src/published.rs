@@ -5,21 +5,20 @@
 use crate::compare::{same, sets_once};
 use trials::generate::RunInput;
 use trials::ours;
-use trials::second::{self, Ran, Start};
+use trials::second::{self, Start};
 
 pub fn published(path: &str) -> Result<(), String> {
     let bytes = std::fs::read(path).map_err(|error| format!("{path}: {error}"))?;
     let stdout = std::path::Path::new(path).with_file_name("../stdout");
     let expected = std::fs::read_to_string(&stdout)
         .map_err(|error| format!("{}: {error}", stdout.display()))?;
-    let mut lines = expected.lines();
+    let mut lines = expected.split_inclusive('\n');
     let mut rest = &bytes[..];
     let mut count = 0;
     while !rest.is_empty() {
-        let (label, answer) = record(&mut rest)?;
-        let line = format!("{label}: {answer}");
+        let line = record(&mut rest)?;
         if lines.next() != Some(&line) {
-            return Err(format!("{line}\nis not what {} has", stdout.display()));
+            return Err(format!("{line}is not what {} has", stdout.display()));
         }
         count += 1;
     }
@@ -45,8 +44,8 @@ fn number(bytes: &[u8]) -> usize {
         .fold(0, |sum, &byte| sum << 8 | usize::from(byte))
 }
 
-/// One record's label, and what both readers answer.
-fn record(rest: &mut &[u8]) -> Result<(String, String), String> {
+/// One record's line: the label, and what both readers answer.
+fn record(rest: &mut &[u8]) -> Result<String, String> {
     let header = taken(rest, 29)?;
     let label = String::from_utf8_lossy(taken(rest, usize::from(header[0]))?).into_owned();
     let first = taken(rest, number(&header[20..23]))?;
@@ -57,18 +56,18 @@ fn record(rest: &mut &[u8]) -> Result<(String, String), String> {
     } else {
         run(header, first, second, third)
     };
-    answer
-        .map(|answer| (label.clone(), answer))
-        .map_err(|what| format!("{label}: {what}"))
+    match answer {
+        Ok(line) => Ok(format!("{label}: {}", String::from_utf8_lossy(&line))),
+        Err(what) => Err(format!("{label}: {what}")),
+    }
 }
 
-fn line(file: &[u8], report: &[u8]) -> Result<String, String> {
+fn line(file: &[u8], report: &[u8]) -> Result<Vec<u8>, String> {
     let line = second::line(file, report);
-    let line = same("the line", ours::line(file, report), line, String::new)?;
-    Ok(String::from_utf8_lossy(&line).trim_end().to_string())
+    same("the line", ours::line(file, report), line, String::new)
 }
 
-fn run(header: &[u8], nodes: &[u8], rules: &[u8], tokens: &[u8]) -> Result<String, String> {
+fn run(header: &[u8], nodes: &[u8], rules: &[u8], tokens: &[u8]) -> Result<Vec<u8>, String> {
     let input = RunInput {
         nodes: nodes.chunks(2).map(|word| number(word) as u16).collect(),
         rules: rules.chunks(2).map(|word| number(word) as u16).collect(),
@@ -85,19 +84,5 @@ fn run(header: &[u8], nodes: &[u8], rules: &[u8], tokens: &[u8]) -> Result<Strin
     sets_once(&input)?;
     let ran = second::run(&input.nodes, &input.rules, &input.tokens, &input.start);
     let ours = ours::run(&input.nodes, &input.rules, &input.tokens, &input.start);
-    Ok(match same("the run", ours, ran, String::new)? {
-        Ran::Success {
-            read,
-            lower,
-            upper,
-            flag,
-        } => format!(
-            "success {read} {lower} {} {}",
-            upper.map_or("inf".to_string(), |upper| upper.to_string()),
-            if flag { "set" } else { "clear" }
-        ),
-        Ran::Failure => "failure".to_string(),
-        Ran::Refused(number) => format!("refused {number}"),
-        Ran::IllFormed(node) => format!("refused 7 {node}"),
-    })
+    same("the run", ours, ran, String::new).map(|ran| second::line_of(&ran))
 }

@@ -5,7 +5,7 @@ use std::thread;
 use trials::generate::{file_input, report_input, run_input, Rng, Stats};
 use trials::second::sets::{self, ColumnSet, SetRan};
 use trials::second::{
-    check, line, next_token, read, run_within, scan, Handed, Ran, Value, Verdict,
+    check, line_within, next_token, read, run_within, scan, Handed, Ran, Value, Verdict,
 };
 
 /// Runs the work with a stack for deep runs.
@@ -174,32 +174,15 @@ fn lines_of_every_answer() {
         let mut stats = Stats::default();
         for _ in 0..5_000 {
             let input = report_input(&mut rng);
-            if !within_steps(&input.file, &input.report) {
+            let Some(line) = line_within(&input.file, &input.report, 200_000) else {
                 continue;
-            }
-            let line = line(&input.file, &input.report);
+            };
             assert_eq!(line.last(), Some(&b'\n'));
             stats.note_line(&line);
         }
         println!("{stats}");
         assert!(stats.share("line", "success, 2 or more read") > 5.0);
     });
-}
-
-/// Whether the program's run ends soon.
-fn within_steps(file: &[u8], report: &[u8]) -> bool {
-    let (Ok(grammar), Ok(tokens)) = (read(file, 2_048, 128), scan(file, report, 16_384)) else {
-        return true;
-    };
-    let start = trials::second::Start {
-        node: grammar.start,
-        place: 0,
-        lower: 0,
-        upper: None,
-        flag: false,
-        mode: grammar.mode,
-    };
-    run_within(&grammar.nodes, &grammar.rules, &tokens, &start, 200_000).is_some()
 }
 
 #[test]

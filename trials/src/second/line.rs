@@ -1,41 +1,62 @@
 //! The program over the four parts, as a function from its two inputs to its line.
 
-use super::{check, read, run, scan, Ran, Start, Verdict, MOST_NODES, MOST_RULES, MOST_TOKENS};
+use super::{
+    check, read, run, run_within, scan, FileRead, Ran, Start, Verdict, MOST_NODES, MOST_RULES,
+    MOST_TOKENS,
+};
 
 /// The program's line for a grammar file and a report, with its line break.
 pub fn line(file: &[u8], report: &[u8]) -> Vec<u8> {
-    let mut line = answer(file, report);
-    line.push('\n');
-    line.into_bytes()
+    match parts(file, report) {
+        Ok((grammar, tokens)) => {
+            let start = program_start(&grammar);
+            line_of(&run(&grammar.nodes, &grammar.rules, &tokens, &start))
+        }
+        Err(refused) => line_of(&refused),
+    }
+}
+
+/// As `line`, but `None` where the run enters more than `steps` expressions.
+pub fn line_within(file: &[u8], report: &[u8], steps: u64) -> Option<Vec<u8>> {
+    match parts(file, report) {
+        Ok((grammar, tokens)) => {
+            let start = program_start(&grammar);
+            let ran = run_within(&grammar.nodes, &grammar.rules, &tokens, &start, steps)?;
+            Some(line_of(&ran))
+        }
+        Err(refused) => Some(line_of(&refused)),
+    }
 }
 
 /// "`refused` with the lowest number that any of the four parts gives and for 7 the
 /// node". The reader and the scanner share 1 to 5, and where these refuse there is no
 /// table to feed to the others; the check's 7 lies below the scanner's 8 to 10.
-fn answer(file: &[u8], report: &[u8]) -> String {
-    let grammar = match read(file, 4 * MOST_NODES, MOST_RULES) {
-        Ok(grammar) => grammar,
-        Err(number) => return format!("refused {number}"),
-    };
+fn parts(file: &[u8], report: &[u8]) -> Result<(FileRead, Vec<u32>), Ran> {
+    let grammar = read(file, 4 * MOST_NODES, MOST_RULES).map_err(Ran::Refused)?;
     match check(&grammar.nodes, &grammar.rules) {
         Verdict::Passes => {}
-        Verdict::Refused(number) => return format!("refused {number}"),
-        Verdict::IllFormed(node) => return format!("refused 7 {node}"),
+        Verdict::Refused(number) => return Err(Ran::Refused(number)),
+        Verdict::IllFormed(node) => return Err(Ran::IllFormed(node)),
     }
-    let tokens = match scan(file, report, 4 * MOST_TOKENS) {
-        Ok(tokens) => tokens,
-        Err(number) => return format!("refused {number}"),
-    };
-    // "runs the file's start from token 0, interval 0 without end, flag clear"
-    let start = Start {
+    let tokens = scan(file, report, 4 * MOST_TOKENS).map_err(Ran::Refused)?;
+    Ok((grammar, tokens))
+}
+
+/// "runs the file's start from token 0, interval 0 without end, flag clear"
+fn program_start(grammar: &FileRead) -> Start {
+    Start {
         node: grammar.start,
         place: 0,
         lower: 0,
         upper: None,
         flag: false,
         mode: grammar.mode,
-    };
-    match run(&grammar.nodes, &grammar.rules, &tokens, &start) {
+    }
+}
+
+/// The line of an answer: "tokens read, lower end, upper end (`inf` if none), flag".
+pub fn line_of(ran: &Ran) -> Vec<u8> {
+    let line = match ran {
         Ran::Success {
             read,
             lower,
@@ -43,11 +64,12 @@ fn answer(file: &[u8], report: &[u8]) -> String {
             flag,
         } => {
             let upper = upper.map_or("inf".to_string(), |upper| upper.to_string());
-            let flag = if flag { "set" } else { "clear" };
-            format!("success {read} {lower} {upper} {flag}")
+            let flag = if *flag { "set" } else { "clear" };
+            format!("success {read} {lower} {upper} {flag}\n")
         }
-        Ran::Failure => "failure".to_string(),
-        Ran::Refused(number) => format!("refused {number}"),
-        Ran::IllFormed(node) => format!("refused 7 {node}"),
-    }
+        Ran::Failure => "failure\n".to_string(),
+        Ran::Refused(number) => format!("refused {number}\n"),
+        Ran::IllFormed(node) => format!("refused 7 {node}\n"),
+    };
+    line.into_bytes()
 }

@@ -14,7 +14,7 @@ pub mod sets;
 
 pub use check::{check, Verdict};
 pub use file::{read, FileRead};
-pub use line::line;
+pub use line::{line, line_of, line_within};
 pub use run::{run, run_within, Ran, Start};
 pub use scan::{next_token, scan, Handed, Value};
 
