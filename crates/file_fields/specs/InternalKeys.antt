@@ -10,4 +10,4 @@ fromEnd s k = getD s (length s - k) 0
 
 -- Below 4,096: of the first byte, the last three and the length.
 unfoldable pub keyOf : List ℕ → ℕ
-keyOf s = (getD s 0 0 + fromEnd s 1 * 7 + fromEnd s 2 * 61 + fromEnd s 3 * 331 + length s % 64 * 17) % 4096
+keyOf s = (getD s 0 0 * 7 + fromEnd s 1 + fromEnd s 2 * 31 + fromEnd s 3 * 961 + length s % 64 * 17) % 4096

@@ -28,7 +28,7 @@ pub fn key(s: &[u8]) -> usize
     let b = byte_in(s, before(n, 1)) as usize;
     let c = byte_in(s, before(n, 2)) as usize;
     let d = byte_in(s, before(n, 3)) as usize;
-    (a + b * 7 + c * 61 + d * 331 + n % 64 * 17) % KEYS
+    (a * 7 + b + c * 31 + d * 961 + n % 64 * 17) % KEYS
 }
 
 // An index k before n, 0 at least.
