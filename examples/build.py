@@ -17,7 +17,7 @@ A grammar in words, where `#` begins a comment:
     indent RELATION a         a relation is equal, greater, at-least or any
     position RELATION a
     align a
-    "loss"  number  word  end a keyword, a number, any other word, the end of a line
+    "loss"  number  word  eol a keyword, a number, any other word, the end of a line
     empty  NAME  (a)          nothing, a rule, an expression
 """
 
@@ -26,7 +26,7 @@ import sys
 
 EMPTY, TERMINAL, RULE, SEQUENCE, CHOICE, NOT, REPEAT, INDENT, POSITION, ALIGN = range(10)
 RELATIONS = {"equal": 0, "greater": 1, "at-least": 2, "any": 3}
-TERMINALS = {"number": 0, "word": 1, "end": 2}
+TERMINALS = {"number": 0, "word": 1, "eol": 2}
 FIRST_KEYWORD = 3
 OWN = {"keywords", "start", "mode", "indent", "position", "align", "empty", *TERMINALS, *RELATIONS}
 
