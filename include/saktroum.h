@@ -13,7 +13,8 @@
  *
  * The answer of the first four is 0 if the call passed every check, or the number of the first check it failed:
  *
- *    1  file over length, a field cut short, missing, out of order, unknown or of a wrong length, over 253 keywords
+ *    1  file over length, a field cut short, missing, out of order, unknown or of a wrong length, tag 1's value not 1,
+ *       over 253 keywords
  *    2  a keyword or name breaks its rules
  *    3  node words no multiple of 4, node or rule count outside the limits (1 to 512 nodes, 0 to 128 rules)
  *    4  kind over 9, child not lower, no such rule, terminal over 255, relation over 3, unused word not 0

@@ -2,17 +2,21 @@
 //!
 //!     trials compare SEED RUNS FILES    both readers on generated inputs
 //!     trials published CASES            both readers on the published examples
-//!     trials round CASES                a short round of both, as the gate makes it
+//!     trials program READER CASES DIR   the program on stored pairs, in a folder that it may fill
+//!     trials round                      a short round of generated inputs, as the gate makes it
 //!     trials bench                      both readers' time for the same work
 
 mod bench;
 mod compare;
+mod program;
 mod published;
 
 use std::process::ExitCode;
 
 /// The stack of the thread that all runs are made on.
 const STACK: usize = 2 << 30;
+
+const USAGE: &str = "usage: trials compare SEED RUNS FILES | published CASES | program READER CASES DIR | round | bench";
 
 /// The short round's seed, and how many runs and files it compares.
 const ROUND: (u64, u64, u64) = (1, 300_000, 50_000);
@@ -24,14 +28,10 @@ fn trials(words: &[&str]) -> Result<(), String> {
             compare::compare(number(seed)?, number(runs)?, number(files)?)
         }
         ["published", cases] => published::published(cases),
-        ["round", cases] => {
-            published::published(cases)?;
-            compare::compare(ROUND.0, ROUND.1, ROUND.2)
-        }
+        ["program", reader, cases, folder] => program::program(reader, cases, folder),
+        ["round"] => compare::compare(ROUND.0, ROUND.1, ROUND.2),
         ["bench"] => bench::bench(),
-        _ => Err(
-            "usage: trials compare SEED RUNS FILES | published CASES | round CASES | bench".into(),
-        ),
+        _ => Err(USAGE.into()),
     }
 }
 

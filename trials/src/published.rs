@@ -29,7 +29,8 @@ pub fn published(path: &str) -> Result<(), String> {
     Ok(())
 }
 
-fn taken<'b>(rest: &mut &'b [u8], count: usize) -> Result<&'b [u8], String> {
+/// The next bytes, so many.
+pub fn taken<'b>(rest: &mut &'b [u8], count: usize) -> Result<&'b [u8], String> {
     if count > rest.len() {
         return Err("a record is cut short".into());
     }
@@ -38,7 +39,8 @@ fn taken<'b>(rest: &mut &'b [u8], count: usize) -> Result<&'b [u8], String> {
     Ok(part)
 }
 
-fn number(bytes: &[u8]) -> usize {
+/// A number, high byte first.
+pub fn number(bytes: &[u8]) -> usize {
     bytes
         .iter()
         .fold(0, |sum, &byte| sum << 8 | usize::from(byte))
