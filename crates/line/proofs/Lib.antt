@@ -1,2 +1,3 @@
 pub mod PutLaws
 pub mod PartLaws
+pub mod LowestNumber
