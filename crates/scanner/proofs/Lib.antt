@@ -3,3 +3,5 @@ pub mod PlaceLaws
 pub mod LoopLaws
 pub mod StepLaws
 pub mod HandedLaws
+pub mod KeywordLaws
+pub mod IndexLaws

@@ -4,3 +4,4 @@ pub mod Tokens
 pub mod Scan
 pub mod Steps
 pub mod InternalFind
+pub mod InternalIndex

@@ -1,14 +1,15 @@
 // The report scanner: from the bytes of a report to tokens with columns (numbers 1 to 5 and 8 to 10).
 mod classes;
 mod find;
+mod index;
 mod terminals;
 
 ghost use mathlib.Core.Path.{_≡_};
 ghost use mathlib.Core.Bool.{true, _||_};
 ghost use lib.Dec.{ltb};
 ghost use mathlib.Core.List.{_++_};
-ghost use Prim.Native.Nat.{_*_, _≤_};
-ghost use lib.ListN.{length, drop};
+ghost use Prim.Native.Nat.{_+_, _*_, _≤_};
+ghost use lib.ListN.{length, take, drop};
 ghost use Rattle.table.specs.Answer.{afterwards};
 ghost use Rattle.file_fields.specs.Offsets.{keywordsFrom};
 ghost use Rattle.scanner.specs.Places.{places};
@@ -18,10 +19,14 @@ ghost use Rattle.scanner.specs.Scan.{numbers as scanNumbers};
 ghost use Rattle.scanner.specs.Steps.{position, stepFails9, stepAnswer, standing, positionOf};
 ghost use Rattle.scanner.specs.Steps.{numbers as stepNumbers};
 ghost use Rattle.scanner.specs.InternalFind.{Measured, moveOf, Ready, HandsOut};
+ghost use Rattle.scanner.specs.InternalIndex.{Indexed};
 use classes::is_refused;
 use find::Found;
 use find::find;
 use grammar_file::FileRead;
+use index::link;
+use index::starts;
+use terminals::indexed;
 use terminals::terminal;
 
 // The most bytes of a report, and the last column of a step.
@@ -188,9 +193,37 @@ fn terminal_at(file: &[u8], keywords: usize, report: &[u8], f: Found) -> u32
     if f.ends {
         return 2;
     }
+    terminal(file, keywords, bytes_at(report, f))
+}
+
+// The same by an index of the keywords.
+fn indexed_at(
+    file: &[u8],
+    keywords: usize,
+    offsets: &[usize],
+    firsts: &[u8],
+    nexts: &[u8],
+    report: &[u8],
+    f: Found,
+) -> u32
+    requires { ⌜ Indexed (now file) keywords (now offsets) (now firsts) (now nexts) ⌝ }
+    requires { ⌜ f .offset + f .length ≤ length (now report) ⌝ }
+    ensures { λ r. ⌜ r ≡ terminalAt (keywordsFrom (now (file .entry)) keywords) (now (report .entry)) (f .ends) (f .offset) (f .length) ⌝ }
+{
+    if f.ends {
+        return 2;
+    }
+    indexed(file, keywords, offsets, firsts, nexts, bytes_at(report, f))
+}
+
+// The bytes of the token at a place.
+fn bytes_at(report: &[u8], f: Found) -> &[u8]
+    requires { ⌜ f .offset + f .length ≤ length (now report) ⌝ }
+    ensures { λ r. ⌜ now r ≡ take (f .length) (drop (f .offset) (now (report .entry))) ⌝ }
+{
     let from = f.offset;
     let end = from + f.length;
-    terminal(file, keywords, &report[from..end])
+    &report[from..end]
 }
 
 // Number 8 of a report.
@@ -251,6 +284,29 @@ fn write(file: &[u8], keywords: usize, report: &[u8], tokens: &mut [u32])
     requires { ⌜ length (places (now report)) * 4 ≤ length (now tokens) ⌝ }
     ensures { λ _. ⌜ now (tokens .exit) ≡ wordsOf (tokensOf (keywordsFrom (now (file .entry)) keywords) (now (report .entry))) ++ drop (length (places (now (report .entry))) * 4) (now (tokens .entry)) ⌝ }
 {
+    let mut offsets = [0usize; 253];
+    let mut firsts = [255u8; 4096];
+    let mut nexts = [0u8; 253];
+    starts(file, keywords, &mut offsets);
+    link(file, keywords, &offsets, &mut firsts, &mut nexts);
+    write_all(file, keywords, &offsets, &firsts, &nexts, report, tokens);
+}
+
+// The same by an index of the keywords.
+fn write_all(
+    file: &[u8],
+    keywords: usize,
+    offsets: &[usize],
+    firsts: &[u8],
+    nexts: &[u8],
+    report: &[u8],
+    tokens: &mut [u32],
+)
+    requires { ⌜ Indexed (now file) keywords (now offsets) (now firsts) (now nexts) ⌝ }
+    requires { ⌜ length (now report) ≤ 65535 ⌝ }
+    requires { ⌜ length (places (now report)) * 4 ≤ length (now tokens) ⌝ }
+    ensures { λ _. ⌜ now (tokens .exit) ≡ wordsOf (tokensOf (keywordsFrom (now (file .entry)) keywords) (now (report .entry))) ++ drop (length (places (now (report .entry))) * 4) (now (tokens .entry)) ⌝ }
+{
     let mut to = 0;
     let mut at = 0;
     let mut column = 0;
@@ -260,7 +316,7 @@ fn write(file: &[u8], keywords: usize, report: &[u8], tokens: &mut [u32])
         if !place.any {
             return;
         }
-        tokens[to] = terminal_at(file, keywords, report, place);
+        tokens[to] = indexed_at(file, keywords, offsets, firsts, nexts, report, place);
         tokens[to + 1] = place.column;
         tokens[to + 2] = place.offset as u32;
         tokens[to + 3] = place.length as u32;

@@ -1,0 +1,63 @@
+-- `scanner::index::starts` meets its contract. The loop's invariant: `at` is the offset of keyword `k`, and those before
+-- it are written.
+use Rattle.scanner.proofs.index.starts.Statement.{statement}
+use Rattle.scanner.proofs.index.starts.Tie as tie
+use Prim.Native.Nat.{ℕ, _-_, _≤_}
+use mathlib.Core.Path.{_≡_, refl, subst, _∙_}
+use native.Mathlib.Omega.{arith}
+use borrow.Author.Needs.{needs}
+use lib.ListN.{length, length-set}
+use Rattle.file_fields.specs.Offsets.{offsetOf}
+use Rattle.file_fields.proofs.Offsets.{offset-next}
+use Rattle.scanner.specs.InternalIndex.{Starts}
+use Rattle.scanner.proofs.IndexLaws.{starts-more}
+
+abbrev Inv-loop : tie.InvT-loop
+Inv-loop file count offsets₀ at₀ k₀ offsets at k = (k ≤ count) × (length offsets ≡ length offsets₀) × (at ≡ offsetOf file 4 k) × Starts file k offsets
+
+abbrev μ-loop : tie.MeasureT-loop
+μ-loop file count offsets₀ at₀ k₀ offsets at k = count - k
+
+loop-holds : tie.Need-loop-holds Inv-loop μ-loop
+unfolding offsetOf
+loop-holds c = (omega arith, refl, refl, record { room = omega arith; each = λ i h. absurd (omega arith) })
+
+mul-offsets : tie.Need-mul-offsets Inv-loop μ-loop
+mul-offsets c = search needs
+
+slice-write-offsets : tie.Need-slice-write-offsets Inv-loop μ-loop
+slice-write-offsets c = omega (arith, c .before .loop .inv .1, c .before .before .before .before .pre)
+
+next-at-requires : tie.Need-next-at-requires Inv-loop μ-loop
+next-at-requires c κs = tt
+
+add-k : tie.Need-add-k Inv-loop μ-loop
+add-k c = omega arith
+
+loop-less : tie.Need-loop-less Inv-loop μ-loop
+loop-less c = omega arith
+
+loop-again : tie.Need-loop-again Inv-loop μ-loop
+loop-again c = (omega arith, simp length-set (c .before .before .loop .inv .1), rw (offset-next, ← c .before .before .loop .inv .2) (c .next-at .ensures), starts-more (c .before .before .loop .inv .3) (omega (arith, c .before .before .loop .inv .1, c .before .before .before .before .before .pre)) (c .before .before .loop .inv .2))
+
+same-length : tie.Need-same-length Inv-loop μ-loop
+same-length c = c .before .loop .inv .1
+
+returns : tie.Need-returns Inv-loop μ-loop
+returns c = subst (λ (n : ℕ). Starts (c .before .before .before .before .args .file .now) n (c .before .loop .offsets)) (omega arith) (c .before .loop .inv .3)
+
+pub starts-spec : {M : Type 1} → statement M
+starts-spec =
+    tie.close
+    (tie.spec
+    Inv-loop
+    μ-loop
+    loop-holds
+    mul-offsets
+    slice-write-offsets
+    next-at-requires
+    add-k
+    loop-less
+    loop-again
+    same-length
+    returns)

@@ -1,0 +1,23 @@
+-- `scanner::indexed_at` meets its contract.
+use borrow.Author.Needs.{needs}
+use Rattle.scanner.proofs.indexed_at.Statement.{statement}
+use Rattle.scanner.proofs.indexed_at.Tie as tie
+use mathlib.Core.Path.{refl, _∙_}
+use Rattle.scanner.specs.Tokens.{terminalAt}
+
+returns : tie.Need-returns
+unfolding terminalAt
+returns c = rw (c .if1 .taken) refl
+
+bytes-at-requires : tie.Need-bytes-at-requires
+bytes-at-requires c κs = search needs
+
+indexed-requires : tie.Need-indexed-requires
+indexed-requires c κs = search needs
+
+returns-2 : tie.Need-returns-2
+unfolding terminalAt
+returns-2 c = c .indexed .ensures ∙ rw (c .before .before .if1 .left, c .before .bytes-at .ensures) refl
+
+pub indexed-at-spec : {M : Type 1} → statement M
+indexed-at-spec = tie.close (tie.spec returns bytes-at-requires indexed-requires returns-2)

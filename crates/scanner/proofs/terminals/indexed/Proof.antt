@@ -1,0 +1,88 @@
+-- `scanner::terminals::indexed` meets its contract. The loop's invariant: the keywords from `k` on decide, and keyword
+-- `k` has the key of the spelling.
+use Rattle.scanner.proofs.terminals.indexed.Statement.{statement}
+use Rattle.scanner.proofs.terminals.indexed.Tie as tie
+use Prim.Native.Nat.{_-_}
+use mathlib.Core.Path.{_≡_, refl, sym, _∙_}
+use native.Mathlib.Omega.{arith}
+use borrow.Author.Needs.{needs}
+use Rattle.file_fields.specs.Offsets.{keywordsFrom}
+use Rattle.scanner.proofs.KeywordLaws.{length-keywords, ended}
+use Rattle.scanner.proofs.IndexLaws.{Reached, search-start, search-here, search-onward, search-next}
+
+abbrev Inv-loop : tie.InvT-loop
+Inv-loop file count offsets firsts nexts s k₀ k = Reached (keywordsFrom file count) s 0 k
+
+abbrev μ-loop : tie.MeasureT-loop
+μ-loop file count offsets firsts nexts s k₀ k = count - k
+
+key-requires : tie.Need-key-requires Inv-loop μ-loop
+key-requires c κs = tt
+
+shared-slice-read-k : tie.Need-shared-slice-read-k Inv-loop μ-loop
+shared-slice-read-k c = omega (arith, c .before .before .before .before .before .before .before .pre .linked .keys, c .before .key .ensures .1)
+
+cast-k : tie.Need-cast-k Inv-loop μ-loop
+cast-k c = omega (arith, c .shared-slice-known6 .given (c .before .key .result))
+
+loop-holds : tie.Need-loop-holds Inv-loop μ-loop
+loop-holds c = search-start (c .before .before .before .before .before .before .before .pre) (c .before .before .before .before .before .before .before .args .s .now) (c .before .key .ensures .0) (c .before .key .ensures .1)
+
+mul-value-at : tie.Need-mul-value-at Inv-loop μ-loop
+mul-value-at c = search needs
+
+shared-slice-read-value-at : tie.Need-shared-slice-read-value-at Inv-loop μ-loop
+shared-slice-read-value-at c = omega (arith, c .before .before .before .before .before .before .before .before .before .before .pre .starts .room)
+
+value-at-requires : tie.Need-value-at-requires Inv-loop μ-loop
+value-at-requires c κs = tt
+
+same-requires : tie.Need-same-requires Inv-loop μ-loop
+same-requires c κs = tt
+
+keyword-terminal-requires : tie.Need-keyword-terminal-requires Inv-loop μ-loop
+keyword-terminal-requires c κs = omega (arith, c .before .before .before .before .before .before .before .before .before .before .before .before .before .pre .few)
+
+returns : tie.Need-returns Inv-loop μ-loop
+returns c = c .keyword-terminal .ensures ∙ sym (search-here (c .before .before .before .before .before .before .before .before .before .before .before .before .before .before .pre) (c .before .before .before .before .before .before .before .before .before .before .before .before .before .before .args .s .now) (c .before .before .before .before .before .before .loop .inv) (c .before .before .before .before .before .loop-test .taken) (c .before .before .before .value-at .ensures) (sym (c .before .if1 .taken) ∙ c .before .before .same .ensures))
+
+shared-slice-read-k-2 : tie.Need-shared-slice-read-k-2 Inv-loop μ-loop
+shared-slice-read-k-2 c = omega (arith, c .before .before .before .before .before .before .before .before .before .before .before .before .before .before .pre .linked .room, length-keywords (c .before .before .before .before .before .before .before .before .before .before .before .before .before .before .args .file .now) (c .before .before .before .before .before .before .before .before .before .before .before .before .before .before .args .count))
+
+cast-k-2 : tie.Need-cast-k-2 Inv-loop μ-loop
+cast-k-2 c = omega (arith, c .shared-slice-known8 .given (c .before .before .before .before .before .before .loop .k))
+
+loop-less : tie.Need-loop-less Inv-loop μ-loop
+loop-less c = omega (arith, search-onward (c .before .before .before .before .before .before .before .before .before .before .before .before .before .before .pre) (c .before .before .before .before .before .before .before .before .before .before .before .before .before .before .args .s .now) (c .before .before .before .before .before .before .loop .inv) (c .before .before .before .before .before .loop-test .taken) (c .before .before .before .value-at .ensures) (c .before .before .same .ensures) .onward)
+
+loop-again : tie.Need-loop-again Inv-loop μ-loop
+loop-again c = search-next (c .before .before .before .before .before .before .before .before .before .before .before .before .before .before .pre) (c .before .before .before .before .before .before .before .before .before .before .before .before .before .before .args .s .now) (c .before .before .before .before .before .before .loop .inv) (c .before .before .before .before .before .loop-test .taken) (c .before .before .before .value-at .ensures) (c .before .before .same .ensures) (c .before .if1 .left)
+
+no-keyword-requires : tie.Need-no-keyword-requires Inv-loop μ-loop
+no-keyword-requires c κs = tt
+
+returns-2 : tie.Need-returns-2 Inv-loop μ-loop
+returns-2 c = c .no-keyword .ensures ∙ sym (c .before .before .loop .inv .same ∙ ended (keywordsFrom (c .before .before .before .before .before .before .before .before .before .before .args .file .now) (c .before .before .before .before .before .before .before .before .before .before .args .count)) (c .before .before .loop .k) _ (rw length-keywords (c .before .loop-test .left)))
+
+pub indexed-spec : {M : Type 1} → statement M
+indexed-spec =
+    tie.close
+    (tie.spec
+    Inv-loop
+    μ-loop
+    key-requires
+    shared-slice-read-k
+    cast-k
+    loop-holds
+    mul-value-at
+    shared-slice-read-value-at
+    value-at-requires
+    same-requires
+    keyword-terminal-requires
+    returns
+    shared-slice-read-k-2
+    cast-k-2
+    loop-less
+    loop-again
+    no-keyword-requires
+    returns-2)

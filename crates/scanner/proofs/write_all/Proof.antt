@@ -1,0 +1,109 @@
+-- `scanner::write_all` meets its contract.
+use Rattle.scanner.proofs.write_all.Statement.{statement}
+use Rattle.scanner.proofs.write_all.Tie as tie
+use native.Mathlib.Omega.{arith}
+use borrow.Author.Tests.{not-true, not-false}
+use lib.ListN.{length-set}
+use Rattle.file_fields.specs.Offsets.{keywordsFrom}
+use Rattle.scanner.specs.Steps.{position}
+use Rattle.scanner.proofs.LoopLaws.{Writing, writing-start, writing-ends, writing-room, writing-next, out-length, lies-inside, less-left}
+use Rattle.scanner.proofs.PlaceLaws.{left}
+
+abbrev Inv-loop : tie.InvT-loop
+Inv-loop file keywords offsets firsts nexts report tokens₀ to₀ at₀ column₀ mark₀ tokens to at column mark =
+    Writing (keywordsFrom file keywords) report tokens₀ (position at column mark) to tokens
+
+abbrev μ-loop : tie.MeasureT-loop
+μ-loop file keywords offsets firsts nexts report tokens₀ to₀ at₀ column₀ mark₀ tokens to at column mark =
+    left report (position at column mark)
+
+loop-holds : tie.Need-loop-holds Inv-loop μ-loop
+loop-holds c = writing-start (keywordsFrom (c .before .before .before .before .before .before .args .file .now) (c .before .before .before .before .before .before .args .keywords)) (c .before .before .before .before .before .before .args .report .now) (c .before .before .before .before .before .before .args .tokens .now) (c .before .before .before .before .before .before .pre .1 .0)
+
+find-requires : tie.Need-find-requires Inv-loop μ-loop
+find-requires c κs = c .loop .inv .room
+
+same-length : tie.Need-same-length Inv-loop μ-loop
+same-length c = (out-length (keywordsFrom (c .before .before .before .before .before .before .before .before .before .before .args .file .now) (c .before .before .before .before .before .before .before .before .before .before .args .keywords)) (c .before .before .before .before .before .before .before .before .before .before .args .report .now) (c .before .before .before .before .before .before .before .before .before .before .args .tokens .now) (position (c .before .before .before .loop .at) (c .before .before .before .loop .column) (c .before .before .before .loop .mark)) (c .before .before .before .loop .to) (c .before .before .before .loop .tokens) (c .before .before .before .loop .inv) (c .before .before .before .before .before .before .before .before .before .before .pre .1 .1))
+
+returns : tie.Need-returns Inv-loop μ-loop
+returns c = writing-ends (keywordsFrom (c .before .before .before .before .before .before .before .before .before .before .args .file .now) (c .before .before .before .before .before .before .before .before .before .before .args .keywords)) (c .before .before .before .before .before .before .before .before .before .before .args .report .now) (c .before .before .before .before .before .before .before .before .before .before .args .tokens .now) (position (c .before .before .before .loop .at) (c .before .before .before .loop .column) (c .before .before .before .loop .mark)) (c .before .before .before .loop .to) (c .before .before .before .loop .tokens) (c .before .before .before .loop .inv) (c .before .before .find .result) (c .before .before .find .ensures) (not-true _ (c .if1 .taken))
+
+indexed-at-requires : tie.Need-indexed-at-requires Inv-loop μ-loop
+indexed-at-requires c κs = (c .before .before .before .before .before .before .before .before .before .before .pre .0, (lies-inside (c .before .before .before .before .before .before .before .before .before .before .args .report .now) (position (c .before .before .before .loop .at) (c .before .before .before .loop .column) (c .before .before .before .loop .mark)) (c .before .before .before .loop .inv .room) (c .before .before .find .result) (c .before .before .find .ensures) (not-false _ (c .if1 .left))))
+
+mul-tokens : tie.Need-mul-tokens Inv-loop μ-loop
+mul-tokens c = omega (arith, (writing-room (keywordsFrom (c .before .before .before .before .before .before .before .before .before .before .before .args .file .now) (c .before .before .before .before .before .before .before .before .before .before .before .args .keywords)) (c .before .before .before .before .before .before .before .before .before .before .before .args .report .now) (c .before .before .before .before .before .before .before .before .before .before .before .args .tokens .now) (position (c .before .before .before .before .loop .at) (c .before .before .before .before .loop .column) (c .before .before .before .before .loop .mark)) (c .before .before .before .before .loop .to) (c .before .before .before .before .loop .tokens) (c .before .before .before .before .loop .inv) (c .before .before .before .find .result) (c .before .before .before .find .ensures) (not-false _ (c .before .if1 .left)) (c .before .before .before .before .before .before .before .before .before .before .before .pre .1 .1)), (out-length (keywordsFrom (c .before .before .before .before .before .before .before .before .before .before .before .args .file .now) (c .before .before .before .before .before .before .before .before .before .before .before .args .keywords)) (c .before .before .before .before .before .before .before .before .before .before .before .args .report .now) (c .before .before .before .before .before .before .before .before .before .before .before .args .tokens .now) (position (c .before .before .before .before .loop .at) (c .before .before .before .before .loop .column) (c .before .before .before .before .loop .mark)) (c .before .before .before .before .loop .to) (c .before .before .before .before .loop .tokens) (c .before .before .before .before .loop .inv) (c .before .before .before .before .before .before .before .before .before .before .before .pre .1 .1)), c .before .before .before .before .before .before .before .before .before .before .before .good .1 .1 .1 .1 .1 .1 .0)
+
+slice-write-tokens : tie.Need-slice-write-tokens Inv-loop μ-loop
+slice-write-tokens c = omega (arith, (writing-room (keywordsFrom (c .before .before .before .before .before .before .before .before .before .before .before .args .file .now) (c .before .before .before .before .before .before .before .before .before .before .before .args .keywords)) (c .before .before .before .before .before .before .before .before .before .before .before .args .report .now) (c .before .before .before .before .before .before .before .before .before .before .before .args .tokens .now) (position (c .before .before .before .before .loop .at) (c .before .before .before .before .loop .column) (c .before .before .before .before .loop .mark)) (c .before .before .before .before .loop .to) (c .before .before .before .before .loop .tokens) (c .before .before .before .before .loop .inv) (c .before .before .before .find .result) (c .before .before .before .find .ensures) (not-false _ (c .before .if1 .left)) (c .before .before .before .before .before .before .before .before .before .before .before .pre .1 .1)), (out-length (keywordsFrom (c .before .before .before .before .before .before .before .before .before .before .before .args .file .now) (c .before .before .before .before .before .before .before .before .before .before .before .args .keywords)) (c .before .before .before .before .before .before .before .before .before .before .before .args .report .now) (c .before .before .before .before .before .before .before .before .before .before .before .args .tokens .now) (position (c .before .before .before .before .loop .at) (c .before .before .before .before .loop .column) (c .before .before .before .before .loop .mark)) (c .before .before .before .before .loop .to) (c .before .before .before .before .loop .tokens) (c .before .before .before .before .loop .inv) (c .before .before .before .before .before .before .before .before .before .before .before .pre .1 .1)), c .before .before .before .before .before .before .before .before .before .before .before .good .1 .1 .1 .1 .1 .1 .0)
+
+add-tokens : tie.Need-add-tokens Inv-loop μ-loop
+add-tokens c = omega (arith, (writing-room (keywordsFrom (c .before .before .before .before .before .before .before .before .before .before .before .args .file .now) (c .before .before .before .before .before .before .before .before .before .before .before .args .keywords)) (c .before .before .before .before .before .before .before .before .before .before .before .args .report .now) (c .before .before .before .before .before .before .before .before .before .before .before .args .tokens .now) (position (c .before .before .before .before .loop .at) (c .before .before .before .before .loop .column) (c .before .before .before .before .loop .mark)) (c .before .before .before .before .loop .to) (c .before .before .before .before .loop .tokens) (c .before .before .before .before .loop .inv) (c .before .before .before .find .result) (c .before .before .before .find .ensures) (not-false _ (c .before .if1 .left)) (c .before .before .before .before .before .before .before .before .before .before .before .pre .1 .1)), (out-length (keywordsFrom (c .before .before .before .before .before .before .before .before .before .before .before .args .file .now) (c .before .before .before .before .before .before .before .before .before .before .before .args .keywords)) (c .before .before .before .before .before .before .before .before .before .before .before .args .report .now) (c .before .before .before .before .before .before .before .before .before .before .before .args .tokens .now) (position (c .before .before .before .before .loop .at) (c .before .before .before .before .loop .column) (c .before .before .before .before .loop .mark)) (c .before .before .before .before .loop .to) (c .before .before .before .before .loop .tokens) (c .before .before .before .before .loop .inv) (c .before .before .before .before .before .before .before .before .before .before .before .pre .1 .1)), c .before .before .before .before .before .before .before .before .before .before .before .good .1 .1 .1 .1 .1 .1 .0)
+
+mul-tokens-2 : tie.Need-mul-tokens-2 Inv-loop μ-loop
+mul-tokens-2 c = omega (arith, (writing-room (keywordsFrom (c .before .before .before .before .before .before .before .before .before .before .before .args .file .now) (c .before .before .before .before .before .before .before .before .before .before .before .args .keywords)) (c .before .before .before .before .before .before .before .before .before .before .before .args .report .now) (c .before .before .before .before .before .before .before .before .before .before .before .args .tokens .now) (position (c .before .before .before .before .loop .at) (c .before .before .before .before .loop .column) (c .before .before .before .before .loop .mark)) (c .before .before .before .before .loop .to) (c .before .before .before .before .loop .tokens) (c .before .before .before .before .loop .inv) (c .before .before .before .find .result) (c .before .before .before .find .ensures) (not-false _ (c .before .if1 .left)) (c .before .before .before .before .before .before .before .before .before .before .before .pre .1 .1)), (out-length (keywordsFrom (c .before .before .before .before .before .before .before .before .before .before .before .args .file .now) (c .before .before .before .before .before .before .before .before .before .before .before .args .keywords)) (c .before .before .before .before .before .before .before .before .before .before .before .args .report .now) (c .before .before .before .before .before .before .before .before .before .before .before .args .tokens .now) (position (c .before .before .before .before .loop .at) (c .before .before .before .before .loop .column) (c .before .before .before .before .loop .mark)) (c .before .before .before .before .loop .to) (c .before .before .before .before .loop .tokens) (c .before .before .before .before .loop .inv) (c .before .before .before .before .before .before .before .before .before .before .before .pre .1 .1)), c .before .before .before .before .before .before .before .before .before .before .before .good .1 .1 .1 .1 .1 .1 .0)
+
+slice-write-tokens-2 : tie.Need-slice-write-tokens-2 Inv-loop μ-loop
+slice-write-tokens-2 c = simp length-set (omega (arith, (writing-room (keywordsFrom (c .before .before .before .before .before .before .before .before .before .before .before .args .file .now) (c .before .before .before .before .before .before .before .before .before .before .before .args .keywords)) (c .before .before .before .before .before .before .before .before .before .before .before .args .report .now) (c .before .before .before .before .before .before .before .before .before .before .before .args .tokens .now) (position (c .before .before .before .before .loop .at) (c .before .before .before .before .loop .column) (c .before .before .before .before .loop .mark)) (c .before .before .before .before .loop .to) (c .before .before .before .before .loop .tokens) (c .before .before .before .before .loop .inv) (c .before .before .before .find .result) (c .before .before .before .find .ensures) (not-false _ (c .before .if1 .left)) (c .before .before .before .before .before .before .before .before .before .before .before .pre .1 .1)), (out-length (keywordsFrom (c .before .before .before .before .before .before .before .before .before .before .before .args .file .now) (c .before .before .before .before .before .before .before .before .before .before .before .args .keywords)) (c .before .before .before .before .before .before .before .before .before .before .before .args .report .now) (c .before .before .before .before .before .before .before .before .before .before .before .args .tokens .now) (position (c .before .before .before .before .loop .at) (c .before .before .before .before .loop .column) (c .before .before .before .before .loop .mark)) (c .before .before .before .before .loop .to) (c .before .before .before .before .loop .tokens) (c .before .before .before .before .loop .inv) (c .before .before .before .before .before .before .before .before .before .before .before .pre .1 .1)), c .before .before .before .before .before .before .before .before .before .before .before .good .1 .1 .1 .1 .1 .1 .0))
+
+cast-tokens : tie.Need-cast-tokens Inv-loop μ-loop
+cast-tokens c = omega (arith, (lies-inside (c .before .before .before .before .before .before .before .before .before .before .before .before .args .report .now) (position (c .before .before .before .before .before .loop .at) (c .before .before .before .before .before .loop .column) (c .before .before .before .before .before .loop .mark)) (c .before .before .before .before .before .loop .inv .room) (c .before .before .before .before .find .result) (c .before .before .before .before .find .ensures) (not-false _ (c .before .before .if1 .left))), c .before .before .before .before .before .before .before .before .before .before .before .before .pre .1 .0)
+
+add-tokens-2 : tie.Need-add-tokens-2 Inv-loop μ-loop
+add-tokens-2 c = omega (arith, (writing-room (keywordsFrom (c .before .before .before .before .before .before .before .before .before .before .before .before .args .file .now) (c .before .before .before .before .before .before .before .before .before .before .before .before .args .keywords)) (c .before .before .before .before .before .before .before .before .before .before .before .before .args .report .now) (c .before .before .before .before .before .before .before .before .before .before .before .before .args .tokens .now) (position (c .before .before .before .before .before .loop .at) (c .before .before .before .before .before .loop .column) (c .before .before .before .before .before .loop .mark)) (c .before .before .before .before .before .loop .to) (c .before .before .before .before .before .loop .tokens) (c .before .before .before .before .before .loop .inv) (c .before .before .before .before .find .result) (c .before .before .before .before .find .ensures) (not-false _ (c .before .before .if1 .left)) (c .before .before .before .before .before .before .before .before .before .before .before .before .pre .1 .1)), (out-length (keywordsFrom (c .before .before .before .before .before .before .before .before .before .before .before .before .args .file .now) (c .before .before .before .before .before .before .before .before .before .before .before .before .args .keywords)) (c .before .before .before .before .before .before .before .before .before .before .before .before .args .report .now) (c .before .before .before .before .before .before .before .before .before .before .before .before .args .tokens .now) (position (c .before .before .before .before .before .loop .at) (c .before .before .before .before .before .loop .column) (c .before .before .before .before .before .loop .mark)) (c .before .before .before .before .before .loop .to) (c .before .before .before .before .before .loop .tokens) (c .before .before .before .before .before .loop .inv) (c .before .before .before .before .before .before .before .before .before .before .before .before .pre .1 .1)), c .before .before .before .before .before .before .before .before .before .before .before .before .good .1 .1 .1 .1 .1 .1 .0)
+
+mul-tokens-3 : tie.Need-mul-tokens-3 Inv-loop μ-loop
+mul-tokens-3 c = omega (arith, (writing-room (keywordsFrom (c .before .before .before .before .before .before .before .before .before .before .before .before .args .file .now) (c .before .before .before .before .before .before .before .before .before .before .before .before .args .keywords)) (c .before .before .before .before .before .before .before .before .before .before .before .before .args .report .now) (c .before .before .before .before .before .before .before .before .before .before .before .before .args .tokens .now) (position (c .before .before .before .before .before .loop .at) (c .before .before .before .before .before .loop .column) (c .before .before .before .before .before .loop .mark)) (c .before .before .before .before .before .loop .to) (c .before .before .before .before .before .loop .tokens) (c .before .before .before .before .before .loop .inv) (c .before .before .before .before .find .result) (c .before .before .before .before .find .ensures) (not-false _ (c .before .before .if1 .left)) (c .before .before .before .before .before .before .before .before .before .before .before .before .pre .1 .1)), (out-length (keywordsFrom (c .before .before .before .before .before .before .before .before .before .before .before .before .args .file .now) (c .before .before .before .before .before .before .before .before .before .before .before .before .args .keywords)) (c .before .before .before .before .before .before .before .before .before .before .before .before .args .report .now) (c .before .before .before .before .before .before .before .before .before .before .before .before .args .tokens .now) (position (c .before .before .before .before .before .loop .at) (c .before .before .before .before .before .loop .column) (c .before .before .before .before .before .loop .mark)) (c .before .before .before .before .before .loop .to) (c .before .before .before .before .before .loop .tokens) (c .before .before .before .before .before .loop .inv) (c .before .before .before .before .before .before .before .before .before .before .before .before .pre .1 .1)), c .before .before .before .before .before .before .before .before .before .before .before .before .good .1 .1 .1 .1 .1 .1 .0)
+
+slice-write-tokens-3 : tie.Need-slice-write-tokens-3 Inv-loop μ-loop
+slice-write-tokens-3 c = simp length-set (omega (arith, (writing-room (keywordsFrom (c .before .before .before .before .before .before .before .before .before .before .before .before .args .file .now) (c .before .before .before .before .before .before .before .before .before .before .before .before .args .keywords)) (c .before .before .before .before .before .before .before .before .before .before .before .before .args .report .now) (c .before .before .before .before .before .before .before .before .before .before .before .before .args .tokens .now) (position (c .before .before .before .before .before .loop .at) (c .before .before .before .before .before .loop .column) (c .before .before .before .before .before .loop .mark)) (c .before .before .before .before .before .loop .to) (c .before .before .before .before .before .loop .tokens) (c .before .before .before .before .before .loop .inv) (c .before .before .before .before .find .result) (c .before .before .before .before .find .ensures) (not-false _ (c .before .before .if1 .left)) (c .before .before .before .before .before .before .before .before .before .before .before .before .pre .1 .1)), (out-length (keywordsFrom (c .before .before .before .before .before .before .before .before .before .before .before .before .args .file .now) (c .before .before .before .before .before .before .before .before .before .before .before .before .args .keywords)) (c .before .before .before .before .before .before .before .before .before .before .before .before .args .report .now) (c .before .before .before .before .before .before .before .before .before .before .before .before .args .tokens .now) (position (c .before .before .before .before .before .loop .at) (c .before .before .before .before .before .loop .column) (c .before .before .before .before .before .loop .mark)) (c .before .before .before .before .before .loop .to) (c .before .before .before .before .before .loop .tokens) (c .before .before .before .before .before .loop .inv) (c .before .before .before .before .before .before .before .before .before .before .before .before .pre .1 .1)), c .before .before .before .before .before .before .before .before .before .before .before .before .good .1 .1 .1 .1 .1 .1 .0))
+
+cast-tokens-2 : tie.Need-cast-tokens-2 Inv-loop μ-loop
+cast-tokens-2 c = omega (arith, (lies-inside (c .before .before .before .before .before .before .before .before .before .before .before .before .before .args .report .now) (position (c .before .before .before .before .before .before .loop .at) (c .before .before .before .before .before .before .loop .column) (c .before .before .before .before .before .before .loop .mark)) (c .before .before .before .before .before .before .loop .inv .room) (c .before .before .before .before .before .find .result) (c .before .before .before .before .before .find .ensures) (not-false _ (c .before .before .before .if1 .left))), c .before .before .before .before .before .before .before .before .before .before .before .before .before .pre .1 .0)
+
+add-tokens-3 : tie.Need-add-tokens-3 Inv-loop μ-loop
+add-tokens-3 c = omega (arith, (writing-room (keywordsFrom (c .before .before .before .before .before .before .before .before .before .before .before .before .before .args .file .now) (c .before .before .before .before .before .before .before .before .before .before .before .before .before .args .keywords)) (c .before .before .before .before .before .before .before .before .before .before .before .before .before .args .report .now) (c .before .before .before .before .before .before .before .before .before .before .before .before .before .args .tokens .now) (position (c .before .before .before .before .before .before .loop .at) (c .before .before .before .before .before .before .loop .column) (c .before .before .before .before .before .before .loop .mark)) (c .before .before .before .before .before .before .loop .to) (c .before .before .before .before .before .before .loop .tokens) (c .before .before .before .before .before .before .loop .inv) (c .before .before .before .before .before .find .result) (c .before .before .before .before .before .find .ensures) (not-false _ (c .before .before .before .if1 .left)) (c .before .before .before .before .before .before .before .before .before .before .before .before .before .pre .1 .1)), (out-length (keywordsFrom (c .before .before .before .before .before .before .before .before .before .before .before .before .before .args .file .now) (c .before .before .before .before .before .before .before .before .before .before .before .before .before .args .keywords)) (c .before .before .before .before .before .before .before .before .before .before .before .before .before .args .report .now) (c .before .before .before .before .before .before .before .before .before .before .before .before .before .args .tokens .now) (position (c .before .before .before .before .before .before .loop .at) (c .before .before .before .before .before .before .loop .column) (c .before .before .before .before .before .before .loop .mark)) (c .before .before .before .before .before .before .loop .to) (c .before .before .before .before .before .before .loop .tokens) (c .before .before .before .before .before .before .loop .inv) (c .before .before .before .before .before .before .before .before .before .before .before .before .before .pre .1 .1)), c .before .before .before .before .before .before .before .before .before .before .before .before .before .good .1 .1 .1 .1 .1 .1 .0)
+
+mul-tokens-4 : tie.Need-mul-tokens-4 Inv-loop μ-loop
+mul-tokens-4 c = omega (arith, (writing-room (keywordsFrom (c .before .before .before .before .before .before .before .before .before .before .before .before .before .args .file .now) (c .before .before .before .before .before .before .before .before .before .before .before .before .before .args .keywords)) (c .before .before .before .before .before .before .before .before .before .before .before .before .before .args .report .now) (c .before .before .before .before .before .before .before .before .before .before .before .before .before .args .tokens .now) (position (c .before .before .before .before .before .before .loop .at) (c .before .before .before .before .before .before .loop .column) (c .before .before .before .before .before .before .loop .mark)) (c .before .before .before .before .before .before .loop .to) (c .before .before .before .before .before .before .loop .tokens) (c .before .before .before .before .before .before .loop .inv) (c .before .before .before .before .before .find .result) (c .before .before .before .before .before .find .ensures) (not-false _ (c .before .before .before .if1 .left)) (c .before .before .before .before .before .before .before .before .before .before .before .before .before .pre .1 .1)), (out-length (keywordsFrom (c .before .before .before .before .before .before .before .before .before .before .before .before .before .args .file .now) (c .before .before .before .before .before .before .before .before .before .before .before .before .before .args .keywords)) (c .before .before .before .before .before .before .before .before .before .before .before .before .before .args .report .now) (c .before .before .before .before .before .before .before .before .before .before .before .before .before .args .tokens .now) (position (c .before .before .before .before .before .before .loop .at) (c .before .before .before .before .before .before .loop .column) (c .before .before .before .before .before .before .loop .mark)) (c .before .before .before .before .before .before .loop .to) (c .before .before .before .before .before .before .loop .tokens) (c .before .before .before .before .before .before .loop .inv) (c .before .before .before .before .before .before .before .before .before .before .before .before .before .pre .1 .1)), c .before .before .before .before .before .before .before .before .before .before .before .before .before .good .1 .1 .1 .1 .1 .1 .0)
+
+slice-write-tokens-4 : tie.Need-slice-write-tokens-4 Inv-loop μ-loop
+slice-write-tokens-4 c = simp length-set (omega (arith, (writing-room (keywordsFrom (c .before .before .before .before .before .before .before .before .before .before .before .before .before .args .file .now) (c .before .before .before .before .before .before .before .before .before .before .before .before .before .args .keywords)) (c .before .before .before .before .before .before .before .before .before .before .before .before .before .args .report .now) (c .before .before .before .before .before .before .before .before .before .before .before .before .before .args .tokens .now) (position (c .before .before .before .before .before .before .loop .at) (c .before .before .before .before .before .before .loop .column) (c .before .before .before .before .before .before .loop .mark)) (c .before .before .before .before .before .before .loop .to) (c .before .before .before .before .before .before .loop .tokens) (c .before .before .before .before .before .before .loop .inv) (c .before .before .before .before .before .find .result) (c .before .before .before .before .before .find .ensures) (not-false _ (c .before .before .before .if1 .left)) (c .before .before .before .before .before .before .before .before .before .before .before .before .before .pre .1 .1)), (out-length (keywordsFrom (c .before .before .before .before .before .before .before .before .before .before .before .before .before .args .file .now) (c .before .before .before .before .before .before .before .before .before .before .before .before .before .args .keywords)) (c .before .before .before .before .before .before .before .before .before .before .before .before .before .args .report .now) (c .before .before .before .before .before .before .before .before .before .before .before .before .before .args .tokens .now) (position (c .before .before .before .before .before .before .loop .at) (c .before .before .before .before .before .before .loop .column) (c .before .before .before .before .before .before .loop .mark)) (c .before .before .before .before .before .before .loop .to) (c .before .before .before .before .before .before .loop .tokens) (c .before .before .before .before .before .before .loop .inv) (c .before .before .before .before .before .before .before .before .before .before .before .before .before .pre .1 .1)), c .before .before .before .before .before .before .before .before .before .before .before .before .before .good .1 .1 .1 .1 .1 .1 .0))
+
+add-to : tie.Need-add-to Inv-loop μ-loop
+add-to c = omega (arith, (writing-room (keywordsFrom (c .before .before .before .before .before .before .before .before .before .before .before .before .before .args .file .now) (c .before .before .before .before .before .before .before .before .before .before .before .before .before .args .keywords)) (c .before .before .before .before .before .before .before .before .before .before .before .before .before .args .report .now) (c .before .before .before .before .before .before .before .before .before .before .before .before .before .args .tokens .now) (position (c .before .before .before .before .before .before .loop .at) (c .before .before .before .before .before .before .loop .column) (c .before .before .before .before .before .before .loop .mark)) (c .before .before .before .before .before .before .loop .to) (c .before .before .before .before .before .before .loop .tokens) (c .before .before .before .before .before .before .loop .inv) (c .before .before .before .before .before .find .result) (c .before .before .before .before .before .find .ensures) (not-false _ (c .before .before .before .if1 .left)) (c .before .before .before .before .before .before .before .before .before .before .before .before .before .pre .1 .1)), (out-length (keywordsFrom (c .before .before .before .before .before .before .before .before .before .before .before .before .before .args .file .now) (c .before .before .before .before .before .before .before .before .before .before .before .before .before .args .keywords)) (c .before .before .before .before .before .before .before .before .before .before .before .before .before .args .report .now) (c .before .before .before .before .before .before .before .before .before .before .before .before .before .args .tokens .now) (position (c .before .before .before .before .before .before .loop .at) (c .before .before .before .before .before .before .loop .column) (c .before .before .before .before .before .before .loop .mark)) (c .before .before .before .before .before .before .loop .to) (c .before .before .before .before .before .before .loop .tokens) (c .before .before .before .before .before .before .loop .inv) (c .before .before .before .before .before .before .before .before .before .before .before .before .before .pre .1 .1)), c .before .before .before .before .before .before .before .before .before .before .before .before .before .good .1 .1 .1 .1 .1 .1 .0)
+
+loop-less : tie.Need-loop-less Inv-loop μ-loop
+loop-less c = less-left (c .before .before .before .before .before .before .before .before .before .before .before .before .before .args .report .now) (position (c .before .before .before .before .before .before .loop .at) (c .before .before .before .before .before .before .loop .column) (c .before .before .before .before .before .before .loop .mark)) (c .before .before .before .before .before .before .loop .inv .room) (c .before .before .before .before .before .find .result) (c .before .before .before .before .before .find .ensures) (not-false _ (c .before .before .before .if1 .left))
+
+loop-again : tie.Need-loop-again Inv-loop μ-loop
+loop-again c = writing-next (keywordsFrom (c .before .before .before .before .before .before .before .before .before .before .before .before .before .args .file .now) (c .before .before .before .before .before .before .before .before .before .before .before .before .before .args .keywords)) (c .before .before .before .before .before .before .before .before .before .before .before .before .before .args .report .now) (c .before .before .before .before .before .before .before .before .before .before .before .before .before .args .tokens .now) (position (c .before .before .before .before .before .before .loop .at) (c .before .before .before .before .before .before .loop .column) (c .before .before .before .before .before .before .loop .mark)) (c .before .before .before .before .before .before .loop .to) (c .before .before .before .before .before .before .loop .tokens) (c .before .before .before .before .before .before .loop .inv) (c .before .before .before .before .before .find .result) (c .before .before .before .before .before .find .ensures) (not-false _ (c .before .before .before .if1 .left)) (c .before .before .before .before .before .before .before .before .before .before .before .before .before .pre .1 .1) (c .before .before .indexed-at .ensures)
+
+pub write-all-spec : {M : Type 1} → statement M
+write-all-spec =
+    tie.close
+    (tie.spec
+    Inv-loop
+    μ-loop
+    loop-holds
+    find-requires
+    same-length
+    returns
+    indexed-at-requires
+    mul-tokens
+    slice-write-tokens
+    add-tokens
+    mul-tokens-2
+    slice-write-tokens-2
+    cast-tokens
+    add-tokens-2
+    mul-tokens-3
+    slice-write-tokens-3
+    cast-tokens-2
+    add-tokens-3
+    mul-tokens-4
+    slice-write-tokens-4
+    add-to
+    loop-less
+    loop-again)
