@@ -51,7 +51,7 @@ loop-less : tie.Need-loop-less Inv-loop μ-loop
 loop-less c = omega arith
 
 loop-again : tie.Need-loop-again Inv-loop μ-loop
-loop-again c = (omega arith, simp length-set (c .before .before .before .before .before .loop .inv .1), link-next (c .before .before .before .before .before .before .before .before .before .before .pre .1 .0) (c .before .before .before .before .loop-test .taken) (c .before .before .before .before .before .loop .inv .0) (c .before .before .before .before .before .loop .inv .2) (c .before .before .value-at .ensures) (c .before .key .ensures .0) (c .before .key .ensures .1))
+loop-again c = (omega arith, simp length-set (c .before .before .before .before .before .loop .inv .1), link-next (c .before .before .before .before .before .before .before .before .before .before .pre .1 .0) (omega arith) (c .before .before .before .before .before .loop .inv .0) (c .before .before .before .before .before .loop .inv .2) (c .before .before .value-at .ensures) (c .before .key .ensures .0) (c .before .key .ensures .1))
 
 same-length : tie.Need-same-length Inv-loop μ-loop
 same-length c = c .before .loop .inv .2 .keys ∙ sym (ap length (c .before .before .before .before .before .before .pre .1 .1 .0) ∙ length-replicate {A = ℕ} 4096 255)
