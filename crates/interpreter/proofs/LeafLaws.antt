@@ -50,6 +50,10 @@ child-same (suc (suc (suc (suc (suc (suc (suc (suc zero)))))))) r s a b = refl
 child-same (suc (suc (suc (suc (suc (suc (suc (suc (suc zero))))))))) r s a b = absurd (b refl)
 child-same (suc (suc (suc (suc (suc (suc (suc (suc (suc (suc q)))))))))) r s a b = refl
 
+-- A state with its upper end written anew.
+pub same-state : (s : State) (u : Upper) → s .interval .upper ≡ u → withInterval s (to (s .interval .lower) u) ≡ s
+same-state s u e = rw (← e) refl
+
 -- The flag after an align.
 pub flag-kept : (a b : Bool) → a ≡ true → b ≡ (a && b)
 flag-kept a b e = rw e refl

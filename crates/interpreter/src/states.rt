@@ -3,14 +3,25 @@ use crate::intervals::after_token;
 use crate::intervals::fits;
 use crate::intervals::inner;
 use crate::intervals::leave;
+use columns::Interval;
 use columns::Outcome;
 use columns::State;
+use columns::Upper;
 ghost use mathlib.Core.Path.{_≡_};
 ghost use Prim.Native.Nat.{_+_, _<_, _^_};
 ghost use Rattle.interpreter.specs.InternalWalk.{childState, leftState, alignedState, tokenOutcome, ReadyToken};
 
-// The state in which the first child of a node is walked: an indent's in its inner set, an align's with the flag set.
+// The state in which the first child of a node is walked, written anew.
 pub(crate) fn child(kind: u16, r: u16, s: State) -> State
+    requires { ⌜ s .interval .lower + 1 < 2 ^ 32 ⌝ }
+    ensures { λ x. ⌜ x ≡ childState kind r s ⌝ }
+{
+    let inside = entered(kind, r, s);
+    anew(inside)
+}
+
+// That state as the form makes it: an indent's in its inner set, an align's with the flag set.
+fn entered(kind: u16, r: u16, s: State) -> State
     requires { ⌜ s .interval .lower + 1 < 2 ^ 32 ⌝ }
     ensures { λ x. ⌜ x ≡ childState kind r s ⌝ }
 {
@@ -30,6 +41,34 @@ pub(crate) fn child(kind: u16, r: u16, s: State) -> State
             flag: true,
         },
         _ => s,
+    }
+}
+
+// The same state, its upper end written anew: so the compiler stores as one what the child's walk loads as one, and the
+// load need not wait.
+fn anew(s: State) -> State
+    ensures { λ x. ⌜ x ≡ s ⌝ }
+{
+    let c = s.interval;
+    let l = c.lower;
+    let upper = c.upper;
+    match upper {
+        Upper::At(h) => State {
+            place: s.place,
+            interval: Interval {
+                lower: l,
+                upper: Upper::At(h),
+            },
+            flag: s.flag,
+        },
+        Upper::Endless => State {
+            place: s.place,
+            interval: Interval {
+                lower: l,
+                upper: Upper::Endless,
+            },
+            flag: s.flag,
+        },
     }
 }
 
