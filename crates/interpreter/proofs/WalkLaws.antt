@@ -262,7 +262,7 @@ module _ {nodes rules words : List ℕ} {τ₀ n₀ : ℕ} {s₀ : State} {τ n 
       let x = enters-a nodes rules (nodeCount nodes) kind a b r (inside kind refl) h0 h1 h2 h8 in
       entered nodes rules words n s (h .ready) a (x .0) (enters kind a refl (x .1)) i (ap (λ (u : State). u .place) e ∙ child-place kind r s) (rw e (child-low kind r s))
 
-  pub call-less : {i : State} {T : ℕ} → 2 * weight nodes rules words n₀ s₀ ≡ T → i ≡ childState kind r s → (kind ≡ 0 → ⊥) → (kind ≡ 1 → ⊥) → (kind ≡ 2 → ⊥) → (kind ≡ 8 → ⊥) → 2 * weight nodes rules words a i < T
+  pub call-less : {i : State} {T : ℕ} → 2 * weight nodes rules words n₀ s₀ ≡ T → i ≡ childState kind r s → (kind ≡ 0 → ⊥) → (kind ≡ 1 → ⊥) → (kind ≡ 2 → ⊥) → (kind ≡ 8 → ⊥) → 2 * weight nodes rules words a i + 1 < T
   call-less q e h0 h1 h2 h8 = let l = call e h0 h1 h2 h8 .less in let k = h .low in omega arith
 
   pub call-ready : {i : State} → i ≡ childState kind r s → (kind ≡ 0 → ⊥) → (kind ≡ 1 → ⊥) → (kind ≡ 2 → ⊥) → (kind ≡ 8 → ⊥) → Ready nodes rules words a i
@@ -365,10 +365,22 @@ module _ {nodes rules words : List ℕ} {τ₀ n₀ : ℕ} {s₀ : State} {τ n 
           let p = is-nine rules (nodeCount nodes) kind a b r (inside kind refl) h0 h1 h2 h3 h4 h5 h6 h7 h8 in
           rw y (out (Success (alignedState s u)) 9 p (aligned p))
 
+-- The walk of a first child.
+module _ {nodes rules words : List ℕ} {n : ℕ} {s : State} (h : Ready nodes rules words n s) where
+  -- From it, or from a rule, to the expression walk of the node.
+  pub node-less : {T : ℕ} → 2 * weight nodes rules words n s + 1 ≡ T → 2 * weight nodes rules words n s < T
+  node-less q = omega arith
+
+  pub first-node : n * 4 + 3 < length nodes
+  first-node = for-node (start {τ = 0} h)
+
+  pub first-token : ReadyToken words s
+  first-token = for-token (start {τ = 0} h)
+
+  pub out-first : {τ : ℕ} → kindOf nodes n ≡ 1 → (o : Outcome) → o ≡ tokenOutcome words τ (aOf nodes n) s → Gives nodes rules words τ (form nodes n) s o
+  out-first p o e = out-token (start h) p o e
+
 -- The rule walk.
 module _ {nodes rules words : List ℕ} {x : ℕ} {s : State} (h : ReadyRule nodes rules words x s) where
-  pub into-rule-less : {T : ℕ} → 2 * weight nodes rules words (standsFor rules x) s + 1 ≡ T → 2 * weight nodes rules words (standsFor rules x) s < T
-  into-rule-less q = omega arith
-
   pub out-of-rule : {τ : ℕ} (o : Outcome) → Gives nodes rules words τ (form nodes (standsFor rules x)) s o → Gives nodes rules words τ (table.rule x) s o
   out-of-rule o d = record { derived = clauses.rule (d .derived) }

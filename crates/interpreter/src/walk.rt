@@ -1,6 +1,6 @@
 // The expression walk and the rule walk, which call each other, with the state and the outcome by value. What comes last in
 // a node, as a sequence's second part or a repeat's next round, is the loop's next turn; the first child of every other form
-// is walked by one call. So a nested call needs little of the stack.
+// is walked by one call, or by none if it is a terminal. So a nested call needs little of the stack.
 use crate::states::aligned;
 use crate::states::child;
 use crate::states::left;
@@ -47,7 +47,7 @@ pub(crate) fn expression(
             }
             _ => {
                 let inside = child(kind, r, s);
-                let x = expression(nodes, rules, tokens, mode, a, inside);
+                let x = first(nodes, rules, tokens, mode, a, inside);
                 match x {
                     Outcome::Failure => {
                         match kind {
@@ -94,6 +94,18 @@ pub(crate) fn expression(
             }
         }
     }
+}
+
+// The outcome of a first child: a terminal needs no nested call.
+fn first(nodes: &[u16], rules: &[u16], tokens: &[u32], mode: u16, node: u16, s: State) -> Outcome
+    requires { ⌜ Ready (now nodes) (now rules) (now tokens) node s ⌝ }
+    ensures { λ x. ⌜ Gives (now (nodes .entry)) (now (rules .entry)) (now (tokens .entry)) mode (form (now (nodes .entry)) node) s x ⌝ }
+{
+    let at = (node as usize) * 4;
+    if nodes[at] == 1 {
+        return token(tokens, nodes[at + 1], mode, s);
+    }
+    expression(nodes, rules, tokens, mode, node, s)
 }
 
 // The outcome of a rule: that of its node.

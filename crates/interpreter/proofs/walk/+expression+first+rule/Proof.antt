@@ -1,27 +1,34 @@
--- `interpreter::walk::expression` and `interpreter::walk::rule`, which call each other, meet their contracts.
+-- `interpreter::walk::expression`, `interpreter::walk::first` and `interpreter::walk::rule`, which call each other, meet
+-- their contracts.
 use Prim.Native.Nat.{ℕ, _<_, _*_, _+_}
 use borrow.Fn.Kinds.{In}
 use borrow.Fn.PlainCycle.{Measures, is, falls, and}
 use Rattle.interpreter.proofs.walk.expression.Reads as expression
 use Rattle.interpreter.proofs.walk.expression.Kinds as expression-kinds
-use Rattle.interpreter.proofs.walk.+expression+rule.Lts-expression as expression-lts
+use Rattle.interpreter.proofs.walk.+expression+first+rule.Lts-expression as expression-lts
+use Rattle.interpreter.proofs.walk.first.Reads as first
+use Rattle.interpreter.proofs.walk.first.Kinds as first-kinds
+use Rattle.interpreter.proofs.walk.+expression+first+rule.Lts-first as first-lts
 use Rattle.interpreter.proofs.walk.rule.Reads as rule
 use Rattle.interpreter.proofs.walk.rule.Kinds as rule-kinds
-use Rattle.interpreter.proofs.walk.+expression+rule.Lts-rule as rule-lts
+use Rattle.interpreter.proofs.walk.+expression+first+rule.Lts-rule as rule-lts
 use Rattle.interpreter.proofs.states.aligned.Reads as aligned-reads
 use Rattle.interpreter.proofs.states.child.Reads as child-reads
 use Rattle.interpreter.proofs.states.left.Reads as left-reads
 use Rattle.interpreter.proofs.states.token.Reads as token-reads
-use Rattle.interpreter.proofs.walk.+expression+rule.{statement}
-use Rattle.interpreter.proofs.walk.+expression+rule.Tie.{close}
+use Rattle.interpreter.proofs.walk.+expression+first+rule.{statement}
+use Rattle.interpreter.proofs.walk.+expression+first+rule.Tie.{close}
 use borrow.Author.Needs.{needs}
 use native.Mathlib.Omega.{arith}
 use Rattle.table.specs.Form.{standsFor}
 use Rattle.interpreter.specs.InternalWalk.{weight}
-use Rattle.interpreter.proofs.WalkLaws.{Walk, start, for-node, out-empty, for-token, out-token, rule-less, rule-ready, out-rule, position-less, position-again, for-child, call-less, call-ready, choice-less, choice-again, out-not, out-repeat, out-failed, sequence-less, sequence-again, out-choice, out-not-fails, repeat-less, repeat-again, out-indent, out-align, into-rule-less, out-of-rule}
+use Rattle.interpreter.proofs.WalkLaws.{Walk, start, for-node, out-empty, for-token, out-token, rule-less, rule-ready, out-rule, position-less, position-again, for-child, call-less, call-ready, choice-less, choice-again, out-not, out-repeat, out-failed, sequence-less, sequence-again, out-choice, out-not-fails, repeat-less, repeat-again, out-indent, out-align, first-node, first-token, out-first, node-less, out-of-rule}
 
 abbrev μ-expression : Measures 3 expression-kinds.ps ℕ
 μ-expression κs a = 2 * weight (a .0 .now) (a .1 .0 .now) (a .1 .1 .0 .now) (a .1 .1 .1 .1 .0) (a .1 .1 .1 .1 .1 .0)
+
+abbrev μ-first : Measures 3 first-kinds.ps ℕ
+μ-first κs a = 2 * weight (a .0 .now) (a .1 .0 .now) (a .1 .1 .0 .now) (a .1 .1 .1 .1 .0) (a .1 .1 .1 .1 .1 .0) + 1
 
 abbrev μ-rule : Measures 3 rule-kinds.ps ℕ
 μ-rule κs a = 2 * weight (a .0 .now) (a .1 .0 .now) (a .1 .1 .0 .now) (standsFor (a .1 .0 .now) (a .1 .1 .1 .1 .0)) (a .1 .1 .1 .1 .1 .0) + 1
@@ -34,15 +41,24 @@ abbrev expression-below : ℕ → In 3 expression-kinds.ps
 expression-below t =
     and 3 expression-kinds.ps (falls 3 expression-kinds.ps _<_ μ-expression t) expression.Pre
 
+abbrev first-at : ℕ → In 3 first-kinds.ps
+first-at t = and 3 first-kinds.ps (is 3 first-kinds.ps μ-first t) first.Pre
+
+abbrev first-below : ℕ → In 3 first-kinds.ps
+first-below t = and 3 first-kinds.ps (falls 3 first-kinds.ps _<_ μ-first t) first.Pre
+
 abbrev rule-at : ℕ → In 3 rule-kinds.ps
 rule-at t = and 3 rule-kinds.ps (is 3 rule-kinds.ps μ-rule t) rule.Pre
 
 abbrev rule-below : ℕ → In 3 rule-kinds.ps
 rule-below t = and 3 rule-kinds.ps (falls 3 rule-kinds.ps _<_ μ-rule t) rule.Pre
 
--- What a call of each callee asks and gives.
+-- What a call of each callee asks and gives: those of the expression walk, and those of a first child's.
 abbrev claims : ℕ → expression-lts.Claims
-claims t = (token-reads.Asked, token-reads.Learnt, rule-below t, rule.Post, child-reads.Asked, child-reads.Learnt, expression-below t, expression.Post, left-reads.Asked, left-reads.Learnt, aligned-reads.Asked, aligned-reads.Learnt)
+claims t = (token-reads.Asked, token-reads.Learnt, rule-below t, rule.Post, child-reads.Asked, child-reads.Learnt, first-below t, first.Post, left-reads.Asked, left-reads.Learnt, aligned-reads.Asked, aligned-reads.Learnt)
+
+abbrev first-claims : ℕ → first-lts.Claims
+first-claims t = (token-reads.Asked, token-reads.Learnt, expression-below t, expression.Post)
 
 abbrev expression-Inv-loop : expression-lts.InvT-loop
 expression-Inv-loop nodes rules tokens mode0 node0 mode₀ node₀ s₀ mode node s = Walk nodes rules tokens mode0 node0 s₀ mode node s
@@ -116,59 +132,89 @@ expression-loop-again t c = position-again (c .before .before .before .before .b
 expression-child-requires : (t : ℕ) → expression-lts.Need-child-requires (claims t) (expression-at t) expression.Post expression-Inv-loop expression-μ-loop
 expression-child-requires t c κs = for-child (c .before .before .before .before .before .loop .inv)
 
-expression-expression-requires : (t : ℕ) → expression-lts.Need-expression-requires (claims t) (expression-at t) expression.Post expression-Inv-loop expression-μ-loop
-expression-expression-requires t c κs = (call-less (c .before .before .before .before .before .before .loop .inv) (c .before .before .before .before .before .before .before .before .before .before .pre .0) (c .child .ensures) (c .before .match .rest .0 .0 .0 .1) (c .before .match .rest .0 .0 .1) (c .before .match .rest .0 .1) (c .before .match .rest .1), call-ready (c .before .before .before .before .before .before .loop .inv) (c .child .ensures) (c .before .match .rest .0 .0 .0 .1) (c .before .match .rest .0 .0 .1) (c .before .match .rest .0 .1) (c .before .match .rest .1))
+expression-first-requires : (t : ℕ) → expression-lts.Need-first-requires (claims t) (expression-at t) expression.Post expression-Inv-loop expression-μ-loop
+expression-first-requires t c κs = (call-less (c .before .before .before .before .before .before .loop .inv) (c .before .before .before .before .before .before .before .before .before .before .pre .0) (c .child .ensures) (c .before .match .rest .0 .0 .0 .1) (c .before .match .rest .0 .0 .1) (c .before .match .rest .0 .1) (c .before .match .rest .1), call-ready (c .before .before .before .before .before .before .loop .inv) (c .child .ensures) (c .before .match .rest .0 .0 .0 .1) (c .before .match .rest .0 .0 .1) (c .before .match .rest .0 .1) (c .before .match .rest .1))
 
 expression-enum-told : (t : ℕ) → expression-lts.Need-enum-told (claims t) (expression-at t) expression.Post expression-Inv-loop expression-μ-loop
 expression-enum-told t c = search needs
 
 expression-loop-less-2 : (t : ℕ) → expression-lts.Need-loop-less-2 (claims t) (expression-at t) expression.Post expression-Inv-loop expression-μ-loop
-expression-loop-less-2 t c = choice-less (c .before .before .before .before .before .before .before .before .before .before .loop .inv) (c .before .before .before .before .child .ensures) (c .before .before .before .expression .ensures) (c .before .enum-told .given .1) (c .match3 .keys1)
+expression-loop-less-2 t c = choice-less (c .before .before .before .before .before .before .before .before .before .before .loop .inv) (c .before .before .before .before .child .ensures) (c .before .before .before .first .ensures) (c .before .enum-told .given .1) (c .match3 .keys1)
 
 expression-loop-again-2 : (t : ℕ) → expression-lts.Need-loop-again-2 (claims t) (expression-at t) expression.Post expression-Inv-loop expression-μ-loop
-expression-loop-again-2 t c = choice-again (c .before .before .before .before .before .before .before .before .before .before .loop .inv) (c .before .before .before .before .child .ensures) (c .before .before .before .expression .ensures) (c .before .enum-told .given .1) (c .match3 .keys1)
+expression-loop-again-2 t c = choice-again (c .before .before .before .before .before .before .before .before .before .before .loop .inv) (c .before .before .before .before .child .ensures) (c .before .before .before .first .ensures) (c .before .enum-told .given .1) (c .match3 .keys1)
 
 expression-returns-4 : (t : ℕ) → expression-lts.Need-returns-4 (claims t) (expression-at t) expression.Post expression-Inv-loop expression-μ-loop
-expression-returns-4 t c = out-not (c .before .before .before .before .before .before .before .before .before .before .loop .inv) (c .before .before .before .before .child .ensures) (c .before .before .before .expression .ensures) (c .before .enum-told .given .1) (c .match3 .keys2)
+expression-returns-4 t c = out-not (c .before .before .before .before .before .before .before .before .before .before .loop .inv) (c .before .before .before .before .child .ensures) (c .before .before .before .first .ensures) (c .before .enum-told .given .1) (c .match3 .keys2)
 
 expression-returns-5 : (t : ℕ) → expression-lts.Need-returns-5 (claims t) (expression-at t) expression.Post expression-Inv-loop expression-μ-loop
-expression-returns-5 t c = out-repeat (c .before .before .before .before .before .before .before .before .before .before .loop .inv) (c .before .before .before .before .child .ensures) (c .before .before .before .expression .ensures) (c .before .enum-told .given .1) (c .match3 .keys3)
+expression-returns-5 t c = out-repeat (c .before .before .before .before .before .before .before .before .before .before .loop .inv) (c .before .before .before .before .child .ensures) (c .before .before .before .first .ensures) (c .before .enum-told .given .1) (c .match3 .keys3)
 
 expression-returns-6 : (t : ℕ) → expression-lts.Need-returns-6 (claims t) (expression-at t) expression.Post expression-Inv-loop expression-μ-loop
-expression-returns-6 t c = out-failed (c .before .before .before .before .before .before .before .before .before .before .loop .inv) (c .before .before .before .before .child .ensures) (c .before .before .before .expression .ensures) (c .before .enum-told .given .1) (c .before .before .before .before .before .match .rest .0 .0 .0 .1) (c .before .before .before .before .before .match .rest .0 .0 .1) (c .before .before .before .before .before .match .rest .0 .1) (c .before .before .before .before .before .match .rest .1) (c .match3 .rest .0 .0 .1) (c .match3 .rest .0 .1) (c .match3 .rest .1)
+expression-returns-6 t c = out-failed (c .before .before .before .before .before .before .before .before .before .before .loop .inv) (c .before .before .before .before .child .ensures) (c .before .before .before .first .ensures) (c .before .enum-told .given .1) (c .before .before .before .before .before .match .rest .0 .0 .0 .1) (c .before .before .before .before .before .match .rest .0 .0 .1) (c .before .before .before .before .before .match .rest .0 .1) (c .before .before .before .before .before .match .rest .1) (c .match3 .rest .0 .0 .1) (c .match3 .rest .0 .1) (c .match3 .rest .1)
 
 expression-enum-known-x : (t : ℕ) → expression-lts.Need-enum-known-x (claims t) (expression-at t) expression.Post expression-Inv-loop expression-μ-loop
 expression-enum-known-x t c = search needs
 
 expression-loop-less-3 : (t : ℕ) → expression-lts.Need-loop-less-3 (claims t) (expression-at t) expression.Post expression-Inv-loop expression-μ-loop
-expression-loop-less-3 t c = sequence-less (c .before .before .before .before .before .before .before .before .before .before .before .loop .inv) (c .before .before .before .before .before .child .ensures) (c .before .before .before .before .expression .ensures) (c .before .before .x .given .0 .0) (c .before .before .x .given .1) (c .match4 .keys1)
+expression-loop-less-3 t c = sequence-less (c .before .before .before .before .before .before .before .before .before .before .before .loop .inv) (c .before .before .before .before .before .child .ensures) (c .before .before .before .before .first .ensures) (c .before .before .x .given .0 .0) (c .before .before .x .given .1) (c .match4 .keys1)
 
 expression-loop-again-3 : (t : ℕ) → expression-lts.Need-loop-again-3 (claims t) (expression-at t) expression.Post expression-Inv-loop expression-μ-loop
-expression-loop-again-3 t c = sequence-again (c .before .before .before .before .before .before .before .before .before .before .before .loop .inv) (c .before .before .before .before .before .child .ensures) (c .before .before .before .before .expression .ensures) (c .before .before .x .given .0 .0) (c .before .before .x .given .1) (c .match4 .keys1)
+expression-loop-again-3 t c = sequence-again (c .before .before .before .before .before .before .before .before .before .before .before .loop .inv) (c .before .before .before .before .before .child .ensures) (c .before .before .before .before .first .ensures) (c .before .before .x .given .0 .0) (c .before .before .x .given .1) (c .match4 .keys1)
 
 expression-returns-7 : (t : ℕ) → expression-lts.Need-returns-7 (claims t) (expression-at t) expression.Post expression-Inv-loop expression-μ-loop
-expression-returns-7 t c = out-choice (c .before .before .before .before .before .before .before .before .before .before .before .loop .inv) (c .before .before .before .before .before .child .ensures) (c .before .before .before .before .expression .ensures) (c .before .before .x .given .0 .0) (c .before .before .x .given .1) (c .match4 .keys2)
+expression-returns-7 t c = out-choice (c .before .before .before .before .before .before .before .before .before .before .before .loop .inv) (c .before .before .before .before .before .child .ensures) (c .before .before .before .before .first .ensures) (c .before .before .x .given .0 .0) (c .before .before .x .given .1) (c .match4 .keys2)
 
 expression-returns-8 : (t : ℕ) → expression-lts.Need-returns-8 (claims t) (expression-at t) expression.Post expression-Inv-loop expression-μ-loop
-expression-returns-8 t c = out-not-fails (c .before .before .before .before .before .before .before .before .before .before .before .loop .inv) (c .before .before .before .before .before .child .ensures) (c .before .before .before .before .expression .ensures) (c .before .before .x .given .0 .0) (c .before .before .x .given .1) (c .match4 .keys3)
+expression-returns-8 t c = out-not-fails (c .before .before .before .before .before .before .before .before .before .before .before .loop .inv) (c .before .before .before .before .before .child .ensures) (c .before .before .before .before .first .ensures) (c .before .before .x .given .0 .0) (c .before .before .x .given .1) (c .match4 .keys3)
 
 expression-loop-less-4 : (t : ℕ) → expression-lts.Need-loop-less-4 (claims t) (expression-at t) expression.Post expression-Inv-loop expression-μ-loop
-expression-loop-less-4 t c = repeat-less (c .before .before .before .before .before .before .before .before .before .before .before .loop .inv) (c .before .before .before .before .before .child .ensures) (c .before .before .before .before .expression .ensures) (c .before .before .x .given .0 .0) (c .before .before .x .given .1) (c .match4 .keys4)
+expression-loop-less-4 t c = repeat-less (c .before .before .before .before .before .before .before .before .before .before .before .loop .inv) (c .before .before .before .before .before .child .ensures) (c .before .before .before .before .first .ensures) (c .before .before .x .given .0 .0) (c .before .before .x .given .1) (c .match4 .keys4)
 
 expression-loop-again-4 : (t : ℕ) → expression-lts.Need-loop-again-4 (claims t) (expression-at t) expression.Post expression-Inv-loop expression-μ-loop
-expression-loop-again-4 t c = repeat-again (c .before .before .before .before .before .before .before .before .before .before .before .loop .inv) (c .before .before .before .before .before .child .ensures) (c .before .before .before .before .expression .ensures) (c .before .before .x .given .0 .0) (c .before .before .x .given .1) (c .match4 .keys4)
+expression-loop-again-4 t c = repeat-again (c .before .before .before .before .before .before .before .before .before .before .before .loop .inv) (c .before .before .before .before .before .child .ensures) (c .before .before .before .before .first .ensures) (c .before .before .x .given .0 .0) (c .before .before .x .given .1) (c .match4 .keys4)
 
 expression-left-requires : (t : ℕ) → expression-lts.Need-left-requires (claims t) (expression-at t) expression.Post expression-Inv-loop expression-μ-loop
 expression-left-requires t c κs = search needs
 
 expression-returns-9 : (t : ℕ) → expression-lts.Need-returns-9 (claims t) (expression-at t) expression.Post expression-Inv-loop expression-μ-loop
-expression-returns-9 t c = out-indent (c .before .before .before .before .before .before .before .before .before .before .before .before .loop .inv) (c .before .before .before .before .before .before .child .ensures) (c .before .before .before .before .before .expression .ensures) (c .before .before .before .x .given .0 .0) (c .before .before .before .x .given .1) (c .before .match4 .keys5) (c .left .ensures)
+expression-returns-9 t c = out-indent (c .before .before .before .before .before .before .before .before .before .before .before .before .loop .inv) (c .before .before .before .before .before .before .child .ensures) (c .before .before .before .before .before .first .ensures) (c .before .before .before .x .given .0 .0) (c .before .before .before .x .given .1) (c .before .match4 .keys5) (c .left .ensures)
 
 expression-aligned-requires : (t : ℕ) → expression-lts.Need-aligned-requires (claims t) (expression-at t) expression.Post expression-Inv-loop expression-μ-loop
 expression-aligned-requires t c κs = search needs
 
 expression-returns-10 : (t : ℕ) → expression-lts.Need-returns-10 (claims t) (expression-at t) expression.Post expression-Inv-loop expression-μ-loop
-expression-returns-10 t c = out-align (c .before .before .before .before .before .before .before .before .before .before .before .before .loop .inv) (c .before .before .before .before .before .before .child .ensures) (c .before .before .before .before .before .expression .ensures) (c .before .before .before .x .given .0 .0) (c .before .before .before .x .given .1) (c .before .before .before .before .before .before .before .match .rest .0 .0 .0 .1) (c .before .before .before .before .before .before .before .match .rest .0 .0 .1) (c .before .before .before .before .before .before .before .match .rest .0 .1) (c .before .before .before .before .before .before .before .match .rest .1) (c .before .match4 .rest .0 .0 .0 .0 .1) (c .before .match4 .rest .0 .0 .0 .1) (c .before .match4 .rest .0 .0 .1) (c .before .match4 .rest .0 .1) (c .before .match4 .rest .1) (c .aligned .ensures)
+expression-returns-10 t c = out-align (c .before .before .before .before .before .before .before .before .before .before .before .before .loop .inv) (c .before .before .before .before .before .before .child .ensures) (c .before .before .before .before .before .first .ensures) (c .before .before .before .x .given .0 .0) (c .before .before .before .x .given .1) (c .before .before .before .before .before .before .before .match .rest .0 .0 .0 .1) (c .before .before .before .before .before .before .before .match .rest .0 .0 .1) (c .before .before .before .before .before .before .before .match .rest .0 .1) (c .before .before .before .before .before .before .before .match .rest .1) (c .before .match4 .rest .0 .0 .0 .0 .1) (c .before .match4 .rest .0 .0 .0 .1) (c .before .match4 .rest .0 .0 .1) (c .before .match4 .rest .0 .1) (c .before .match4 .rest .1) (c .aligned .ensures)
+
+first-mul-at : (t : ℕ) → first-lts.Need-mul-at (first-claims t) (first-at t) first.Post
+first-mul-at t c = omega (arith, first-node (c .before .before .before .pre .1))
+
+first-mul-if1 : (t : ℕ) → first-lts.Need-mul-if1 (first-claims t) (first-at t) first.Post
+first-mul-if1 t c = omega (arith, first-node (c .before .before .before .pre .1))
+
+first-shared-slice-read-if1 : (t : ℕ) → first-lts.Need-shared-slice-read-if1 (first-claims t) (first-at t) first.Post
+first-shared-slice-read-if1 t c = omega (arith, first-node (c .before .before .before .before .pre .1))
+
+first-add-token : (t : ℕ) → first-lts.Need-add-token (first-claims t) (first-at t) first.Post
+first-add-token t c = omega (arith, first-node (c .before .before .before .before .before .pre .1))
+
+first-mul-token : (t : ℕ) → first-lts.Need-mul-token (first-claims t) (first-at t) first.Post
+first-mul-token t c = omega (arith, first-node (c .before .before .before .before .before .pre .1))
+
+first-shared-slice-read-token : (t : ℕ) → first-lts.Need-shared-slice-read-token (first-claims t) (first-at t) first.Post
+first-shared-slice-read-token t c = omega (arith, first-node (c .before .before .before .before .before .before .pre .1))
+
+first-token-requires : (t : ℕ) → first-lts.Need-token-requires (first-claims t) (first-at t) first.Post
+first-token-requires t c κs = first-token (c .before .before .before .before .before .before .pre .1)
+
+first-returns : (t : ℕ) → first-lts.Need-returns (first-claims t) (first-at t) first.Post
+first-returns t c = out-first (c .before .before .before .before .before .before .before .pre .1) (c .before .before .if1 .taken) _ (c .token .ensures)
+
+first-expression-requires : (t : ℕ) → first-lts.Need-expression-requires (first-claims t) (first-at t) first.Post
+first-expression-requires t c κs = (node-less (c .before .before .before .before .before .pre .1) (c .before .before .before .before .before .pre .0), c .before .before .before .before .before .pre .1)
+
+first-returns-2 : (t : ℕ) → first-lts.Need-returns-2 (first-claims t) (first-at t) first.Post
+first-returns-2 t c = c .expression .ensures
 
 rule-mul-node :
     (t : ℕ) → rule-lts.Need-mul-node (expression-below t, expression.Post) (rule-at t) rule.Post
@@ -184,14 +230,14 @@ rule-expression-requires : (t : ℕ) → rule-lts.Need-expression-requires (
   expression-below t,
   expression.Post,
 ) (rule-at t) rule.Post
-rule-expression-requires t c κs = (into-rule-less (c .before .before .before .before .pre .1) (c .before .before .before .before .pre .0), c .before .before .before .before .pre .1 .ready)
+rule-expression-requires t c κs = (node-less (c .before .before .before .before .pre .1 .ready) (c .before .before .before .before .pre .0), c .before .before .before .before .pre .1 .ready)
 
 rule-returns :
     (t : ℕ) → rule-lts.Need-returns (expression-below t, expression.Post) (rule-at t) rule.Post
 rule-returns t c = out-of-rule (c .before .before .before .before .before .pre .1) _ (c .expression .ensures)
 
-pub +expression+rule-spec : {M : Type 1} → statement M
-+expression+rule-spec = close μ-expression μ-rule (λ t. expression-lts.spec (claims t)
+pub +expression+first+rule-spec : {M : Type 1} → statement M
++expression+first+rule-spec = close μ-expression μ-first μ-rule (λ t. expression-lts.spec (claims t)
     (expression-at t)
     expression.Post
     expression-Inv-loop
@@ -218,7 +264,7 @@ pub +expression+rule-spec : {M : Type 1} → statement M
     (expression-loop-less t)
     (expression-loop-again t)
     (expression-child-requires t)
-    (expression-expression-requires t)
+    (expression-first-requires t)
     (expression-enum-told t)
     (expression-loop-less-2 t)
     (expression-loop-again-2 t)
@@ -236,6 +282,19 @@ pub +expression+rule-spec : {M : Type 1} → statement M
     (expression-returns-9 t)
     (expression-aligned-requires t)
     (expression-returns-10 t))
+    (λ t. first-lts.spec (first-claims t)
+    (first-at t)
+    first.Post
+    (first-mul-at t)
+    (first-mul-if1 t)
+    (first-shared-slice-read-if1 t)
+    (first-add-token t)
+    (first-mul-token t)
+    (first-shared-slice-read-token t)
+    (first-token-requires t)
+    (first-returns t)
+    (first-expression-requires t)
+    (first-returns-2 t))
     λ t. rule-lts.spec
     (expression-below t, expression.Post)
     (rule-at t)
