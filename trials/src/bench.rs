@@ -292,7 +292,7 @@ fn runs() -> Result<(), String> {
         &[],
         &tokens(&[15]),
     )?;
-    // (align (a (b under at least)* ))*: each a with the b's behind it.
+    // ((align (a (b under any)*)) under any)*: each a with the b's behind it.
     let blocks = [
         [kind::TERMINAL, 0, 0, 0],
         [kind::TERMINAL, 1, 0, 0],

@@ -1,5 +1,5 @@
-//! Trials of the proved reader against a second one that was written from the papers alone: generated inputs, published
-//! examples and benchmarks.
+//! Trials of the proved reader against a second one that was written from document 01 and the papers alone: generated
+//! inputs, published examples and benchmarks.
 
 pub mod generate;
 pub mod ours;

@@ -3,11 +3,12 @@
 //!     trials compare SEED RUNS FILES    both readers on generated inputs
 //!     trials published CASES            both readers on the published examples
 //!     trials program READER CASES DIR   the program on stored pairs, in a folder that it may fill
-//!     trials round                      a short round of generated inputs, as the gate makes it
+//!     trials round CASES                published examples, the deepest runs and a short round of generated inputs
 //!     trials bench                      both readers' time for the same work
 
 mod bench;
 mod compare;
+mod deep;
 mod program;
 mod published;
 
@@ -16,7 +17,7 @@ use std::process::ExitCode;
 /// The stack of the thread that all runs are made on.
 const STACK: usize = 2 << 30;
 
-const USAGE: &str = "usage: trials compare SEED RUNS FILES | published CASES | program READER CASES DIR | round | bench";
+const USAGE: &str = "usage: trials compare SEED RUNS FILES | published CASES | program READER CASES DIR | round CASES | bench";
 
 /// The short round's seed, and how many runs and files it compares.
 const ROUND: (u64, u64, u64) = (1, 300_000, 50_000);
@@ -29,7 +30,11 @@ fn trials(words: &[&str]) -> Result<(), String> {
         }
         ["published", cases] => published::published(cases),
         ["program", reader, cases, folder] => program::program(reader, cases, folder),
-        ["round"] => compare::compare(ROUND.0, ROUND.1, ROUND.2),
+        ["round", cases] => {
+            published::published(cases)?;
+            deep::deep()?;
+            compare::compare(ROUND.0, ROUND.1, ROUND.2)
+        }
         ["bench"] => bench::bench(),
         _ => Err(USAGE.into()),
     }

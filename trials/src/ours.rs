@@ -1,7 +1,7 @@
 //! The proved reader, through its C interface (`include/saktroum.h`), in the words of the second reader.
 //!
-//! Every lent word is set to a marker before a call. After it the words that the call reports are taken, and all others
-//! must still hold the marker.
+//! Before a call every lent word is set to a marker, and so are some words on either side of the slice. After it the words
+//! that the call reports are taken, and all others must still hold the marker.
 
 use crate::second::{FileRead, Ran, Start, Verdict};
 
@@ -123,7 +123,8 @@ pub mod plain {
                 start.node,
                 start.place,
                 start.lower,
-                start.upper.unwrap_or(0),
+                // Not looked at where the interval is without end.
+                start.upper.unwrap_or(!start.lower),
                 start.upper.is_none(),
                 start.flag,
                 start.mode,
@@ -147,22 +148,55 @@ pub mod plain {
     }
 }
 
-/// What a word that is not reported holds before a call and must hold after it.
-const MARKER: usize = 0xa5a5_a5a5_a5a5_a5a5;
-const WORD_MARKER: u16 = 0xa5a5;
-const TOKEN_MARKER: u32 = 0xa5a5_a5a5;
-const BYTE_MARKER: u8 = 0xa5;
-
 /// An answer that the interface does not have, or a word written that was to be left alone.
 #[derive(Debug, Clone, PartialEq, Eq)]
 pub struct Odd(pub String);
 
-fn kept<T: PartialEq>(words: &[T], marker: T, what: &str) -> Result<(), Odd> {
-    match words.iter().position(|word| *word != marker) {
-        None => Ok(()),
-        Some(i) => Err(Odd(format!(
-            "{what}: word {i} behind those reported was written"
-        ))),
+/// What every lent word holds before a call.
+const WORD: u16 = 0xa5a5;
+const TOKEN_WORD: u32 = 0xa5a5_a5a5;
+const RESULT_WORD: usize = 0xa5a5_a5a5_a5a5_a5a5;
+const BYTE: u8 = 0xa5;
+
+/// Words on either side of a lent slice.
+const AROUND: usize = 8;
+
+/// A slice to be lent, in the middle of a longer one, every word of which holds a marker.
+struct Lent<T> {
+    all: Vec<T>,
+    room: usize,
+    marker: T,
+}
+
+impl<T: Copy + PartialEq> Lent<T> {
+    fn new(room: usize, marker: T) -> Self {
+        let all = vec![marker; room + 2 * AROUND];
+        Lent { all, room, marker }
+    }
+
+    fn slice(&mut self) -> &mut [T] {
+        &mut self.all[AROUND..AROUND + self.room]
+    }
+
+    fn array<const N: usize>(&mut self) -> &mut [T; N] {
+        self.slice().try_into().expect("as many words as the room")
+    }
+
+    /// The first words, so many, if every other one still holds the marker.
+    fn reported(mut self, count: usize, what: &str) -> Result<Vec<T>, Odd> {
+        if count > self.room {
+            return Err(Odd(format!(
+                "{what}: {count} words of {} reported",
+                self.room
+            )));
+        }
+        let words: Vec<T> = self.all.drain(AROUND..AROUND + count).collect();
+        if self.all.iter().any(|word| *word != self.marker) {
+            return Err(Odd(format!(
+                "{what}: a word behind the {count} reported was written"
+            )));
+        }
+        Ok(words)
     }
 }
 
@@ -173,98 +207,108 @@ fn number(answer: u32) -> Result<u8, Odd> {
     }
 }
 
+/// A word of a result, of a narrower type.
+fn narrow<T: TryFrom<usize>>(word: usize) -> Result<T, Odd> {
+    T::try_from(word).map_err(|_| Odd(format!("the word is {word}")))
+}
+
 /// The file reader, lent slices of so many words.
 pub fn read(file: &[u8], node_room: usize, rule_room: usize) -> Result<Result<FileRead, u8>, Odd> {
-    let mut nodes = vec![WORD_MARKER; node_room];
-    let mut rules = vec![WORD_MARKER; rule_room];
-    let mut result = [MARKER; 5];
-    let answer = plain::read(file, &mut nodes, &mut rules, &mut result);
+    let mut nodes = Lent::new(node_room, WORD);
+    let mut rules = Lent::new(rule_room, WORD);
+    let mut result = Lent::new(5, RESULT_WORD);
+    let answer = plain::read(file, nodes.slice(), rules.slice(), result.array());
     let refused = number(answer)?;
     if refused != 0 {
-        kept(&nodes, WORD_MARKER, "nodes")?;
-        kept(&rules, WORD_MARKER, "rules")?;
-        kept(&result, MARKER, "result")?;
+        nodes.reported(0, "nodes")?;
+        rules.reported(0, "rules")?;
+        result.reported(0, "result")?;
         return Ok(Err(refused));
     }
-    let [node_count, rule_count, keywords, start, mode] = result;
-    kept(
-        nodes.get(4 * node_count..).unwrap_or(&[]),
-        WORD_MARKER,
-        "nodes",
-    )?;
-    kept(rules.get(rule_count..).unwrap_or(&[]), WORD_MARKER, "rules")?;
-    nodes.truncate(4 * node_count);
-    rules.truncate(rule_count);
+    let words = result.reported(5, "result")?;
     Ok(Ok(FileRead {
-        nodes,
-        rules,
-        keywords,
-        start: start as u16,
-        mode: mode as u16,
+        nodes: nodes.reported(words[0].saturating_mul(4), "nodes")?,
+        rules: rules.reported(words[1], "rules")?,
+        keywords: words[2],
+        start: narrow(words[3])?,
+        mode: narrow(words[4])?,
     }))
 }
 
 /// The scanner, lent a slice of so many words.
 pub fn scan(file: &[u8], report: &[u8], room: usize) -> Result<Result<Vec<u32>, u8>, Odd> {
-    let mut tokens = vec![TOKEN_MARKER; room];
-    let mut result = [MARKER; 1];
-    let answer = plain::scan(file, report, &mut tokens, &mut result);
+    let mut tokens = Lent::new(room, TOKEN_WORD);
+    let mut result = Lent::new(1, RESULT_WORD);
+    let answer = plain::scan(file, report, tokens.slice(), result.array());
     let refused = number(answer)?;
     if refused != 0 {
-        kept(&tokens, TOKEN_MARKER, "tokens")?;
-        kept(&result, MARKER, "result")?;
+        tokens.reported(0, "tokens")?;
+        result.reported(0, "result")?;
         return Ok(Err(refused));
     }
-    kept(
-        tokens.get(4 * result[0]..).unwrap_or(&[]),
-        TOKEN_MARKER,
-        "tokens",
-    )?;
-    tokens.truncate(4 * result[0]);
-    Ok(Ok(tokens))
+    let count = result.reported(1, "result")?[0];
+    tokens.reported(count.saturating_mul(4), "tokens").map(Ok)
 }
 
 /// The check.
 pub fn check(nodes: &[u16], rules: &[u16]) -> Result<Verdict, Odd> {
-    let mut result = [MARKER; 1];
-    let answer = plain::check(nodes, rules, &mut result);
-    let refused = number(answer)?;
-    if refused == 7 {
-        return Ok(Verdict::IllFormed(result[0] as u16));
+    let mut result = Lent::new(1, RESULT_WORD);
+    let answer = plain::check(nodes, rules, result.array());
+    match number(answer)? {
+        7 => narrow(result.reported(1, "result")?[0]).map(Verdict::IllFormed),
+        0 => result.reported(0, "result").map(|_| Verdict::Passes),
+        refused => result
+            .reported(0, "result")
+            .map(|_| Verdict::Refused(refused)),
     }
-    kept(&result, MARKER, "result")?;
-    Ok(if refused == 0 {
-        Verdict::Passes
-    } else {
-        Verdict::Refused(refused)
-    })
 }
 
 /// The interpreter. The stack must do for the run.
 pub fn run(nodes: &[u16], rules: &[u16], tokens: &[u32], start: &Start) -> Result<Ran, Odd> {
-    let mut result = [MARKER; 6];
-    let answer = plain::run(nodes, rules, tokens, start, &mut result);
-    match (number(answer)?, result) {
-        (0, [0, rest @ ..]) => kept(&rest, MARKER, "result").map(|()| Ran::Failure),
-        (0, [1, read, lower, upper, endless @ (0 | 1), flag @ (0 | 1)]) => Ok(Ran::Success {
-            read: read as u32,
-            lower: lower as u32,
-            upper: (endless == 0).then_some(upper as u32),
-            flag: flag == 1,
-        }),
-        (0, words) => Err(Odd(format!("the words are {words:?}"))),
-        (7, [node, rest @ ..]) => {
-            kept(&rest, MARKER, "result").map(|()| Ran::IllFormed(node as u16))
+    let mut result = Lent::new(6, RESULT_WORD);
+    let answer = plain::run(nodes, rules, tokens, start, result.array());
+    let first = result.slice()[0];
+    match (number(answer)?, first) {
+        (0, 0) => result.reported(1, "result").map(|_| Ran::Failure),
+        (0, _) => success(&result.reported(6, "result")?),
+        (7, node) => {
+            result.reported(1, "result")?;
+            narrow(node).map(Ran::IllFormed)
         }
-        (refused, words) => kept(&words, MARKER, "result").map(|()| Ran::Refused(refused)),
+        (refused, _) => result.reported(0, "result").map(|_| Ran::Refused(refused)),
     }
 }
 
-/// The program's line. The stack must do for the run.
+/// The six words of a success.
+fn success(words: &[usize]) -> Result<Ran, Odd> {
+    let upper = match words[3..5] {
+        [0, 1] => None,
+        [upper, 0] => Some(narrow(upper)?),
+        _ => return Err(Odd(format!("the words are {words:?}"))),
+    };
+    match (words[0], words[5]) {
+        (1, flag @ (0 | 1)) => Ok(Ran::Success {
+            read: narrow(words[1])?,
+            lower: narrow(words[2])?,
+            upper,
+            flag: flag == 1,
+        }),
+        _ => Err(Odd(format!("the words are {words:?}"))),
+    }
+}
+
+/// The program's line, lent a slice of so many bytes. The stack must do for the run.
+fn line_in(file: &[u8], report: &[u8], room: usize) -> Result<Vec<u8>, Odd> {
+    let mut out = Lent::new(room, BYTE);
+    let count = plain::line(file, report, out.slice());
+    out.reported(count, "out")
+}
+
+/// The program's line. A slice of 63 bytes must be left alone, and one of 64 must do as well as a longer one.
 pub fn line(file: &[u8], report: &[u8]) -> Result<Vec<u8>, Odd> {
-    let mut out = vec![BYTE_MARKER; 80];
-    let count = plain::line(file, report, &mut out);
-    kept(out.get(count..).unwrap_or(&[]), BYTE_MARKER, "out")?;
-    out.truncate(count);
-    Ok(out)
+    let line = line_in(file, report, 64)?;
+    if !line_in(file, report, 63)?.is_empty() {
+        return Err(Odd("63 bytes did for a line".into()));
+    }
+    Ok(line)
 }

@@ -32,6 +32,9 @@ pub fn program(reader: &str, cases: &str, folder: &str) -> Result<(), String> {
         }
         count += 1;
     }
+    if lines.next().is_some() {
+        return Err(format!("{} has more than {count} lines", stdout.display()));
+    }
     println!("the program on {count} stored pairs: no difference");
     Ok(())
 }
@@ -67,5 +70,8 @@ fn printed(reader: &Path, folder: &Path, file: &[u8], report: &[u8]) -> std::io:
     }
     drop(stdin);
     let done = child.wait_with_output()?;
+    if !done.status.success() {
+        return Err(std::io::Error::other(done.status.to_string()));
+    }
     Ok(String::from_utf8_lossy(&done.stdout).into_owned())
 }

@@ -66,7 +66,9 @@ fn record(rest: &mut &[u8]) -> Result<String, String> {
 
 fn line(file: &[u8], report: &[u8]) -> Result<Vec<u8>, String> {
     let line = second::line(file, report);
-    same("the line", ours::line(file, report), line, String::new)
+    same("the line", ours::line(file, report), line, || {
+        format!("file {file:?}\nreport {report:?}")
+    })
 }
 
 fn run(header: &[u8], nodes: &[u8], rules: &[u8], tokens: &[u8]) -> Result<Vec<u8>, String> {
@@ -86,5 +88,5 @@ fn run(header: &[u8], nodes: &[u8], rules: &[u8], tokens: &[u8]) -> Result<Vec<u
     sets_once(&input)?;
     let ran = second::run(&input.nodes, &input.rules, &input.tokens, &input.start);
     let ours = ours::run(&input.nodes, &input.rules, &input.tokens, &input.start);
-    same("the run", ours, ran, String::new).map(|ran| second::line_of(&ran))
+    same("the run", ours, ran, || format!("{input:?}")).map(|ran| second::line_of(&ran))
 }

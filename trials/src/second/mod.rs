@@ -1,5 +1,5 @@
-//! The indentation grammar reader, written from the paper `01-scope.md` (called
-//! 01 below) and from Nestra 2017 (called 001 below) alone.
+//! The indentation grammar reader, written from document 01, which orders the work,
+//! and the papers alone. 001 below is Nestra 2017.
 //!
 //! Four parts: the file reader (`read`), the scanner (`scan`, `next_token`), the
 //! check (`check`) and the interpreter (`run`); `line` is the program over them.
