@@ -3,6 +3,7 @@
  *     read_report GRAMMAR REPORT
  */
 #include <stdio.h>
+#include <stdlib.h>
 
 #include "saktroum.h"
 
@@ -16,9 +17,12 @@ static uint32_t tokens[SAKTROUM_TOKEN_WORDS];
 static size_t load(const char *path, uint8_t *bytes)
 {
     FILE *in = fopen(path, "rb");
-    size_t n = in ? fread(bytes, 1, MOST, in) : 0;
-    if (in)
-        fclose(in);
+    if (!in) {
+        perror(path);
+        exit(2);
+    }
+    size_t n = fread(bytes, 1, MOST, in);
+    fclose(in);
     return n;
 }
 
@@ -40,8 +44,10 @@ int main(int argc, char **argv)
     if ((number = saktroum_read(file, file_bytes, nodes, SAKTROUM_NODE_WORDS, rules, SAKTROUM_RULE_WORDS, read)))
         return refused("read", number);
     printf("read: %zu nodes, %zu rules, %zu keywords\n", read[0], read[1], read[2]);
-    if ((number = saktroum_check(nodes, read[0] * 4, rules, read[1], node)))
-        return refused("check", number);
+    if ((number = saktroum_check(nodes, read[0] * 4, rules, read[1], node))) {
+        printf("check: refused %u, node %zu\n", number, node[0]);
+        return 1;
+    }
     if ((number = saktroum_scan(file, file_bytes, report, report_bytes, tokens, SAKTROUM_TOKEN_WORDS, count)))
         return refused("scan", number);
     printf("scan: %zu tokens\n", count[0]);

@@ -17,9 +17,9 @@ def given(values, kind):
     return (kind * max(1, len(values)))(*values), c_size_t(len(values))
 
 
-def passed(number, part):
+def passed(number, part, node=None):
     if number:
-        sys.exit(f"{part}: refused {number}")
+        sys.exit(f"{part}: refused {number}" + (f", node {node[0]}" if number == 7 else ""))
 
 
 def main(library, grammar, report):
@@ -36,7 +36,7 @@ def main(library, grammar, report):
         "read",
     )
     table = (nodes, c_size_t(read[0] * 4), rules, c_size_t(read[1]))
-    passed(reader.saktroum_check(*table, byref(node)), "check")
+    passed(reader.saktroum_check(*table, byref(node)), "check", node)
     passed(reader.saktroum_scan(*file, *bytes_, tokens, c_size_t(TOKEN_WORDS), byref(count)), "scan")
     # The file's start from token 0, interval 0 without end, flag clear.
     start = (c_uint16(read[3]), c_uint32(0), c_uint32(0), c_uint32(0), c_bool(True), c_bool(False), c_uint16(read[4]))

@@ -1,31 +1,33 @@
 /* Saktroum: a reader for indentation grammars. The C interface of the archive libreader_abi.a (x86-64 Linux).
  *
  * Four parts: a grammar file reader, a report scanner, a well-formedness check and an interpreter; and the line of the
- * program over them. Every call ends, keeps no state between calls and may be made from several threads at once on
- * different memory. What a call answers and writes is proved; what it is owed by its caller is not checked:
+ * program over them. Every call ends and keeps no state between calls; calls from several threads at once are fine. What a
+ * call answers and writes is proved; what it is owed by its caller is not checked:
  *
  * - A slice is a pointer and the number of its elements. The pointer is not null, even for 0 elements, is aligned for
  *   its element type, and the elements are there and set. `result` points to as many words as its brackets say.
  * - What a call may write (a pointer without `const`) overlaps no other argument of the call.
- * - Nothing else reads or writes a slice that a call may write, and nothing writes the others, until the call ends.
- * - saktroum_run and saktroum_line call themselves as deep as grammar and tokens make them: 1 GiB of stack is enough for
- *   every grammar and 4,096 tokens, 4 MiB for one that only reads a list item by item (docs/BENCHMARKS.md).
+ * - Until the call ends nothing else reads or writes what it may write, and nothing writes what it may read.
+ * - saktroum_run and saktroum_line call themselves as deep as grammar and tokens make them, and no proof speaks of the
+ *   stack. In the programs that were measured 1 GiB is enough for every grammar and 4,096 tokens, and 4 MiB for the list
+ *   X = (a X) / empty (docs/BENCHMARKS.md).
  *
  * The answer of the first four is 0 if the call passed every check, or the number of the first check it failed:
  *
- *    1  file over length, a field cut short, missing, out of order, unknown or of a wrong length, tag 1's value not 1,
- *       over 253 keywords
+ *    1  file over 65,535 bytes; a field cut short, missing, out of order, unknown or of a wrong length; tag 1's value
+ *       not 1; over 253 keywords
  *    2  a keyword or name breaks its rules
  *    3  node words no multiple of 4, node or rule count outside the limits (1 to 512 nodes, 0 to 128 rules)
  *    4  kind over 9, child not lower, no such rule, terminal over 255, relation over 3, unused word not 0
  *    5  a rule's node or the file's start node not in the table, the file's mode over 3
  *    6  a lent slice too short for the table or the rules
  *    7  not well formed; the lowest such node is in result[0]
- *    8  report over length or a refused byte
+ *    8  report over 65,535 bytes, or a refused byte
  *    9  a token's column over 65,535
  *   10  over 4,096 tokens, or too few words lent
  *   11  token words no multiple of 4, over 4,096 tokens, terminal over 255, column over 65,535
- *   12  start node or place past its end, lower end over the upper or over 65,535, upper end over 65,535, mode over 3
+ *   12  start node past the table, place past the tokens (right behind the last is allowed), lower end over the upper or
+ *       over 65,535, upper end over 65,535, mode over 3
  *
  * A call that answers a number writes nothing but the node for 7. After success, words past those written are as before.
  */
@@ -46,6 +48,20 @@ enum {
     SAKTROUM_RULE_WORDS = 128,
     SAKTROUM_TOKEN_WORDS = 16384,
     SAKTROUM_LINE_BYTES = 64
+};
+
+/* The kinds of nodes; a, b and relation are words 1 to 3 of a node, 0 where they are not used. */
+enum {
+    SAKTROUM_EMPTY = 0,
+    SAKTROUM_TERMINAL = 1, /* a: terminal */
+    SAKTROUM_RULE = 2,     /* a: rule */
+    SAKTROUM_SEQUENCE = 3, /* a, b: nodes */
+    SAKTROUM_CHOICE = 4,   /* a, b: nodes */
+    SAKTROUM_NOT = 5,      /* a: node */
+    SAKTROUM_REPEAT = 6,   /* a: node */
+    SAKTROUM_INDENT = 7,   /* a: node, relation */
+    SAKTROUM_POSITION = 8, /* a: node, relation */
+    SAKTROUM_ALIGN = 9     /* a: node */
 };
 
 /* Relations and token modes. */

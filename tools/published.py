@@ -153,7 +153,9 @@ def main():
     if sys.argv[1:] == ["--table"]:
         print("# Runs taken from published papers\n")
         print(f"{len(RUNS)} runs, written by `tools/published.py`, whose comments give the steps of each.\n")
-        print("| label | source | what it shows | expected |\n|---|---|---|---|")
+        for paper in PAPERS:
+            print(f"- {paper}")
+        print("\n| label | source | what it shows | expected |\n|---|---|---|---|")
         for label, source, shows, expected, *_ in RUNS:
             cells = [c.replace("|", "\\|") for c in (label, source, shows, expected)]
             print("| " + " | ".join(cells) + " |")
@@ -168,6 +170,15 @@ def main():
     lines = "".join(f"{row[0]}: {row[3]}\n" for row in RUNS)
     (top / "stdout").write_bytes(lines.encode())
 
+
+PAPERS = [
+    "000: Michael D. Adams and \u00d6mer S. A\u011facan, Indentation-Sensitive Parsing for Parsec, 2014",
+    "001: H\u00e4rmel Nestra, Grammars for Indentation-Sensitive Parsing, 2017",
+    "002: Beata Burreau, Layout Syntax Support in the BNF Converter, a master's thesis",
+    "003: Sebastian Erdweg, Tillmann Rendel, Christian K\u00e4stner and Klaus Ostermann, Layout-sensitive "
+    "Generalized Parsing",
+    "004: A Haskell pretty-printer, a candidate's dissertation",
+]
 
 NOTES = [
     "001 section 1: the rule for stmts has lost brackets. Read as `{^> (stmt (; stmt)* [;] })^any`.",
@@ -190,7 +201,7 @@ NOTES = [
     "002 figure 5.4: a blank stands before the joining sign, which the scanner would otherwise join to "
     "print; the joined line stands at column 0, as section 4.1.3 allows.",
     "003 figures 1 to 3 have lost their line breaks or texts; they are laid out as the prose says. In the "
-    "program of line 142 print 15 stands left of the block, as the prose needs.",
+    "third print program print 15 stands left of the block, as the prose needs.",
     "003 section 5.3: the two programs are run together; the first has its inner block at the column of do.",
     "004 section 2.6.3: leading blanks are lost; one blank a level, as the prose says.",
     "004 figure 59: the columns are those of its part (b), less 1.",
@@ -201,10 +212,10 @@ a, b, c = t(0), t(1), t(2)
 # ---- 001, section 1: plain expressions and do expressions ----
 
 # In mode any a token's column changes nothing. ab reads both tokens, so the choice ends there.
-run("001 1 ab or a", "001 section 1, line 38", "ab/a reads the whole of ab", "success 2 0 inf clear",
+run("001 1 ab or a", "001 section 1, the constructs of PEG", "ab/a reads the whole of ab", "success 2 0 inf clear",
     alt(seq(a, b), a), "a0 b1", mode=ANY)
 # The first choice a succeeds, so ab is never tried.
-run("001 1 a or ab", "001 section 1, line 38", "a/ab reads only a", "success 1 0 inf clear",
+run("001 1 a or ab", "001 section 1, the constructs of PEG", "a/ab reads only a", "success 1 0 inf clear",
     alt(a, seq(a, b)), "a0 b1", mode=ANY)
 
 # doexp ::= do^> (istmts / stmts); istmts ::= (|stmt|+)^>; stmts ::= {^> (stmt (; stmt)* [;] })^any.
@@ -239,7 +250,7 @@ run("001 1 braces in mode equal", "001 section 1, grammar of do", "any frees the
 # out 0..0 with N = 0..0.
 RELAXED = dict(DO, stmts=seq(ind(GT, T_OPEN), ind(ANY, pos(GE, seq(
     r("stmt"), star(seq(T_SEMI, r("stmt"))), opt(T_SEMI), T_CLOSE)))))
-run("001 2.1 braces in mode at least", "001 section 2.1, line 79", "position relaxes a block's tokens",
+run("001 2.1 braces in mode at least", "001 section 2.1, token modes", "position relaxes a block's tokens",
     "success 6 0 0 clear", r("doexp"), "do1 {5 s2 ;9 s4 }0", RELAXED, DO_NAMES)
 # Outer do1 0..0, istmts in 1... |stmt|: do^> in 2.., flag: do3 3..3, out 1.. with 0..2 = 1..2. Inner
 # istmts: in 2.., s5 5..5; do4: do^> in 6.. has no 4, ends; out 1..2 with 0..4 = 1..2. Next |stmt| from
@@ -255,10 +266,10 @@ MODE_DO = {
     "istmts": ind(GT, plus(al(r("stmt")))),
     "stmt": alt(T_S, r("doexp")),
 }
-run("001 2.1 do in mode greater", "001 section 2.1, line 79", "with a token mode the nested do must align",
+run("001 2.1 do in mode greater", "001 section 2.1, token modes", "with a token mode the nested do must align",
     "success 3 0 0 clear", r("doexp"), "do1 do3 s5 do4 s6", MODE_DO, DO_NAMES, mode=GT)
 # As before up to 3..3; do3 lies in it; in 4.., s6 6..6, out 3..3 with 0..5 = 3..3; out 0..0.
-run("001 2.1 do in mode greater aligned", "001 section 2.1, line 79", "an aligned nested do goes on",
+run("001 2.1 do in mode greater aligned", "001 section 2.1, token modes", "an aligned nested do goes on",
     "success 5 0 0 clear", r("doexp"), "do1 do3 s5 do3 s6", MODE_DO, DO_NAMES, mode=GT)
 
 # ---- 001, section 2.1: the toy example and its steps ----
@@ -266,22 +277,22 @@ run("001 2.1 do in mode greater aligned", "001 section 2.1, line 79", "an aligne
 TOY = ind(GT, al(seq(a, b)))
 # Clause 8: in 1... Clause 10 sets the flag. Clause 2: a2 2..2; b3 in mode at least: 3 >= 2, 2..2 with
 # 0..3 = 2..2. Out N with 0..1 = 0..1.
-run("001 2.1 worked example", "001 section 2.1, line 114", "|ab|^> in mode at least", "success 2 0 1 clear",
+run("001 2.1 worked example", "001 section 2.1, the toy example", "|ab|^> in mode at least", "success 2 0 1 clear",
     TOY, "a2 b3", mode=GE)
 # From 1.. as the example's first step: flag: a2 2..2, b3 2..2; flag before was clear.
-run("001 2.1 worked example align step", "001 section 2.1, line 114", "|ab| from 1 on", "success 2 2 2 clear",
+run("001 2.1 worked example align step", "001 section 2.1, the toy example", "|ab| from 1 on", "success 2 2 2 clear",
     al(seq(a, b)), "a2 b3", low=1, mode=GE)
 # The same with the flag set from outside.
-run("001 2.1 worked example sequence step", "001 section 2.1, line 114", "ab with the flag set",
+run("001 2.1 worked example sequence step", "001 section 2.1, the toy example", "ab with the flag set",
     "success 2 2 2 clear", seq(a, b), "a2 b3", low=1, flag=1, mode=GE)
 # Second token only, from 2..2: 3 >= 2, 2..2 with 0..3 = 2..2.
-run("001 2.1 worked example b step", "001 section 2.1, line 114", "b from place 1, interval 2 to 2",
+run("001 2.1 worked example b step", "001 section 2.1, the toy example", "b from place 1, interval 2 to 2",
     "success 1 2 2 clear", b, "a2 b3", low=2, high=2, mode=GE, place=1)
 # a2 2..2; b1 is not in 2...
-run("001 2.1 toy with b left of a", "001 section 2.1, line 114", "mode at least holds the second token back",
+run("001 2.1 toy with b left of a", "001 section 2.1, the toy example", "mode at least holds the second token back",
     "failure", TOY, "a2 b1", mode=GE)
 # Node 0 is rule 0 and rule 0 is node 0: the least well-formed set never gets it.
-run("001 2.1 divergence", "001 section 2.1, line 116", "X = X has no outcome and is not well formed",
+run("001 2.1 divergence", "001 section 2.1, circular dependencies", "X = X has no outcome and is not well formed",
     "refused 7 0", r("X"), "a0", {"X": r("X")})
 
 # ---- 001, section 2.2: theorem 2.1 ----
@@ -302,7 +313,7 @@ def pair(name, source, shows, expected, left, right, tokens, **more):
 
 
 # The plain laws named before theorem 2.3.
-PLAIN = "001 section 2.3, line 146"
+PLAIN = "001 section 2.3, before theorem 2.3"
 
 # In 2.., a3 3..3, out 1..6 with 0..2 = 1..2; the empty behind it keeps that.
 # Right: the same without the empty.
@@ -552,7 +563,7 @@ pair("align over position with flag", "001 theorem 2.3 (3)", "|p_>=| and |p|_>=,
 
 # (pq)^> against p^> q^>: not equal.
 JOINT, APART = ind(GT, seq(a, b)), seq(ind(GT, a), ind(GT, b))
-SPLIT = "001 section 2.3, line 154"
+SPLIT = "001 section 2.3, after theorem 2.3"
 # In 1.., a1 1..1, b2 not in 1..1.
 run("001 2.3 indent over sequence left", SPLIT, "one baseline for both", "failure", JOINT, "a1 b2")
 # a^>: 1..1, out N with 0..0 = 0..0; b^>: in 1.., b2 2..2, out 0..0 with 0..1 = 0..0.
@@ -728,17 +739,17 @@ run("001 2.3 align on both parts", "001 theorem 2.5 (2)", "|p||q| is not |pq| if
     seq(al(a), al(b)), "a4 b5", low=2, high=6, mode=GE)
 # In 3.., !b holds, a4 4..4; out 2..6 with 0..3 = 2..3.
 # Right: (!b)^>: in 3.., out 2..6 with 0.. = 2..6; a^>: in 3.., 4..4, out 2..3.
-pair("indent over empty first part", "001 section 2.3, line 176", "(pq)^> and p^> q^>, p reads nothing",
+pair("indent over empty first part", "001 section 2.3, after theorem 2.5", "(pq)^> and p^> q^>, p reads nothing",
      "success 1 2 3 clear", ind(GT, seq(no(b), a)), seq(ind(GT, no(b)), ind(GT, a)), "a4", low=2, high=6)
 # In 3..; flag: 3 lies in it, !!a holds, set; a3 3..3; mode greater: b4 in 4.., 3..3; out 3..8 with 0..3.
 # Right: (!!a)^>=: 3..8 and set stay; (ab)^>=: in 3.., 3..3, 3..3, out 3..3.
-pair("indent over empty first part with flag", "001 section 2.3, line 176",
+pair("indent over empty first part with flag", "001 section 2.3, after theorem 2.5",
      "(pq)^>= and p^>= q^>=, p = !!a, flag set", "success 2 3 3 clear",
      ind(GE, seq(no(no(a)), a, b)), seq(ind(GE, no(no(a))), ind(GE, seq(a, b))), "a3 b4", low=3, high=8,
      flag=1, mode=GT)
 # In 3..: a3 lies in it, so !a fails. (From 2..2 itself !a would hold.)
 # Right: (!a)^> fails in 3...
-pair("indent over empty first part failing", "001 section 2.3, line 176", "(pq)^> and p^> q^>, p = !a fails",
+pair("indent over empty first part failing", "001 section 2.3, after theorem 2.5", "(pq)^> and p^> q^>, p = !a fails",
      "failure", ind(GT, seq(no(a), a)), seq(ind(GT, no(a)), ind(GT, a)), "a3", low=2, high=2)
 
 # Theorem 2.6.
@@ -848,23 +859,23 @@ stages("left of the baseline", "the second token lies left of the first", "failu
 stages("empty body", "both parts of the block read nothing", "success 1 0 0 clear", "b0 c1")
 
 # p* against X = pX/empty with p = |a|: a2 2..2, a2 in it, a5 not: two read.
-run("001 3 repetition", "001 section 3, line 203", "p* with p = |a|", "success 2 2 2 clear",
+run("001 3 repetition", "001 section 3, repetition eliminated", "p* with p = |a|", "success 2 2 2 clear",
     star(al(a)), "a2 a2 a5", mode=GE)
-run("001 3 repetition as a rule", "001 section 3, line 203", "X = pX/empty does the same",
+run("001 3 repetition as a rule", "001 section 3, repetition eliminated", "X = pX/empty does the same",
     "success 2 2 2 clear", r("X"), "a2 a2 a5", {"X": alt(seq(al(a), r("X")), EPS)}, mode=GE)
 
 # p = a: flag: a3 in 2..6, 3..3; mode greater: a5 in 4.., 3..3 with 0..4 = 3..3; a3 is not in 4..: ends.
 # As a rule: pX, pX, then the third p fails and empty keeps 3..3.
-run("001 3 repetition with flag", "001 section 3, line 203", "p* with p = a, flag set", "success 2 3 3 clear",
+run("001 3 repetition with flag", "001 section 3, repetition eliminated", "p* with p = a, flag set", "success 2 3 3 clear",
     star(a), "a3 a5 a3", low=2, high=6, flag=1, mode=GT)
-run("001 3 repetition with flag as a rule", "001 section 3, line 203", "X = pX/empty does the same",
+run("001 3 repetition with flag as a rule", "001 section 3, repetition eliminated", "X = pX/empty does the same",
     "success 2 3 3 clear", r("X"), "a3 a5 a3", {"X": alt(seq(a, r("X")), EPS)}, low=2, high=6, flag=1,
     mode=GT)
 # p = a^>: in 5.. has no 4: no round, the old 4..4.
 # As a rule: p fails, so empty from the old 4..4.
-run("001 3 repetition without a round", "001 section 3, line 203", "p* with p = a^> at the baseline",
+run("001 3 repetition without a round", "001 section 3, repetition eliminated", "p* with p = a^> at the baseline",
     "success 0 4 4 clear", star(ind(GT, a)), "a4", low=4, high=4)
-run("001 3 repetition without a round as a rule", "001 section 3, line 203", "X = pX/empty does the same",
+run("001 3 repetition without a round as a rule", "001 section 3, repetition eliminated", "X = pX/empty does the same",
     "success 0 4 4 clear", r("X"), "a4", {"X": alt(seq(ind(GT, a), r("X")), EPS)}, low=4, high=4)
 
 # ---- 001, section 4 ----
@@ -892,10 +903,10 @@ for name, relation, ends in OUTER:
 # ---- 000, section 2: parsing expressions and brackets ----
 
 # A = aA / b in mode any: two rounds, then b.
-run("000 2.1 right recursion", "000 section 2.1, line 62", "A = aA / b", "success 3 0 inf clear",
+run("000 2.1 right recursion", "000 section 2.1, the basic idea", "A = aA / b", "success 3 0 inf clear",
     r("A"), "a0 a1 b2", {"A": alt(seq(a, r("A")), b)}, mode=ANY)
 # The third A meets the end of the tokens; the failure goes up through both sequences, b meets a.
-run("000 2.1 right recursion without end", "000 section 2.1, line 62", "A = aA / b without b", "failure",
+run("000 2.1 right recursion without end", "000 section 2.1, the basic idea", "A = aA / b without b", "failure",
     r("A"), "a0 a1", {"A": alt(seq(a, r("A")), b)}, mode=ANY)
 
 # A = ( '(' A^> ')' / '['^>= A^> ']'^>= )*; the star is lost in the text ("^{1/2}"), the words of figure 2
@@ -914,17 +925,17 @@ run("000 2.2 first word of figure 2", "000 section 2.2, figure 2", "indented bra
 run("000 2.2 second word of figure 2", "000 section 2.2, figure 2", "indented brackets",
     "success 10 1 1 clear", r("A"), "(1 [8 (6 )6 [8 ]9 ]4 (3 )3 )1", BRACKETS, BR_NAMES)
 # (1 1..1, )2 is not in 1..1: the first round fails, so the repeat keeps its old state.
-run("000 2.2 parentheses not aligned", "000 section 2.2, line 86", "a failed round reads nothing",
+run("000 2.2 parentheses not aligned", "000 section 2.2, the bracket grammar", "a failed round reads nothing",
     "success 0 0 inf clear", r("A"), "(1 )2", BRACKETS, BR_NAMES)
 # With eof in mode any behind it (5.2), ( is left over: not fails.
 BR_EOF = pos(ANY, no(alt(LP, RP, LB, RB)))
 run("000 5.2 parentheses not aligned with eof", "000 sections 2.2 and 5.2", "eof in mode any finds the rest",
     "failure", seq(r("A"), BR_EOF), "(1 )2", BRACKETS, BR_NAMES)
 # (1 1..1; in 2..: [1 is not in 2..; A reads nothing; ) meets [: the round fails.
-run("000 2.2 contents not indented", "000 section 2.2, line 86", "contents must be right of the parentheses",
+run("000 2.2 contents not indented", "000 section 2.2, the bracket grammar", "contents must be right of the parentheses",
     "success 0 0 inf clear", r("A"), "(1 [1 ]1 )1", BRACKETS, BR_NAMES)
 # B is the terminal a: a2 2..2, a2 in it, a3 not.
-run("000 2.2 repeat at one column", "000 section 2.2, line 80", "A = B*", "success 2 2 2 clear",
+run("000 2.2 repeat at one column", "000 section 2.2, the simple example", "A = B*", "success 2 2 2 clear",
     star(r("B")), "a2 a2 a3", {"B": a})
 
 # ---- 000, sections 3.1 and 4.3: case ----
@@ -991,16 +1002,16 @@ run("000 3.1 alternatives that may be empty", "000 section 3.1.2, side condition
 # ---- 000, section 4.2 and 5.1 ----
 
 # a1 1..1; in 2.., b2 2..2, out 1..1.
-run("000 4.2 b right of a", "000 section 4.2, line 281", "a then (b^> or empty)", "success 2 1 1 clear",
+run("000 4.2 b right of a", "000 section 4.2, biased choice", "a then (b^> or empty)", "success 2 1 1 clear",
     seq(a, alt(ind(GT, b), EPS)), "a1 b2")
 # a3 3..3; in 4.. has no 2; empty.
-run("000 4.2 b left of a", "000 section 4.2, line 281", "a then (b^> or empty)", "success 1 3 3 clear",
+run("000 4.2 b left of a", "000 section 4.2, biased choice", "a then (b^> or empty)", "success 1 3 3 clear",
     seq(a, alt(ind(GT, b), EPS)), "a3 b2")
 # In 2.., a2 2..2, out 1..2 with 0..1 = 1..1.
-run("000 4.2 indentation set 1 and 2", "000 section 4.2, line 303", "p^> from {1, 2}", "success 1 1 1 clear",
+run("000 4.2 indentation set 1 and 2", "000 section 4.2, indentation and absolute alignment", "p^> from {1, 2}", "success 1 1 1 clear",
     ind(GT, a), "a2", low=1, high=2)
 # ab fails at c, the second alternative starts again at a.
-run("000 5.1 backtracking", "000 section 5.1, line 377", "ab / ac on ac", "success 2 0 inf clear",
+run("000 5.1 backtracking", "000 section 5.1, continuations", "ab / ac on ac", "success 2 0 inf clear",
     alt(seq(a, b), seq(a, c)), "a0 c1", mode=ANY)
 
 # ---- 000 as report texts. Terminal 0 number, 1 word, 2 line end, 3 on keywords ----
@@ -1019,7 +1030,7 @@ LETS = {
 }
 # flag: let0 0..0; in 1.., flag: x4 4..4, =6, do8 in 5..; in 5.., flag: f11 11..11, ;12, g14; in is no
 # exp: out 4..4 with 0..10 = 4..4; no further x; out 0..0 with 0..3 = 0..0; in16, x19, end in mode any.
-report("000 3.1 let with do", "000 section 3.1.1, line 139", "the do block ends at in without an oracle",
+report("000 3.1 let with do", "000 section 3.1.1, do on one line", "the do block ends at in without an oracle",
        "success 10 0 0 clear", "let = do ; in", seq(al(r("exp")), NL), "let x = do f; g in x\n", LETS)
 
 # while_stmt = while test : suite; suite = NEWLINE block^> / simple; block = |statement|+ (the production
@@ -1211,7 +1222,7 @@ report("003 1 dangling else", "003 section 1, figure 1(a)", "else belongs to the
        "success 24 0 0 clear", "if else : =", plus(al(r("st"))),
        "if x != y:\n    if x > 0:\n        y = x\nelse:\n    y = -x\n", IFS)
 # else2 is neither in 4..4 nor in 0..0 and begins no statement: 7 + 6 + 4 read.
-report("003 1 else between two ifs", "003 section 1, line 28", "else must start at the column of an if",
+report("003 1 else between two ifs", "003 section 1, the core idea", "else must start at the column of an if",
        "success 17 0 0 clear", "if else : =", plus(al(r("st"))),
        "if x != y:\n    if x > 0:\n        y = x\n  else:\n    y = -x\n", IFS)
 # do0 0..0; in 1.., input3 3..3, <-9 readInput12, end (5); case3, input8, of14, end (4); in 4.., Just5
@@ -1244,15 +1255,15 @@ haskell("003 2 statement ends at a parenthesis", "003 section 2, figure 3(a)",
         "success 17 0 0 clear", "do (do print 11\n       print (11 + 12))\n   print 13\n")
 ONE_ST = seq(al(r("st")), H_EOF)
 # print0 0..0, (6 and its contents, )14, end (7); *4 in 1.., 13 at 6, end (3).
-haskell("003 3 offside statement", "003 section 3, line 112", "a second line further right",
+haskell("003 3 offside statement", "003 section 3, first print program", "a second line further right",
         "success 10 0 0 clear", "print (11 + 12)\n    * 13\n", ONE_ST)
 # *0 is not in 1.., and eof finds it.
-haskell("003 3 statement at the margin", "003 section 3, line 127", "a second line at the first column",
+haskell("003 3 statement at the margin", "003 section 3, second print program", "a second line at the first column",
         "failure", "print (11 + 12)\n* 13\n", ONE_ST)
 # do0 0..0; in 1..: print3 3..3 ( ... ), end (8 with do); print3 13, end (3); do3 in 3..3, {6; in N, mode
 # at least: print8 0..8, 14; ;16, end (6); print1 0..1, 15 at 7; out 3..3 with N; }10, end (4); print3 16,
 # end (3). Out 0..0.
-haskell("003 3 explicit block", "003 section 3, line 142", "ignore-layout inside a block",
+haskell("003 3 explicit block", "003 section 3, third print program", "ignore-layout inside a block",
         "success 24 0 0 clear",
         "do print (11 + 12)\n   print 13\n   do { print 14;\n print 15 }\n   print 16\n")
 NONDECREASING = "foo = do\n  print 16\n  do\n  print 17\n  print 18\n"
