@@ -1,5 +1,5 @@
--- A number that spellings have in common if they are the same: a quick test that two differ. No public promise of the
--- file reader or the scanner rests on this file.
+-- A number that spellings have in common if they are the same: a quick test that two differ. What `spellings::key`
+-- promises; no promise of the file reader or the scanner rests on this file.
 use Prim.Native.Nat.{ℕ, _+_, _-_, _*_, _%_}
 use mathlib.Core.List.{List}
 use lib.ListN.{length, getD}

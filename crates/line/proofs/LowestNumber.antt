@@ -27,6 +27,13 @@ use Rattle.line.specs.Lowest.{Refuses, Gives, by-reader, by-check, by-sc
 abbrev Over : {A : Type 0} → ℕ → NodeAnswer A → Type 0
 Over {A} k x = (m : ℕ) → Refuses x m → k ≤ m
 
+-- A value is no refusal.
+no-refusal : {A : Type 0} {y : A} {number : ℕ} → given y ≡ refused number → ⊥
+no-refusal e = let z : _≡_ {A = ℕ} 0 1 = cc in omega arith
+
+no-refusal-at : {A : Type 0} {y : A} {number node : ℕ} → given y ≡ refusedAt number node → ⊥
+no-refusal-at e = let z : _≡_ {A = ℕ} 0 1 = cc in omega arith
+
 -- A verdict refuses with 7 only.
 abbrev Seven : NodeAnswer Unit → Type 0
 Seven (given t) = Unit
@@ -158,26 +165,26 @@ module _ (e11 e12 : Bool) (count : ℕ) (c : Contents) (x : Ended) where
       given y ≡ afterTable read (afterCheck check (afterTable scan run)) → Refuses (number-of read) m ⊎ (Refuses check m ⊎ (Refuses (number-of scan) m ⊎ Refuses run m)) → ⊥
 
   none-run : (a b : Bool) (y : Ended) (m : ℕ) → given y ≡ ran a b x → Refuses (ran a b x) m → ⊥
-  none-run true b y m e r = let z : _≡_ {A = ℕ} 0 1 = cc in omega arith
-  none-run false true y m e r = let z : _≡_ {A = ℕ} 0 1 = cc in omega arith
+  none-run true b y m e r = no-refusal e
+  none-run false true y m e r = no-refusal e
   none-run false false y m e r = r
 
   none-scan : (g8 g9 g10 : Bool) (y : Ended) (m : ℕ) → None false false false false false false false g8 g9 g10 (given tt) y m
-  none-scan true g9 g10 y m e r = let z : _≡_ {A = ℕ} 0 1 = cc in omega arith
-  none-scan false true g10 y m e r = let z : _≡_ {A = ℕ} 0 1 = cc in omega arith
-  none-scan false false true y m e r = let z : _≡_ {A = ℕ} 0 1 = cc in omega arith
+  none-scan true g9 g10 y m e r = no-refusal e
+  none-scan false true g10 y m e r = no-refusal e
+  none-scan false false true y m e r = no-refusal e
   none-scan false false false y m e r = ⊎-elim (λ z. z) (⊎-elim (λ z. z) (⊎-elim (λ z. z) (none-run e11 e12 y m e))) r
 
   none-file : (f1 f2 f3 f4 f5 t5 f6 g8 g9 g10 : Bool) (v : NodeAnswer Unit) (y : Ended) (m : ℕ) → (t5 ≡ true → f5 ≡ true) → None f1 f2 f3 f4 f5 t5 f6 g8 g9 g10 v y m
-  none-file true f2 f3 f4 f5 t5 f6 g8 g9 g10 v y m h e r = let z : _≡_ {A = ℕ} 0 1 = cc in omega arith
-  none-file false true f3 f4 f5 t5 f6 g8 g9 g10 v y m h e r = let z : _≡_ {A = ℕ} 0 1 = cc in omega arith
-  none-file false false true f4 f5 t5 f6 g8 g9 g10 v y m h e r = let z : _≡_ {A = ℕ} 0 1 = cc in omega arith
-  none-file false false false true f5 t5 f6 g8 g9 g10 v y m h e r = let z : _≡_ {A = ℕ} 0 1 = cc in omega arith
-  none-file false false false false true t5 f6 g8 g9 g10 v y m h e r = let z : _≡_ {A = ℕ} 0 1 = cc in omega arith
+  none-file true f2 f3 f4 f5 t5 f6 g8 g9 g10 v y m h e r = no-refusal e
+  none-file false true f3 f4 f5 t5 f6 g8 g9 g10 v y m h e r = no-refusal e
+  none-file false false true f4 f5 t5 f6 g8 g9 g10 v y m h e r = no-refusal e
+  none-file false false false true f5 t5 f6 g8 g9 g10 v y m h e r = no-refusal e
+  none-file false false false false true t5 f6 g8 g9 g10 v y m h e r = no-refusal e
   none-file false false false false false true f6 g8 g9 g10 v y m h e r = false≢true (h refl)
-  none-file false false false false false false true g8 g9 g10 v y m h e r = let z : _≡_ {A = ℕ} 0 1 = cc in omega arith
-  none-file false false false false false false false g8 g9 g10 (refused number) y m h e r = let z : _≡_ {A = ℕ} 0 1 = cc in omega arith
-  none-file false false false false false false false g8 g9 g10 (refusedAt number node) y m h e r = let z : _≡_ {A = ℕ} 0 1 = cc in omega arith
+  none-file false false false false false false true g8 g9 g10 v y m h e r = no-refusal e
+  none-file false false false false false false false g8 g9 g10 (refused number) y m h e r = no-refusal e
+  none-file false false false false false false false g8 g9 g10 (refusedAt number node) y m h e r = no-refusal-at e
   none-file false false false false false false false g8 g9 g10 (given tt) y m h e r = none-scan g8 g9 g10 y m e r
 
 -- The file's 5 holds where the table's does.

@@ -29,6 +29,8 @@ reported value (given a) before = value a before
 reported value (refused n) before = before
 reported value (refusedAt n node) before = set before 0 node
 
+-- What a value puts into the lent words. A value of as many words as are lent leaves none of those that were there.
+
 -- "A read answers the counts of nodes, rules and keywords and the start", node and mode: five words.
 abbrev pub contentsIn : Contents → List ℕ → List ℕ
 contentsIn c before = c .nodes ∷ c .rules ∷ c .keywords ∷ c .start ∷ c .mode ∷ []
