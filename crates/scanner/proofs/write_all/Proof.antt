@@ -1,9 +1,10 @@
 -- `scanner::write_all` meets its contract.
 use Rattle.scanner.proofs.write_all.Statement.{statement}
 use Rattle.scanner.proofs.write_all.Tie as tie
+use Prim.Native.Nat.{_+_, _*_, _^_, _≤_, _<_}
 use native.Mathlib.Omega.{arith}
 use borrow.Author.Tests.{not-true, not-false}
-use lib.ListN.{length-set}
+use lib.ListN.{length, length-set}
 use Rattle.file_fields.specs.Offsets.{keywordsFrom}
 use Rattle.scanner.specs.Steps.{position}
 use Rattle.scanner.proofs.LoopLaws.{Writing, writing-start, writing-ends, writing-room, writing-next, out-length, lies-inside, less-left}
@@ -16,6 +17,16 @@ Inv-loop file keywords offsets firsts nexts report tokens₀ to₀ at₀ column�
 abbrev μ-loop : tie.MeasureT-loop
 μ-loop file keywords offsets firsts nexts report tokens₀ to₀ at₀ column₀ mark₀ tokens to at column mark =
     left report (position at column mark)
+
+-- Where a place was found: it lies in the report, and four words more have room.
+inside : (c : tie.Else1 Inv-loop μ-loop) → c .before .before .find .result .offset + c .before .before .find .result .length ≤ length (c .before .before .before .before .before .before .before .before .before .before .args .report .now)
+inside c = lies-inside (c .before .before .before .before .before .before .before .before .before .before .args .report .now) (position (c .before .before .before .loop .at) (c .before .before .before .loop .column) (c .before .before .before .loop .mark)) (c .before .before .before .loop .inv .room) (c .before .before .find .result) (c .before .before .find .ensures) (not-false _ (c .if1 .left))
+
+room : (c : tie.Else1 Inv-loop μ-loop) → (c .before .before .before .loop .to + 3 < length (c .before .before .before .loop .tokens)) × ((c .before .before .before .loop .to + 3) * 4 < 2 ^ 64)
+room c =
+    let free = writing-room (keywordsFrom (c .before .before .before .before .before .before .before .before .before .before .args .file .now) (c .before .before .before .before .before .before .before .before .before .before .args .keywords)) (c .before .before .before .before .before .before .before .before .before .before .args .report .now) (c .before .before .before .before .before .before .before .before .before .before .args .tokens .now) (position (c .before .before .before .loop .at) (c .before .before .before .loop .column) (c .before .before .before .loop .mark)) (c .before .before .before .loop .to) (c .before .before .before .loop .tokens) (c .before .before .before .loop .inv) (c .before .before .find .result) (c .before .before .find .ensures) (not-false _ (c .if1 .left)) (c .before .before .before .before .before .before .before .before .before .before .pre .1 .1) in
+    let kept = out-length (keywordsFrom (c .before .before .before .before .before .before .before .before .before .before .args .file .now) (c .before .before .before .before .before .before .before .before .before .before .args .keywords)) (c .before .before .before .before .before .before .before .before .before .before .args .report .now) (c .before .before .before .before .before .before .before .before .before .before .args .tokens .now) (position (c .before .before .before .loop .at) (c .before .before .before .loop .column) (c .before .before .before .loop .mark)) (c .before .before .before .loop .to) (c .before .before .before .loop .tokens) (c .before .before .before .loop .inv) (c .before .before .before .before .before .before .before .before .before .before .pre .1 .1) in
+    (omega (arith, free, kept), omega (arith, free, c .before .before .before .before .before .before .before .before .before .before .good .1 .1 .1 .1 .1 .1 .0))
 
 loop-holds : tie.Need-loop-holds Inv-loop μ-loop
 loop-holds c = writing-start (keywordsFrom (c .before .before .before .before .before .before .args .file .now) (c .before .before .before .before .before .before .args .keywords)) (c .before .before .before .before .before .before .args .report .now) (c .before .before .before .before .before .before .args .tokens .now) (c .before .before .before .before .before .before .pre .1 .0)
@@ -30,49 +41,49 @@ returns : tie.Need-returns Inv-loop μ-loop
 returns c = writing-ends (keywordsFrom (c .before .before .before .before .before .before .before .before .before .before .args .file .now) (c .before .before .before .before .before .before .before .before .before .before .args .keywords)) (c .before .before .before .before .before .before .before .before .before .before .args .report .now) (c .before .before .before .before .before .before .before .before .before .before .args .tokens .now) (position (c .before .before .before .loop .at) (c .before .before .before .loop .column) (c .before .before .before .loop .mark)) (c .before .before .before .loop .to) (c .before .before .before .loop .tokens) (c .before .before .before .loop .inv) (c .before .before .find .result) (c .before .before .find .ensures) (not-true _ (c .if1 .taken))
 
 indexed-at-requires : tie.Need-indexed-at-requires Inv-loop μ-loop
-indexed-at-requires c κs = (c .before .before .before .before .before .before .before .before .before .before .pre .0, (lies-inside (c .before .before .before .before .before .before .before .before .before .before .args .report .now) (position (c .before .before .before .loop .at) (c .before .before .before .loop .column) (c .before .before .before .loop .mark)) (c .before .before .before .loop .inv .room) (c .before .before .find .result) (c .before .before .find .ensures) (not-false _ (c .if1 .left))))
+indexed-at-requires c κs = (c .before .before .before .before .before .before .before .before .before .before .pre .0, inside c)
 
 mul-tokens : tie.Need-mul-tokens Inv-loop μ-loop
-mul-tokens c = omega (arith, (writing-room (keywordsFrom (c .before .before .before .before .before .before .before .before .before .before .before .args .file .now) (c .before .before .before .before .before .before .before .before .before .before .before .args .keywords)) (c .before .before .before .before .before .before .before .before .before .before .before .args .report .now) (c .before .before .before .before .before .before .before .before .before .before .before .args .tokens .now) (position (c .before .before .before .before .loop .at) (c .before .before .before .before .loop .column) (c .before .before .before .before .loop .mark)) (c .before .before .before .before .loop .to) (c .before .before .before .before .loop .tokens) (c .before .before .before .before .loop .inv) (c .before .before .before .find .result) (c .before .before .before .find .ensures) (not-false _ (c .before .if1 .left)) (c .before .before .before .before .before .before .before .before .before .before .before .pre .1 .1)), (out-length (keywordsFrom (c .before .before .before .before .before .before .before .before .before .before .before .args .file .now) (c .before .before .before .before .before .before .before .before .before .before .before .args .keywords)) (c .before .before .before .before .before .before .before .before .before .before .before .args .report .now) (c .before .before .before .before .before .before .before .before .before .before .before .args .tokens .now) (position (c .before .before .before .before .loop .at) (c .before .before .before .before .loop .column) (c .before .before .before .before .loop .mark)) (c .before .before .before .before .loop .to) (c .before .before .before .before .loop .tokens) (c .before .before .before .before .loop .inv) (c .before .before .before .before .before .before .before .before .before .before .before .pre .1 .1)), c .before .before .before .before .before .before .before .before .before .before .before .good .1 .1 .1 .1 .1 .1 .0)
+mul-tokens c = omega (arith, room (c .before))
 
 slice-write-tokens : tie.Need-slice-write-tokens Inv-loop μ-loop
-slice-write-tokens c = omega (arith, (writing-room (keywordsFrom (c .before .before .before .before .before .before .before .before .before .before .before .args .file .now) (c .before .before .before .before .before .before .before .before .before .before .before .args .keywords)) (c .before .before .before .before .before .before .before .before .before .before .before .args .report .now) (c .before .before .before .before .before .before .before .before .before .before .before .args .tokens .now) (position (c .before .before .before .before .loop .at) (c .before .before .before .before .loop .column) (c .before .before .before .before .loop .mark)) (c .before .before .before .before .loop .to) (c .before .before .before .before .loop .tokens) (c .before .before .before .before .loop .inv) (c .before .before .before .find .result) (c .before .before .before .find .ensures) (not-false _ (c .before .if1 .left)) (c .before .before .before .before .before .before .before .before .before .before .before .pre .1 .1)), (out-length (keywordsFrom (c .before .before .before .before .before .before .before .before .before .before .before .args .file .now) (c .before .before .before .before .before .before .before .before .before .before .before .args .keywords)) (c .before .before .before .before .before .before .before .before .before .before .before .args .report .now) (c .before .before .before .before .before .before .before .before .before .before .before .args .tokens .now) (position (c .before .before .before .before .loop .at) (c .before .before .before .before .loop .column) (c .before .before .before .before .loop .mark)) (c .before .before .before .before .loop .to) (c .before .before .before .before .loop .tokens) (c .before .before .before .before .loop .inv) (c .before .before .before .before .before .before .before .before .before .before .before .pre .1 .1)), c .before .before .before .before .before .before .before .before .before .before .before .good .1 .1 .1 .1 .1 .1 .0)
+slice-write-tokens c = omega (arith, room (c .before))
 
 add-tokens : tie.Need-add-tokens Inv-loop μ-loop
-add-tokens c = omega (arith, (writing-room (keywordsFrom (c .before .before .before .before .before .before .before .before .before .before .before .args .file .now) (c .before .before .before .before .before .before .before .before .before .before .before .args .keywords)) (c .before .before .before .before .before .before .before .before .before .before .before .args .report .now) (c .before .before .before .before .before .before .before .before .before .before .before .args .tokens .now) (position (c .before .before .before .before .loop .at) (c .before .before .before .before .loop .column) (c .before .before .before .before .loop .mark)) (c .before .before .before .before .loop .to) (c .before .before .before .before .loop .tokens) (c .before .before .before .before .loop .inv) (c .before .before .before .find .result) (c .before .before .before .find .ensures) (not-false _ (c .before .if1 .left)) (c .before .before .before .before .before .before .before .before .before .before .before .pre .1 .1)), (out-length (keywordsFrom (c .before .before .before .before .before .before .before .before .before .before .before .args .file .now) (c .before .before .before .before .before .before .before .before .before .before .before .args .keywords)) (c .before .before .before .before .before .before .before .before .before .before .before .args .report .now) (c .before .before .before .before .before .before .before .before .before .before .before .args .tokens .now) (position (c .before .before .before .before .loop .at) (c .before .before .before .before .loop .column) (c .before .before .before .before .loop .mark)) (c .before .before .before .before .loop .to) (c .before .before .before .before .loop .tokens) (c .before .before .before .before .loop .inv) (c .before .before .before .before .before .before .before .before .before .before .before .pre .1 .1)), c .before .before .before .before .before .before .before .before .before .before .before .good .1 .1 .1 .1 .1 .1 .0)
+add-tokens c = omega (arith, room (c .before))
 
 mul-tokens-2 : tie.Need-mul-tokens-2 Inv-loop μ-loop
-mul-tokens-2 c = omega (arith, (writing-room (keywordsFrom (c .before .before .before .before .before .before .before .before .before .before .before .args .file .now) (c .before .before .before .before .before .before .before .before .before .before .before .args .keywords)) (c .before .before .before .before .before .before .before .before .before .before .before .args .report .now) (c .before .before .before .before .before .before .before .before .before .before .before .args .tokens .now) (position (c .before .before .before .before .loop .at) (c .before .before .before .before .loop .column) (c .before .before .before .before .loop .mark)) (c .before .before .before .before .loop .to) (c .before .before .before .before .loop .tokens) (c .before .before .before .before .loop .inv) (c .before .before .before .find .result) (c .before .before .before .find .ensures) (not-false _ (c .before .if1 .left)) (c .before .before .before .before .before .before .before .before .before .before .before .pre .1 .1)), (out-length (keywordsFrom (c .before .before .before .before .before .before .before .before .before .before .before .args .file .now) (c .before .before .before .before .before .before .before .before .before .before .before .args .keywords)) (c .before .before .before .before .before .before .before .before .before .before .before .args .report .now) (c .before .before .before .before .before .before .before .before .before .before .before .args .tokens .now) (position (c .before .before .before .before .loop .at) (c .before .before .before .before .loop .column) (c .before .before .before .before .loop .mark)) (c .before .before .before .before .loop .to) (c .before .before .before .before .loop .tokens) (c .before .before .before .before .loop .inv) (c .before .before .before .before .before .before .before .before .before .before .before .pre .1 .1)), c .before .before .before .before .before .before .before .before .before .before .before .good .1 .1 .1 .1 .1 .1 .0)
+mul-tokens-2 c = omega (arith, room (c .before))
 
 slice-write-tokens-2 : tie.Need-slice-write-tokens-2 Inv-loop μ-loop
-slice-write-tokens-2 c = simp length-set (omega (arith, (writing-room (keywordsFrom (c .before .before .before .before .before .before .before .before .before .before .before .args .file .now) (c .before .before .before .before .before .before .before .before .before .before .before .args .keywords)) (c .before .before .before .before .before .before .before .before .before .before .before .args .report .now) (c .before .before .before .before .before .before .before .before .before .before .before .args .tokens .now) (position (c .before .before .before .before .loop .at) (c .before .before .before .before .loop .column) (c .before .before .before .before .loop .mark)) (c .before .before .before .before .loop .to) (c .before .before .before .before .loop .tokens) (c .before .before .before .before .loop .inv) (c .before .before .before .find .result) (c .before .before .before .find .ensures) (not-false _ (c .before .if1 .left)) (c .before .before .before .before .before .before .before .before .before .before .before .pre .1 .1)), (out-length (keywordsFrom (c .before .before .before .before .before .before .before .before .before .before .before .args .file .now) (c .before .before .before .before .before .before .before .before .before .before .before .args .keywords)) (c .before .before .before .before .before .before .before .before .before .before .before .args .report .now) (c .before .before .before .before .before .before .before .before .before .before .before .args .tokens .now) (position (c .before .before .before .before .loop .at) (c .before .before .before .before .loop .column) (c .before .before .before .before .loop .mark)) (c .before .before .before .before .loop .to) (c .before .before .before .before .loop .tokens) (c .before .before .before .before .loop .inv) (c .before .before .before .before .before .before .before .before .before .before .before .pre .1 .1)), c .before .before .before .before .before .before .before .before .before .before .before .good .1 .1 .1 .1 .1 .1 .0))
+slice-write-tokens-2 c = simp length-set (omega (arith, room (c .before)))
 
 cast-tokens : tie.Need-cast-tokens Inv-loop μ-loop
-cast-tokens c = omega (arith, (lies-inside (c .before .before .before .before .before .before .before .before .before .before .before .before .args .report .now) (position (c .before .before .before .before .before .loop .at) (c .before .before .before .before .before .loop .column) (c .before .before .before .before .before .loop .mark)) (c .before .before .before .before .before .loop .inv .room) (c .before .before .before .before .find .result) (c .before .before .before .before .find .ensures) (not-false _ (c .before .before .if1 .left))), c .before .before .before .before .before .before .before .before .before .before .before .before .pre .1 .0)
+cast-tokens c = omega (arith, inside (c .before .before), c .before .before .before .before .before .before .before .before .before .before .before .before .pre .1 .0)
 
 add-tokens-2 : tie.Need-add-tokens-2 Inv-loop μ-loop
-add-tokens-2 c = omega (arith, (writing-room (keywordsFrom (c .before .before .before .before .before .before .before .before .before .before .before .before .args .file .now) (c .before .before .before .before .before .before .before .before .before .before .before .before .args .keywords)) (c .before .before .before .before .before .before .before .before .before .before .before .before .args .report .now) (c .before .before .before .before .before .before .before .before .before .before .before .before .args .tokens .now) (position (c .before .before .before .before .before .loop .at) (c .before .before .before .before .before .loop .column) (c .before .before .before .before .before .loop .mark)) (c .before .before .before .before .before .loop .to) (c .before .before .before .before .before .loop .tokens) (c .before .before .before .before .before .loop .inv) (c .before .before .before .before .find .result) (c .before .before .before .before .find .ensures) (not-false _ (c .before .before .if1 .left)) (c .before .before .before .before .before .before .before .before .before .before .before .before .pre .1 .1)), (out-length (keywordsFrom (c .before .before .before .before .before .before .before .before .before .before .before .before .args .file .now) (c .before .before .before .before .before .before .before .before .before .before .before .before .args .keywords)) (c .before .before .before .before .before .before .before .before .before .before .before .before .args .report .now) (c .before .before .before .before .before .before .before .before .before .before .before .before .args .tokens .now) (position (c .before .before .before .before .before .loop .at) (c .before .before .before .before .before .loop .column) (c .before .before .before .before .before .loop .mark)) (c .before .before .before .before .before .loop .to) (c .before .before .before .before .before .loop .tokens) (c .before .before .before .before .before .loop .inv) (c .before .before .before .before .before .before .before .before .before .before .before .before .pre .1 .1)), c .before .before .before .before .before .before .before .before .before .before .before .before .good .1 .1 .1 .1 .1 .1 .0)
+add-tokens-2 c = omega (arith, room (c .before .before))
 
 mul-tokens-3 : tie.Need-mul-tokens-3 Inv-loop μ-loop
-mul-tokens-3 c = omega (arith, (writing-room (keywordsFrom (c .before .before .before .before .before .before .before .before .before .before .before .before .args .file .now) (c .before .before .before .before .before .before .before .before .before .before .before .before .args .keywords)) (c .before .before .before .before .before .before .before .before .before .before .before .before .args .report .now) (c .before .before .before .before .before .before .before .before .before .before .before .before .args .tokens .now) (position (c .before .before .before .before .before .loop .at) (c .before .before .before .before .before .loop .column) (c .before .before .before .before .before .loop .mark)) (c .before .before .before .before .before .loop .to) (c .before .before .before .before .before .loop .tokens) (c .before .before .before .before .before .loop .inv) (c .before .before .before .before .find .result) (c .before .before .before .before .find .ensures) (not-false _ (c .before .before .if1 .left)) (c .before .before .before .before .before .before .before .before .before .before .before .before .pre .1 .1)), (out-length (keywordsFrom (c .before .before .before .before .before .before .before .before .before .before .before .before .args .file .now) (c .before .before .before .before .before .before .before .before .before .before .before .before .args .keywords)) (c .before .before .before .before .before .before .before .before .before .before .before .before .args .report .now) (c .before .before .before .before .before .before .before .before .before .before .before .before .args .tokens .now) (position (c .before .before .before .before .before .loop .at) (c .before .before .before .before .before .loop .column) (c .before .before .before .before .before .loop .mark)) (c .before .before .before .before .before .loop .to) (c .before .before .before .before .before .loop .tokens) (c .before .before .before .before .before .loop .inv) (c .before .before .before .before .before .before .before .before .before .before .before .before .pre .1 .1)), c .before .before .before .before .before .before .before .before .before .before .before .before .good .1 .1 .1 .1 .1 .1 .0)
+mul-tokens-3 c = omega (arith, room (c .before .before))
 
 slice-write-tokens-3 : tie.Need-slice-write-tokens-3 Inv-loop μ-loop
-slice-write-tokens-3 c = simp length-set (omega (arith, (writing-room (keywordsFrom (c .before .before .before .before .before .before .before .before .before .before .before .before .args .file .now) (c .before .before .before .before .before .before .before .before .before .before .before .before .args .keywords)) (c .before .before .before .before .before .before .before .before .before .before .before .before .args .report .now) (c .before .before .before .before .before .before .before .before .before .before .before .before .args .tokens .now) (position (c .before .before .before .before .before .loop .at) (c .before .before .before .before .before .loop .column) (c .before .before .before .before .before .loop .mark)) (c .before .before .before .before .before .loop .to) (c .before .before .before .before .before .loop .tokens) (c .before .before .before .before .before .loop .inv) (c .before .before .before .before .find .result) (c .before .before .before .before .find .ensures) (not-false _ (c .before .before .if1 .left)) (c .before .before .before .before .before .before .before .before .before .before .before .before .pre .1 .1)), (out-length (keywordsFrom (c .before .before .before .before .before .before .before .before .before .before .before .before .args .file .now) (c .before .before .before .before .before .before .before .before .before .before .before .before .args .keywords)) (c .before .before .before .before .before .before .before .before .before .before .before .before .args .report .now) (c .before .before .before .before .before .before .before .before .before .before .before .before .args .tokens .now) (position (c .before .before .before .before .before .loop .at) (c .before .before .before .before .before .loop .column) (c .before .before .before .before .before .loop .mark)) (c .before .before .before .before .before .loop .to) (c .before .before .before .before .before .loop .tokens) (c .before .before .before .before .before .loop .inv) (c .before .before .before .before .before .before .before .before .before .before .before .before .pre .1 .1)), c .before .before .before .before .before .before .before .before .before .before .before .before .good .1 .1 .1 .1 .1 .1 .0))
+slice-write-tokens-3 c = simp length-set (omega (arith, room (c .before .before)))
 
 cast-tokens-2 : tie.Need-cast-tokens-2 Inv-loop μ-loop
-cast-tokens-2 c = omega (arith, (lies-inside (c .before .before .before .before .before .before .before .before .before .before .before .before .before .args .report .now) (position (c .before .before .before .before .before .before .loop .at) (c .before .before .before .before .before .before .loop .column) (c .before .before .before .before .before .before .loop .mark)) (c .before .before .before .before .before .before .loop .inv .room) (c .before .before .before .before .before .find .result) (c .before .before .before .before .before .find .ensures) (not-false _ (c .before .before .before .if1 .left))), c .before .before .before .before .before .before .before .before .before .before .before .before .before .pre .1 .0)
+cast-tokens-2 c = omega (arith, inside (c .before .before .before), c .before .before .before .before .before .before .before .before .before .before .before .before .before .pre .1 .0)
 
 add-tokens-3 : tie.Need-add-tokens-3 Inv-loop μ-loop
-add-tokens-3 c = omega (arith, (writing-room (keywordsFrom (c .before .before .before .before .before .before .before .before .before .before .before .before .before .args .file .now) (c .before .before .before .before .before .before .before .before .before .before .before .before .before .args .keywords)) (c .before .before .before .before .before .before .before .before .before .before .before .before .before .args .report .now) (c .before .before .before .before .before .before .before .before .before .before .before .before .before .args .tokens .now) (position (c .before .before .before .before .before .before .loop .at) (c .before .before .before .before .before .before .loop .column) (c .before .before .before .before .before .before .loop .mark)) (c .before .before .before .before .before .before .loop .to) (c .before .before .before .before .before .before .loop .tokens) (c .before .before .before .before .before .before .loop .inv) (c .before .before .before .before .before .find .result) (c .before .before .before .before .before .find .ensures) (not-false _ (c .before .before .before .if1 .left)) (c .before .before .before .before .before .before .before .before .before .before .before .before .before .pre .1 .1)), (out-length (keywordsFrom (c .before .before .before .before .before .before .before .before .before .before .before .before .before .args .file .now) (c .before .before .before .before .before .before .before .before .before .before .before .before .before .args .keywords)) (c .before .before .before .before .before .before .before .before .before .before .before .before .before .args .report .now) (c .before .before .before .before .before .before .before .before .before .before .before .before .before .args .tokens .now) (position (c .before .before .before .before .before .before .loop .at) (c .before .before .before .before .before .before .loop .column) (c .before .before .before .before .before .before .loop .mark)) (c .before .before .before .before .before .before .loop .to) (c .before .before .before .before .before .before .loop .tokens) (c .before .before .before .before .before .before .loop .inv) (c .before .before .before .before .before .before .before .before .before .before .before .before .before .pre .1 .1)), c .before .before .before .before .before .before .before .before .before .before .before .before .before .good .1 .1 .1 .1 .1 .1 .0)
+add-tokens-3 c = omega (arith, room (c .before .before .before))
 
 mul-tokens-4 : tie.Need-mul-tokens-4 Inv-loop μ-loop
-mul-tokens-4 c = omega (arith, (writing-room (keywordsFrom (c .before .before .before .before .before .before .before .before .before .before .before .before .before .args .file .now) (c .before .before .before .before .before .before .before .before .before .before .before .before .before .args .keywords)) (c .before .before .before .before .before .before .before .before .before .before .before .before .before .args .report .now) (c .before .before .before .before .before .before .before .before .before .before .before .before .before .args .tokens .now) (position (c .before .before .before .before .before .before .loop .at) (c .before .before .before .before .before .before .loop .column) (c .before .before .before .before .before .before .loop .mark)) (c .before .before .before .before .before .before .loop .to) (c .before .before .before .before .before .before .loop .tokens) (c .before .before .before .before .before .before .loop .inv) (c .before .before .before .before .before .find .result) (c .before .before .before .before .before .find .ensures) (not-false _ (c .before .before .before .if1 .left)) (c .before .before .before .before .before .before .before .before .before .before .before .before .before .pre .1 .1)), (out-length (keywordsFrom (c .before .before .before .before .before .before .before .before .before .before .before .before .before .args .file .now) (c .before .before .before .before .before .before .before .before .before .before .before .before .before .args .keywords)) (c .before .before .before .before .before .before .before .before .before .before .before .before .before .args .report .now) (c .before .before .before .before .before .before .before .before .before .before .before .before .before .args .tokens .now) (position (c .before .before .before .before .before .before .loop .at) (c .before .before .before .before .before .before .loop .column) (c .before .before .before .before .before .before .loop .mark)) (c .before .before .before .before .before .before .loop .to) (c .before .before .before .before .before .before .loop .tokens) (c .before .before .before .before .before .before .loop .inv) (c .before .before .before .before .before .before .before .before .before .before .before .before .before .pre .1 .1)), c .before .before .before .before .before .before .before .before .before .before .before .before .before .good .1 .1 .1 .1 .1 .1 .0)
+mul-tokens-4 c = omega (arith, room (c .before .before .before))
 
 slice-write-tokens-4 : tie.Need-slice-write-tokens-4 Inv-loop μ-loop
-slice-write-tokens-4 c = simp length-set (omega (arith, (writing-room (keywordsFrom (c .before .before .before .before .before .before .before .before .before .before .before .before .before .args .file .now) (c .before .before .before .before .before .before .before .before .before .before .before .before .before .args .keywords)) (c .before .before .before .before .before .before .before .before .before .before .before .before .before .args .report .now) (c .before .before .before .before .before .before .before .before .before .before .before .before .before .args .tokens .now) (position (c .before .before .before .before .before .before .loop .at) (c .before .before .before .before .before .before .loop .column) (c .before .before .before .before .before .before .loop .mark)) (c .before .before .before .before .before .before .loop .to) (c .before .before .before .before .before .before .loop .tokens) (c .before .before .before .before .before .before .loop .inv) (c .before .before .before .before .before .find .result) (c .before .before .before .before .before .find .ensures) (not-false _ (c .before .before .before .if1 .left)) (c .before .before .before .before .before .before .before .before .before .before .before .before .before .pre .1 .1)), (out-length (keywordsFrom (c .before .before .before .before .before .before .before .before .before .before .before .before .before .args .file .now) (c .before .before .before .before .before .before .before .before .before .before .before .before .before .args .keywords)) (c .before .before .before .before .before .before .before .before .before .before .before .before .before .args .report .now) (c .before .before .before .before .before .before .before .before .before .before .before .before .before .args .tokens .now) (position (c .before .before .before .before .before .before .loop .at) (c .before .before .before .before .before .before .loop .column) (c .before .before .before .before .before .before .loop .mark)) (c .before .before .before .before .before .before .loop .to) (c .before .before .before .before .before .before .loop .tokens) (c .before .before .before .before .before .before .loop .inv) (c .before .before .before .before .before .before .before .before .before .before .before .before .before .pre .1 .1)), c .before .before .before .before .before .before .before .before .before .before .before .before .before .good .1 .1 .1 .1 .1 .1 .0))
+slice-write-tokens-4 c = simp length-set (omega (arith, room (c .before .before .before)))
 
 add-to : tie.Need-add-to Inv-loop μ-loop
-add-to c = omega (arith, (writing-room (keywordsFrom (c .before .before .before .before .before .before .before .before .before .before .before .before .before .args .file .now) (c .before .before .before .before .before .before .before .before .before .before .before .before .before .args .keywords)) (c .before .before .before .before .before .before .before .before .before .before .before .before .before .args .report .now) (c .before .before .before .before .before .before .before .before .before .before .before .before .before .args .tokens .now) (position (c .before .before .before .before .before .before .loop .at) (c .before .before .before .before .before .before .loop .column) (c .before .before .before .before .before .before .loop .mark)) (c .before .before .before .before .before .before .loop .to) (c .before .before .before .before .before .before .loop .tokens) (c .before .before .before .before .before .before .loop .inv) (c .before .before .before .before .before .find .result) (c .before .before .before .before .before .find .ensures) (not-false _ (c .before .before .before .if1 .left)) (c .before .before .before .before .before .before .before .before .before .before .before .before .before .pre .1 .1)), (out-length (keywordsFrom (c .before .before .before .before .before .before .before .before .before .before .before .before .before .args .file .now) (c .before .before .before .before .before .before .before .before .before .before .before .before .before .args .keywords)) (c .before .before .before .before .before .before .before .before .before .before .before .before .before .args .report .now) (c .before .before .before .before .before .before .before .before .before .before .before .before .before .args .tokens .now) (position (c .before .before .before .before .before .before .loop .at) (c .before .before .before .before .before .before .loop .column) (c .before .before .before .before .before .before .loop .mark)) (c .before .before .before .before .before .before .loop .to) (c .before .before .before .before .before .before .loop .tokens) (c .before .before .before .before .before .before .loop .inv) (c .before .before .before .before .before .before .before .before .before .before .before .before .before .pre .1 .1)), c .before .before .before .before .before .before .before .before .before .before .before .before .before .good .1 .1 .1 .1 .1 .1 .0)
+add-to c = omega (arith, room (c .before .before .before))
 
 loop-less : tie.Need-loop-less Inv-loop μ-loop
 loop-less c = less-left (c .before .before .before .before .before .before .before .before .before .before .before .before .before .args .report .now) (position (c .before .before .before .before .before .before .loop .at) (c .before .before .before .before .before .before .loop .column) (c .before .before .before .before .before .before .loop .mark)) (c .before .before .before .before .before .before .loop .inv .room) (c .before .before .before .before .before .find .result) (c .before .before .before .before .before .find .ensures) (not-false _ (c .before .before .before .if1 .left))
