@@ -3,7 +3,7 @@
 use Rattle.scanner.proofs.index.starts.Statement.{statement}
 use Rattle.scanner.proofs.index.starts.Tie as tie
 use Prim.Native.Nat.{ℕ, _-_, _≤_}
-use mathlib.Core.Path.{_≡_, refl, subst, _∙_}
+use mathlib.Core.Path.{_≡_, refl, subst}
 use native.Mathlib.Omega.{arith}
 use borrow.Author.Needs.{needs}
 use lib.ListN.{length, length-set}

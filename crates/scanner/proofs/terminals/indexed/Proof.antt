@@ -3,7 +3,7 @@
 use Rattle.scanner.proofs.terminals.indexed.Statement.{statement}
 use Rattle.scanner.proofs.terminals.indexed.Tie as tie
 use Prim.Native.Nat.{_-_}
-use mathlib.Core.Path.{_≡_, refl, sym, _∙_}
+use mathlib.Core.Path.{sym, _∙_}
 use native.Mathlib.Omega.{arith}
 use borrow.Author.Needs.{needs}
 use Rattle.file_fields.specs.Offsets.{keywordsFrom}

@@ -2,14 +2,11 @@
 -- the keywords from it on decide.
 use Rattle.scanner.proofs.terminals.terminal.Statement.{statement}
 use Rattle.scanner.proofs.terminals.terminal.Tie as tie
-use Prim.Native.Nat.{ℕ, _+_, _-_, _≤_, _<_}
-use mathlib.Core.Path.{_≡_, refl, sym, ap, _∙_}
-use mathlib.Core.Bool.{Bool, cond}
-use mathlib.Core.List.{List}
+use Prim.Native.Nat.{_-_, _≤_}
+use mathlib.Core.Path.{_≡_, refl, sym, _∙_}
 use native.Mathlib.Omega.{arith}
 use lib.ListN.{drop}
-use Rattle.file_fields.specs.Spellings.{sameBytes}
-use Rattle.file_fields.specs.Offsets.{valueAt, offsetOf, keywordsFrom}
+use Rattle.file_fields.specs.Offsets.{offsetOf, keywordsFrom}
 use Rattle.file_fields.proofs.Offsets.{offset-next}
 use Rattle.scanner.specs.Tokens.{terminalFrom}
 use Rattle.scanner.proofs.KeywordLaws.{length-keywords, ended, step}
