@@ -44,6 +44,7 @@ int main(int argc, char **argv)
     if ((number = saktroum_read(file, file_bytes, nodes, SAKTROUM_NODE_WORDS, rules, SAKTROUM_RULE_WORDS, read)))
         return refused("read", number);
     printf("read: %zu nodes, %zu rules, %zu keywords\n", read[0], read[1], read[2]);
+    /* What was read passes 3, 4 and 5, so only 7 is left. */
     if ((number = saktroum_check(nodes, read[0] * 4, rules, read[1], node))) {
         printf("check: refused %u, node %zu\n", number, node[0]);
         return 1;

@@ -1,6 +1,6 @@
 -- The line's number is the lowest that any of the four parts gives, and where the line has none no part gives one.
 use Prim.Native.Nat.{ℕ, zero, suc, _≤_, _*_}
-use mathlib.Core.Path.{_≡_, refl, sym, ap, _∙_}
+use mathlib.Core.Path.{_≡_, refl}
 use mathlib.Core.Bool.{Bool, true, false, cond, false≢true}
 use mathlib.Core.List.{List}
 use mathlib.Core.Logic.{_⊎_, inl, inr, ⊎-elim}
@@ -111,47 +111,46 @@ module _ (e11 e12 : Bool) (count : ℕ) (c : Contents) (x : Ended) where
       let run = afterCheck check (ran e11 e12 x) in
       Refuses (afterTable read (afterCheck check (afterTable scan run))) n → Least (number-of read) check (number-of scan) run n
 
+  -- The scanner refuses a file that passes.
+  refused-report : (k n : ℕ) → k ≤ 10 → n ≡ k → Least (given tt) (given tt) (refused k) (ran e11 e12 x) n
+  refused-report k n h e =
+      record { over-read = λ m r. absurd r; over-check = λ m r. absurd r; over-scan = λ m r. omega arith; over-run = over-ran n (given tt) e11 e12 x (omega arith) (λ m r. absurd r); one-of = inr (inr (inl e)) }
+
+  -- The file reader refuses, and the scanner with it.
+  refused-file : (k n : ℕ) (check : NodeAnswer Unit) → k ≤ 5 → Over n check → n ≡ k → Least (refused k) check (refused k) (afterCheck check (ran e11 e12 x)) n
+  refused-file k n check h o e =
+      record { over-read = λ m r. omega arith; over-check = o; over-scan = λ m r. omega arith; over-run = over-ran n check e11 e12 x (omega arith) o; one-of = inl e }
+
+  by-run : (a b : Bool) (k : ℕ) → Refuses (ran a b x) k → Over k (ran a b x)
+  by-run true b k p m r = omega arith
+  by-run false true k p m r = omega arith
+  by-run false false k p m r = absurd p
+
   -- The file passes 1 to 6 and the check.
   by-scan : (g8 g9 g10 : Bool) (n : ℕ) → Lowers false false false false false false false g8 g9 g10 (given tt) n
-  by-scan true g9 g10 n e =
-      record { over-read = λ m r. absurd r; over-check = λ m r. absurd r; over-scan = λ m r. omega arith; over-run = over-ran n (given tt) e11 e12 x (omega arith) (λ m r. absurd r); one-of = inr (inr (inl e)) }
-  by-scan false true g10 n e =
-      record { over-read = λ m r. absurd r; over-check = λ m r. absurd r; over-scan = λ m r. omega arith; over-run = over-ran n (given tt) e11 e12 x (omega arith) (λ m r. absurd r); one-of = inr (inr (inl e)) }
-  by-scan false false true n e =
-      record { over-read = λ m r. absurd r; over-check = λ m r. absurd r; over-scan = λ m r. omega arith; over-run = over-ran n (given tt) e11 e12 x (omega arith) (λ m r. absurd r); one-of = inr (inr (inl e)) }
+  by-scan true g9 g10 n e = refused-report 8 n (omega arith) e
+  by-scan false true g10 n e = refused-report 9 n (omega arith) e
+  by-scan false false true n e = refused-report 10 n (omega arith) e
   by-scan false false false n e =
       record { over-read = λ m r. absurd r; over-check = λ m r. absurd r; over-scan = λ m r. absurd r; over-run = by-run e11 e12 n e; one-of = inr (inr (inr e)) }
-    where
-      by-run : (a b : Bool) (k : ℕ) → Refuses (ran a b x) k → Over k (ran a b x)
-      by-run true b k p m r = omega arith
-      by-run false true k p m r = omega arith
-      by-run false false k p m r = absurd p
 
   -- The file passes 1 to 5.
   by-verdict : (f6 g8 g9 g10 : Bool) (v : NodeAnswer Unit) (n : ℕ) → Seven v → Lowers false false false false false false f6 g8 g9 g10 v n
   by-verdict true g8 g9 g10 v n s e =
-      record { over-read = λ m r. omega arith; over-check = over-verdict n v (omega arith) s; over-scan = over-scanned n g8 g9 g10 count (omega arith); over-run = over-ran n v e11 e12 x (omega arith) (over-verdict n v (omega arith) s); one-of = inl e }
+      let o = over-verdict n v (omega arith) s in
+      record { over-read = λ m r. omega arith; over-check = o; over-scan = over-scanned n g8 g9 g10 count (omega arith); over-run = over-ran n v e11 e12 x (omega arith) o; one-of = inl e }
   by-verdict false g8 g9 g10 (refusedAt number node) n s e =
       record { over-read = λ m r. absurd r; over-check = λ m r. omega arith; over-scan = over-scanned n g8 g9 g10 count (omega arith); over-run = λ m r. omega arith; one-of = inr (inl e) }
   by-verdict false g8 g9 g10 (refused number) n s e = absurd s
   by-verdict false g8 g9 g10 (given tt) n s e = by-scan g8 g9 g10 n e
 
   by-file : (f1 f2 f3 f4 f5 t5 f6 g8 g9 g10 : Bool) (v : NodeAnswer Unit) (n : ℕ) → Seven v → (t5 ≡ true → f5 ≡ true) → Lowers f1 f2 f3 f4 f5 t5 f6 g8 g9 g10 v n
-  by-file true f2 f3 f4 f5 t5 f6 g8 g9 g10 v n s h e =
-      let o = over-checked n f3 f4 t5 v (omega arith) s in
-      record { over-read = λ m r. omega arith; over-check = o; over-scan = λ m r. omega arith; over-run = over-ran n (checked f3 f4 t5 v) e11 e12 x (omega arith) o; one-of = inl e }
-  by-file false true f3 f4 f5 t5 f6 g8 g9 g10 v n s h e =
-      let o = over-checked n f3 f4 t5 v (omega arith) s in
-      record { over-read = λ m r. omega arith; over-check = o; over-scan = λ m r. omega arith; over-run = over-ran n (checked f3 f4 t5 v) e11 e12 x (omega arith) o; one-of = inl e }
-  by-file false false true f4 f5 t5 f6 g8 g9 g10 v n s h e =
-      record { over-read = λ m r. omega arith; over-check = λ m r. omega arith; over-scan = λ m r. omega arith; over-run = λ m r. omega arith; one-of = inl e }
-  by-file false false false true f5 t5 f6 g8 g9 g10 v n s h e =
-      record { over-read = λ m r. omega arith; over-check = λ m r. omega arith; over-scan = λ m r. omega arith; over-run = λ m r. omega arith; one-of = inl e }
-  by-file false false false false true true f6 g8 g9 g10 v n s h e =
-      record { over-read = λ m r. omega arith; over-check = λ m r. omega arith; over-scan = λ m r. omega arith; over-run = λ m r. omega arith; one-of = inl e }
-  by-file false false false false true false f6 g8 g9 g10 v n s h e =
-      let o = over-verdict n v (omega arith) s in
-      record { over-read = λ m r. omega arith; over-check = o; over-scan = λ m r. omega arith; over-run = over-ran n v e11 e12 x (omega arith) o; one-of = inl e }
+  by-file true f2 f3 f4 f5 t5 f6 g8 g9 g10 v n s h e = refused-file 1 n (checked f3 f4 t5 v) (omega arith) (over-checked n f3 f4 t5 v (omega arith) s) e
+  by-file false true f3 f4 f5 t5 f6 g8 g9 g10 v n s h e = refused-file 2 n (checked f3 f4 t5 v) (omega arith) (over-checked n f3 f4 t5 v (omega arith) s) e
+  by-file false false true f4 f5 t5 f6 g8 g9 g10 v n s h e = refused-file 3 n (refused 3) (omega arith) (λ m r. omega arith) e
+  by-file false false false true f5 t5 f6 g8 g9 g10 v n s h e = refused-file 4 n (refused 4) (omega arith) (λ m r. omega arith) e
+  by-file false false false false true true f6 g8 g9 g10 v n s h e = refused-file 5 n (refused 5) (omega arith) (λ m r. omega arith) e
+  by-file false false false false true false f6 g8 g9 g10 v n s h e = refused-file 5 n v (omega arith) (over-verdict n v (omega arith) s) e
   by-file false false false false false true f6 g8 g9 g10 v n s h e = absurd (false≢true (h refl))
   by-file false false false false false false f6 g8 g9 g10 v n s h e = by-verdict f6 g8 g9 g10 v n s e
 
