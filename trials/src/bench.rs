@@ -314,14 +314,7 @@ fn runs() -> Result<(), String> {
 fn run(name: &str, nodes: &[[u16; 4]], rules: &[u16], tokens: &[u32]) -> Result<(), String> {
     let nodes = nodes.concat();
     let node = (nodes.len() / 4 - 1) as u16;
-    let start = Start {
-        node,
-        place: 0,
-        lower: 0,
-        upper: None,
-        flag: false,
-        mode: 3,
-    };
+    let start = Start::from_first(node, 3);
     let mut result = [0; 6];
     time(
         name,

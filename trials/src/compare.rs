@@ -89,12 +89,7 @@ pub fn same<T: PartialEq + Debug>(
 
 /// The check and the run of a table. No answer is given where the run takes too many steps.
 pub fn run_once(input: &RunInput) -> Result<Option<Ran>, String> {
-    let RunInput {
-        nodes,
-        rules,
-        tokens,
-        start,
-    } = input;
+    let (nodes, rules, tokens, start) = input.parts();
     let bytes = || format!("nodes {nodes:?}\nrules {rules:?}\ntokens {tokens:?}\n{start:?}");
     same(
         "the check",
@@ -117,12 +112,7 @@ pub fn run_once(input: &RunInput) -> Result<Option<Ran>, String> {
 /// The run over sets and ours are alike: "the same success or failure, tokens read and flag, and a number is in their set
 /// exactly when it lies between our ends". Few steps are known to do for the run.
 pub fn sets_once(input: &RunInput) -> Result<(), String> {
-    let RunInput {
-        nodes,
-        rules,
-        tokens,
-        start,
-    } = input;
+    let (nodes, rules, tokens, start) = input.parts();
     let over = sets::run(nodes, rules, tokens, start);
     let ours = ours::run(nodes, rules, tokens, start);
     let alike = match (&ours, &over) {

@@ -34,14 +34,7 @@ pub fn deep() -> Result<(), String> {
         }
         let node = nodes.len() as u16 - 1;
         let nodes = nodes.concat();
-        let start = Start {
-            node,
-            place: 0,
-            lower: 0,
-            upper: None,
-            flag: false,
-            mode: 2,
-        };
+        let start = Start::from_first(node, 2);
         let ran = second::run(&nodes, &[node], &tokens, &start);
         let ours = ours::run(&nodes, &[node], &tokens, &start);
         same("the run", ours, ran, || format!("the list under {name}"))?;

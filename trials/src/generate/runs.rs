@@ -15,6 +15,12 @@ pub struct RunInput {
     pub start: Start,
 }
 
+impl RunInput {
+    pub fn parts(&self) -> (&[u16], &[u16], &[u32], &Start) {
+        (&self.nodes, &self.rules, &self.tokens, &self.start)
+    }
+}
+
 /// An input for the interpreter; its tables serve the check as well.
 pub fn run_input(rng: &mut Rng) -> RunInput {
     let alphabet = alphabet(rng);

@@ -9,7 +9,7 @@ use super::{
 pub fn line(file: &[u8], report: &[u8]) -> Vec<u8> {
     match parts(file, report) {
         Ok((grammar, tokens)) => {
-            let start = program_start(&grammar);
+            let start = Start::from_first(grammar.start, grammar.mode);
             line_of(&run(&grammar.nodes, &grammar.rules, &tokens, &start))
         }
         Err(refused) => line_of(&refused),
@@ -20,7 +20,7 @@ pub fn line(file: &[u8], report: &[u8]) -> Vec<u8> {
 pub fn line_within(file: &[u8], report: &[u8], steps: u64) -> Option<Vec<u8>> {
     match parts(file, report) {
         Ok((grammar, tokens)) => {
-            let start = program_start(&grammar);
+            let start = Start::from_first(grammar.start, grammar.mode);
             let ran = run_within(&grammar.nodes, &grammar.rules, &tokens, &start, steps)?;
             Some(line_of(&ran))
         }
@@ -40,18 +40,6 @@ fn parts(file: &[u8], report: &[u8]) -> Result<(FileRead, Vec<u32>), Ran> {
     }
     let tokens = scan(file, report, 4 * MOST_TOKENS).map_err(Ran::Refused)?;
     Ok((grammar, tokens))
-}
-
-/// "runs the file's start from token 0, interval 0 without end, flag clear"
-fn program_start(grammar: &FileRead) -> Start {
-    Start {
-        node: grammar.start,
-        place: 0,
-        lower: 0,
-        upper: None,
-        flag: false,
-        mode: grammar.mode,
-    }
 }
 
 /// The line of an answer: "tokens read, lower end, upper end (`inf` if none), flag".

@@ -16,6 +16,20 @@ pub struct Start {
     pub mode: u16,
 }
 
+impl Start {
+    /// "from token 0, interval 0 without end, flag clear"
+    pub fn from_first(node: u16, mode: u16) -> Self {
+        Start {
+            node,
+            place: 0,
+            lower: 0,
+            upper: None,
+            flag: false,
+            mode,
+        }
+    }
+}
+
 /// What the interpreter answers.
 #[derive(Debug, Clone, Copy, PartialEq, Eq)]
 pub enum Ran {
