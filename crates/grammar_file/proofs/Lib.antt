@@ -3,4 +3,3 @@ pub mod ShapeLaws
 pub mod TableLaws
 pub mod PartLaws
 pub mod ReadLaws
-pub mod CheckLaws

@@ -17,7 +17,7 @@ use Rattle.table.specs.Form.{nodeCount}
 use Rattle.table.specs.Checks.{tableAnswer, fails3, fails4, fails5}
 use Rattle.file_fields.specs.Fields.{fields, inOrder, Field, twoBytes}
 use Rattle.file_fields.specs.Spellings.{singleAlone, rightSpellings}
-use Rattle.grammar_file.specs.File.{mostBytes, mostKeywords, rightValues, unreadable, fails1, Contents, keywords, ruleNames, ruleNode, ruleList, wordsOf, nodeTable, startValue, startNode, startMode, fieldsOf, fails2, fails5ByFile, contents, checks1to5, numbers}
+use Rattle.grammar_file.specs.File.{mostBytes, mostKeywords, rightValues, unreadable, fails1, Contents, keywords, ruleNames, ruleNode, ruleList, wordsOf, nodeTable, startValue, startNode, startMode, fieldsOf, fails2, fails5ByFile, contents, fileAnswer, numbers}
 use Rattle.file_fields.specs.Offsets.{keywordsFrom, valueAt, fieldsFrom, spellingsFrom}
 use Rattle.grammar_file.specs.InternalShape.{Parts}
 use Rattle.grammar_file.specs.declared.shape.Shape.{Shape}
@@ -103,9 +103,9 @@ tests-pass false false false a b next e = refl
 
 -- Numbers 1 to 5 of such a file.
 module _ (file : List ℕ) (s : Shape) (p : Parts file s) where
-  pub by-names : fails2 (fieldsOf file) ≡ true → (next : Answer Contents) → checks1to5 file next ≡ refused 2
-  unfolding checks1to5
-  by-names e next = rw (p .passes, e) refl
+  pub by-names : fails2 (fieldsOf file) ≡ true → fileAnswer file ≡ refused 2
+  unfolding fileAnswer
+  by-names e = rw (p .passes, e) refl
 
   -- The start's two tests, from its value.
   pub start-test : {v : List ℕ} {a : ℕ} → v ≡ valueAt file (s .start) → a ≡ twoBytes (getD v 0 0) (getD v 1 0)
@@ -128,17 +128,17 @@ module _ (file : List ℕ) (s : Shape) (p : Parts file s) where
     same-table = ap₂ tableAnswer (nodes-are file s p) (rules-are file s p)
 
     pub by-table : {n : ℕ} → refused n ≡ tableAnswer (wordsOf (fieldsFrom file (s .nodes .at) (s .nodes .count))) (map ruleNode (fieldsFrom file (s .rules .at) (s .rules .count)))
-        → (next : Answer Contents) → checks1to5 file next ≡ refused n
-    unfolding checks1to5 fails5ByFile tableAnswer T R
-    by-table {n} t next =
+        → fileAnswer file ≡ refused n
+    unfolding fileAnswer fails5ByFile tableAnswer T R
+    by-table {n} t =
         rw (p .passes, e)
-        (tests-refuse (fails3 T R) (fails4 T R) (fails5 T R) (not (ltb (startNode (fieldsOf file)) (nodeCount T))) (not (ltb (startMode (fieldsOf file)) relationCount)) n next (same-table ∙ sym t))
+        (tests-refuse (fails3 T R) (fails4 T R) (fails5 T R) (not (ltb (startNode (fieldsOf file)) (nodeCount T))) (not (ltb (startMode (fieldsOf file)) relationCount)) n (given (contents (fieldsOf file))) (same-table ∙ sym t))
 
     pub by-start : given tt ≡ tableAnswer (wordsOf (fieldsFrom file (s .nodes .at) (s .nodes .count))) (map ruleNode (fieldsFrom file (s .rules .at) (s .rules .count)))
         → (a b : Bool) → ltb (startNode (fieldsOf file)) (nodeCount (nodeTable (fieldsOf file))) ≡ a → ltb (startMode (fieldsOf file)) relationCount ≡ b
-        → (next : Answer Contents) → checks1to5 file next ≡ refuseIf (not a || not b) 5 next
-    unfolding checks1to5 fails5ByFile tableAnswer T R
-    by-start t a b x y next =
+        → fileAnswer file ≡ refuseIf (not a || not b) 5 (given (contents (fieldsOf file)))
+    unfolding fileAnswer fails5ByFile tableAnswer T R
+    by-start t a b x y =
         rw (p .passes, e)
-        (tests-pass (fails3 T R) (fails4 T R) (fails5 T R) (not (ltb (startNode (fieldsOf file)) (nodeCount T))) (not (ltb (startMode (fieldsOf file)) relationCount)) next (same-table ∙ sym t)
-        ∙ ap₂ (λ (c d : Bool). refuseIf (not c || not d) 5 next) x y)
+        (tests-pass (fails3 T R) (fails4 T R) (fails5 T R) (not (ltb (startNode (fieldsOf file)) (nodeCount T))) (not (ltb (startMode (fieldsOf file)) relationCount)) (given (contents (fieldsOf file))) (same-table ∙ sym t)
+        ∙ ap₂ (λ (c d : Bool). refuseIf (not c || not d) 5 (given (contents (fieldsOf file)))) x y)

@@ -9,7 +9,8 @@ use native.Mathlib.Nat.{le-trans, le-of-eq}
 use native.Mathlib.Omega.{arith}
 use borrow.Author.Tests.{le-ltb, lt-ltb}
 use Rattle.table.specs.Answer.{Answer, given, refused, refuseIf, afterwards}
-use Rattle.grammar_file.specs.File.{Contents, keywords, ruleNames, ruleNode, ruleList, wordsOf, nodeTable, fieldsOf, fails6, contents, checks1to5, fileAnswer, readAnswer, partOf, keywordBytes, nameBytes}
+use Rattle.table.proofs.AnswerLaws.{first-refuses, first-passes}
+use Rattle.grammar_file.specs.File.{Contents, keywords, ruleNames, ruleNode, ruleList, wordsOf, nodeTable, fieldsOf, fails6, contents, fileAnswer, readAnswer, partOf, keywordBytes, nameBytes}
 use Rattle.file_fields.specs.Offsets.{valueAt, offsetOf, fieldsFrom}
 use Rattle.grammar_file.specs.InternalShape.{Parts, Inspects}
 use Rattle.grammar_file.specs.declared.shape.Shape.{Shape}
@@ -22,12 +23,15 @@ use Rattle.grammar_file.proofs.PartLaws.{keywords-are, names-are, rules
 module _ (file : List ℕ) {r : Inspected} (i : Inspects file r) where
   -- A file that one of 1 to 5 refuses.
   module _ (n : ℕ) (e : r ≡ Refused n) where
-    pub refuses : (next : Answer Contents) → refused n ≡ checks1to5 file next
-    refuses next = sym (subst (Inspects file) e i next)
+    pub refuses : refused n ≡ fileAnswer file
+    refuses = sym (subst (Inspects file) e i)
+
+    pub read-refuses : (n' m : ℕ) → refused n ≡ readAnswer file n' m
+    unfolding readAnswer
+    read-refuses n' m = first-refuses _ refuses
 
     no-part : (part : List ℕ) → [] ≡ partOf (fileAnswer file) part
-    unfolding fileAnswer
-    no-part part = ap (λ (a : Answer Contents). partOf a part) (refuses (given (contents (fieldsOf file))))
+    no-part part = ap (λ (a : Answer Contents). partOf a part) refuses
 
     pub no-keyword : (k : ℕ) → [] ≡ keywordBytes file k
     unfolding keywordBytes
@@ -42,12 +46,11 @@ module _ (file : List ℕ) {r : Inspected} (i : Inspects file r) where
     pub parts : Parts file s
     parts = subst (Inspects file) e i .0
 
-    pub passes : (next : Answer Contents) → next ≡ checks1to5 file next
-    passes next = sym (subst (Inspects file) e i .1 next)
+    pub passes : given (contents (fieldsOf file)) ≡ fileAnswer file
+    passes = sym (subst (Inspects file) e i .1)
 
     a-part : (part : List ℕ) → part ≡ partOf (fileAnswer file) part
-    unfolding fileAnswer
-    a-part part = ap (λ (a : Answer Contents). partOf a part) (passes (given (contents (fieldsOf file))))
+    a-part part = ap (λ (a : Answer Contents). partOf a part) passes
 
     pub keyword-at : (k : ℕ) → k < s .keywords → {part : List ℕ} → part ≡ valueAt file (offsetOf file 4 k) → part ≡ keywordBytes file k
     unfolding keywordBytes
@@ -88,14 +91,14 @@ module _ (file : List ℕ) {r : Inspected} (i : Inspects file r) where
     unfolding readAnswer fails6
     short-nodes n m h =
         ap (λ (b : Bool). refuseIf (b || ltb m (length (ruleList (fieldsOf file)))) 6 (given (contents (fieldsOf file)))) (sym (lt-ltb n (length (nodeTable (fieldsOf file))) (omega (arith, table-length))))
-        ∙ passes _
+        ∙ first-passes _ passes
 
     pub short-rules : (n m : ℕ) → m < s .rules .count → refused 6 ≡ readAnswer file n m
     unfolding readAnswer fails6
     short-rules n m h =
         ap (λ (b : Bool). refuseIf b 6 (given (contents (fieldsOf file))))
         (sym (ap (λ (b : Bool). ltb n (length (nodeTable (fieldsOf file))) || b) (lt-ltb m (length (ruleList (fieldsOf file))) (omega (arith, rule-count file s parts))) ∙ or-true (ltb n (length (nodeTable (fieldsOf file))))))
-        ∙ passes _
+        ∙ first-passes _ passes
 
     pub enough : (n m : ℕ) → s .nodes .count ≤ n / 4 → s .rules .count ≤ m → given (contents (fieldsOf file)) ≡ readAnswer file n m
     unfolding readAnswer fails6
@@ -103,7 +106,7 @@ module _ (file : List ℕ) {r : Inspected} (i : Inspects file r) where
         ap₂ (λ (c d : Bool). refuseIf (c || d) 6 (given (contents (fieldsOf file))))
         (sym (le-ltb n (length (nodeTable (fieldsOf file))) (omega (arith, table-length))))
         (sym (le-ltb m (length (ruleList (fieldsOf file))) (omega (arith, rule-count file s parts))))
-        ∙ passes _
+        ∙ first-passes _ passes
 
     -- The lent words after a read.
     pub nodes-after : {a : Answer Contents} → a ≡ given (contents (fieldsOf file)) → (old : List ℕ) {out : List ℕ}

@@ -6,7 +6,7 @@ use mathlib.Core.List.{List, [], _∷_, map}
 use mathlib.Core.Option.{Option, some, none, Option·getD}
 use lib.ListN.{length, getD, drop}
 use lib.Dec.{ltb, eqb}
-use Rattle.table.specs.Answer.{Answer, given, refused, refuseIf}
+use Rattle.table.specs.Answer.{Answer, given, refused, refusedAt, refuseIf, andThen}
 use Rattle.table.specs.Every.{every}
 use Rattle.table.specs.Words.{eachWords}
 use Rattle.table.specs.Limits.{relationCount}
@@ -125,24 +125,20 @@ contents fs =
       mode = startMode fs;
     }
 
--- Numbers 1 to 5 of a file, and behind them what follows. Numbers 3 and 4 are those of the file's table and rule list.
-unfoldable pub checks1to5 : {A : Type 0} → List ℕ → Answer A → Answer A
-checks1to5 file next =
+-- What a file stands for, or the first of 1 to 5 that fails. Numbers 3 and 4 are those of the file's table and rule list.
+unfoldable pub fileAnswer : List ℕ → Answer Contents
+fileAnswer file =
     refuseIf (fails1 file) 1
     (refuseIf (fails2 (fieldsOf file)) 2
     (refuseIf (fails3 (nodeTable (fieldsOf file)) (ruleList (fieldsOf file))) 3
     (refuseIf (fails4 (nodeTable (fieldsOf file)) (ruleList (fieldsOf file))) 4
     (refuseIf (fails5ByFile (fieldsOf file)) 5
-    next))))
-
--- What a file stands for, or the first of 1 to 5 that fails.
-unfoldable pub fileAnswer : List ℕ → Answer Contents
-fileAnswer file = checks1to5 file (given (contents (fieldsOf file)))
+    (given (contents (fieldsOf file)))))))
 
 -- What the file reader answers: the first of 1 to 6 that fails, or the counts and the start.
 unfoldable pub readAnswer : List ℕ → ℕ → ℕ → Answer Contents
 readAnswer file nodesLent rulesLent =
-    checks1to5 file
+    andThen (fileAnswer file)
     (refuseIf (fails6 (fieldsOf file) nodesLent rulesLent) 6
     (given (contents (fieldsOf file))))
 
@@ -160,6 +156,7 @@ KeywordsStand file (Refused n) = Unit
 abbrev pub partOf : Answer Contents → List ℕ → List ℕ
 partOf (given c) part = part
 partOf (refused n) part = []
+partOf (refusedAt n node) part = []
 
 -- The bytes of keyword k, and of rule r's name; none where there is no such keyword or rule.
 unfoldable pub keywordBytes : List ℕ → ℕ → List ℕ

@@ -5,9 +5,9 @@ use mathlib.Core.Bool.{Bool, true, false, _&&_}
 use mathlib.Core.List.{List, [], _∷_}
 use lib.ListN.{length, getD}
 use lib.Dec.{leb, eqb}
-use Rattle.table.specs.Answer.{Answer, refused}
+use Rattle.table.specs.Answer.{given, refused}
 use Rattle.file_fields.specs.Fields.{tagged}
-use Rattle.grammar_file.specs.File.{Contents, mostBytes, fieldsOf, fails1, checks1to5}
+use Rattle.grammar_file.specs.File.{mostBytes, fieldsOf, fails1, contents, fileAnswer}
 use Rattle.file_fields.specs.Offsets.{nextAt, fieldAt, offsetOf, fieldsFrom, rightAt}
 use Rattle.grammar_file.specs.declared.shape.Run.{Run}
 use Rattle.grammar_file.specs.declared.shape.Shape.{Shape}
@@ -43,5 +43,5 @@ pub record Shaped (file : List ℕ) (s : Shape) : Type 0 where
 
 -- What an inspection by numbers 1 to 5 found.
 abbrev pub Inspects : List ℕ → Inspected → Type 0
-Inspects file (Whole s) = Parts file s × ((next : Answer Contents) → checks1to5 file next ≡ next)
-Inspects file (Refused n) = (next : Answer Contents) → checks1to5 file next ≡ refused n
+Inspects file (Whole s) = Parts file s × (fileAnswer file ≡ given (contents (fieldsOf file)))
+Inspects file (Refused n) = fileAnswer file ≡ refused n

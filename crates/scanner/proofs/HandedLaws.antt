@@ -10,9 +10,9 @@ use native.Mathlib.Nat.{le-trans}
 use native.Mathlib.Omega.{arith}
 use Rattle.table.specs.Limits.{mostColumn}
 use Rattle.table.proofs.Every.{both-false}
-use Rattle.table.specs.Answer.{Answer, given, refused, refuseIf}
-use Rattle.grammar_file.specs.File.{Contents, keywords, fieldsOf, fileAnswer, checks1to5}
-use Rattle.grammar_file.proofs.CheckLaws.{file-refuses, file-passes}
+use Rattle.table.specs.Answer.{Answer, given, refused, refusedAt, refuseIf, andThen}
+use Rattle.table.proofs.AnswerLaws.{first-refuses, first-names, first-passes}
+use Rattle.grammar_file.specs.File.{Contents, keywords, fieldsOf, fileAnswer}
 use Rattle.scanner.specs.Places.{Place, places}
 use Rattle.scanner.specs.Tokens.{Token, tokenOf, tokens}
 use Rattle.scanner.specs.Scan.{fails8, fails9, fails10, overColumn, scanTokens, scanAnswer}
@@ -29,10 +29,11 @@ module _ (file text : List ℕ) where
   scan-checks false false c n m e = (refl, refl)
 
   -- The file's own checks leave the answer to what follows, or refuse it whatever follows.
-  file-first : (a : Answer Contents) → a ≡ fileAnswer file → (m : ℕ) (next : Answer ℕ) → checks1to5 file next ≡ given m
-      → (next ≡ given m) × ((later : Answer (Option Token)) → checks1to5 file later ≡ later)
-  file-first (given x) g m next e = (file-passes file x next g ∙ e, λ later. sym (file-passes file x later g))
-  file-first (refused k) g m next e = absurd (let f = file-refuses file k next g in let z : _≡_ {A = ℕ} 0 1 = cc in omega arith)
+  file-first : (a : Answer Contents) → a ≡ fileAnswer file → (m : ℕ) (next : Answer ℕ) → andThen (fileAnswer file) next ≡ given m
+      → (next ≡ given m) × ((later : Answer (Option Token)) → andThen (fileAnswer file) later ≡ later)
+  file-first (given x) g m next e = (first-passes next g ∙ e, λ later. sym (first-passes later g))
+  file-first (refused k) g m next e = absurd (let f = first-refuses next g in let z : _≡_ {A = ℕ} 0 1 = cc in omega arith)
+  file-first (refusedAt k n) g m next e = absurd (let f = first-names next g in let z : _≡_ {A = ℕ} 0 1 = cc in omega arith)
 
 -- Where a column is not over the last, none of the later ones is.
 thin-next : (p : Place) (ps : List Place) → overColumn (p ∷ ps) ≡ false → (ltb mostColumn (p .column) ≡ false) × (overColumn ps ≡ false)
@@ -54,7 +55,7 @@ record Standing (text : List ℕ) (p : Position) : Type 0 where
   low : p .column + 8 * (length text - p .offset) ≤ 8 * length text
   thin : overColumn (placesFrom text p) ≡ false
 
-module _ (file text : List ℕ) (later : (next : Answer (Option Token)) → checks1to5 file next ≡ next) (pass : fails8 text ≡ false) where
+module _ (file text : List ℕ) (later : (next : Answer (Option Token)) → andThen (fileAnswer file) next ≡ next) (pass : fails8 text ≡ false) where
   tok : Place → Token
   tok = tokenOf (keywords (fieldsOf file)) text
 

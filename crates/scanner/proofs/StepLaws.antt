@@ -13,7 +13,7 @@ use borrow.Author.Tests.{lt-ltb, le-ltb, ltb-false}
 use Rattle.table.proofs.Every.{both-false}
 use Rattle.table.specs.Answer.{given, refused, refuseIf, afterwards}
 use Rattle.grammar_file.specs.File.{Contents, keywords, fieldsOf, fileAnswer}
-use Rattle.grammar_file.proofs.CheckLaws.{file-refuses, file-passes}
+use Rattle.table.proofs.AnswerLaws.{first-refuses, first-passes}
 use Rattle.scanner.specs.Places.{places}
 use Rattle.scanner.specs.Tokens.{tokenOf, tokens, tokenWords, wordsOf}
 use Rattle.scanner.specs.Scan.{mostBytes, fails8, fails9, fails10, scanTokens, scanAnswer}
@@ -59,12 +59,12 @@ module _ (file text : List ℕ) (p : Position) where
 
   pub step-file : {s : Step} (n : ℕ) → s ≡ record { handed = Refused n; at = p .offset; column = p .column; mark = p .mark } → refused n ≡ fileAnswer file → Right s
   unfolding stepAnswer
-  step-file n e h = stays n e (file-refuses file n _ h)
+  step-file n e h = stays n e (first-refuses _ h)
 
   module _ (x : Contents) (g : given x ≡ fileAnswer file) where
     pub step-8 : {s : Step} → s ≡ record { handed = Refused 8; at = p .offset; column = p .column; mark = p .mark } → stepFails8 text p ≡ true → Right s
     unfolding stepAnswer
-    step-8 e h = stays 8 e (ap (λ (b : Bool). refuseIf b 8 (refuseIf (stepFails9 (nextIn text p .found)) 9 (given (Option·map (tokenOf (keywords (fieldsOf file)) text) (nextIn text p .found))))) (sym h) ∙ file-passes file x _ g)
+    step-8 e h = stays 8 e (ap (λ (b : Bool). refuseIf b 8 (refuseIf (stepFails9 (nextIn text p .found)) 9 (given (Option·map (tokenOf (keywords (fieldsOf file)) text) (nextIn text p .found))))) (sym h) ∙ first-passes _ g)
 
     module _ (h : stepFails8 text p ≡ false) (f : Found) (v : moveOf f ≡ nextIn text p) where
       pub step-9 : {s : Step} → s ≡ record { handed = Refused 9; at = p .offset; column = p .column; mark = p .mark } → stepFails9 (moveOf f .found) ≡ true → Right s
@@ -72,7 +72,7 @@ module _ (file text : List ℕ) (p : Position) where
       step-9 e w =
           stays 9 e
           (ap₂ (λ (a b : Bool). refuseIf a 8 (refuseIf b 9 (given (Option·map (tokenOf (keywords (fieldsOf file)) text) (nextIn text p .found))))) (sym h) (sym w ∙ ap (λ m. stepFails9 (m .found)) v)
-          ∙ file-passes file x _ g)
+          ∙ first-passes _ g)
 
       pub step-on : {s : Step} (ks : List (List ℕ)) → keywords (fieldsOf file) ≡ ks → HandsOut ks text f s → stepFails9 (moveOf f .found) ≡ false → Right s
       unfolding stepAnswer
@@ -80,7 +80,7 @@ module _ (file text : List ℕ) (p : Position) where
           let token = o .token ∙ ap₂ (λ k m. given (Option·map (tokenOf k text) (m .found))) (sym q) v in (
             token
                 ∙ ap₂ (λ (a b : Bool). refuseIf a 8 (refuseIf b 9 (given (Option·map (tokenOf (keywords (fieldsOf file)) text) (nextIn text p .found))))) (sym h) (sym w ∙ ap (λ m. stepFails9 (m .found)) v)
-                ∙ file-passes file x _ g,
+                ∙ first-passes _ g,
             o .reached ∙ ap (λ m. m .reached) v ∙ ap (λ a. standing a text p) (sym token),
           )
 
@@ -88,13 +88,13 @@ module _ (file text : List ℕ) (p : Position) where
 module _ (file text : List ℕ) (lent : ℕ) where
   pub scan-file : (n : ℕ) → refused n ≡ fileAnswer file → refused n ≡ scanAnswer file text lent
   unfolding scanAnswer
-  scan-file n h = file-refuses file n _ h
+  scan-file n h = first-refuses _ h
 
   -- The further checks, by what each says.
   pub scan-by : (x : Contents) → given x ≡ fileAnswer file → (a b c : Bool) → fails8 text ≡ a → fails9 text ≡ b → fails10 text lent ≡ c
       → refuseIf a 8 (refuseIf b 9 (refuseIf c 10 (given (length (places text))))) ≡ scanAnswer file text lent
   unfolding scanAnswer
-  scan-by x g a b c p q r = rw (← p, ← q, ← r) (file-passes file x _ g)
+  scan-by x g a b c p q r = rw (← p, ← q, ← r) (first-passes _ g)
 
   pub many-tokens : mostTokens < length (places text) → fails10 text lent ≡ true
   unfolding fails10

@@ -5,10 +5,10 @@ use mathlib.Core.List.{List, [], _∷_}
 use lib.ListN.{length, getD}
 use lib.Dec.{ltb}
 use Rattle.table.specs.Limits.{mostTokens, mostColumn}
-use Rattle.table.specs.Answer.{Answer, given, refused, refuseIf}
+use Rattle.table.specs.Answer.{Answer, given, refused, refuseIf, andThen}
 use Rattle.table.specs.Every.{every}
 use Rattle.file_fields.specs.Bytes.{classOf}
-use Rattle.grammar_file.specs.File.{keywords, fieldsOf, checks1to5}
+use Rattle.grammar_file.specs.File.{keywords, fieldsOf, fileAnswer}
 use Rattle.file_fields.specs.declared.bytes.Class.{Class}
 use Rattle.file_fields.specs.declared.bytes.Class.the-variants.{Break, Tab, Blank, Single, Digit, Run, Refused as RefusedByte}
 use Rattle.scanner.specs.Places.{Place, places}
@@ -52,7 +52,7 @@ scanTokens file text = tokens (keywords (fieldsOf file)) text
 -- What a scan answers: the first of 1 to 5, 8, 9 and 10 that fails, or how many tokens there are.
 unfoldable pub scanAnswer : List ℕ → List ℕ → ℕ → Answer ℕ
 scanAnswer file text lent =
-    checks1to5 file
+    andThen (fileAnswer file)
     (refuseIf (fails8 text) 8
     (refuseIf (fails9 text) 9
     (refuseIf (fails10 text lent) 10

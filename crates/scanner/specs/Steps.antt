@@ -7,9 +7,9 @@ use mathlib.Core.Option.{Option, some, none, Option·map}
 use lib.ListN.{length, take, drop}
 use lib.Dec.{ltb}
 use Rattle.table.specs.Limits.{mostColumn}
-use Rattle.table.specs.Answer.{Answer, given, refused, refuseIf}
+use Rattle.table.specs.Answer.{Answer, given, refused, refusedAt, refuseIf, andThen}
 use Rattle.file_fields.specs.Bytes.{classOf}
-use Rattle.grammar_file.specs.File.{keywords, fieldsOf, checks1to5}
+use Rattle.grammar_file.specs.File.{keywords, fieldsOf, fileAnswer}
 use Rattle.file_fields.specs.declared.bytes.Class.{Class}
 use Rattle.file_fields.specs.declared.bytes.Class.the-variants.{Refused as RefusedByte, Break, Tab, Blank, Single, Digit, Run}
 use Rattle.scanner.specs.Columns.{columnAfter, columnOver}
@@ -77,7 +77,7 @@ stepFails9 (some p) = ltb mostColumn (p .column)
 -- What a step answers: the first of 1 to 5, 8 and 9 that fails, or the next token or none.
 unfoldable pub stepAnswer : List ℕ → List ℕ → Position → Answer (Option Token)
 stepAnswer file text p =
-    checks1to5 file
+    andThen (fileAnswer file)
     (refuseIf (stepFails8 text p) 8
     (refuseIf (stepFails9 (nextIn text p .found)) 9
     (given (Option·map (tokenOf (keywords (fieldsOf file)) text) (nextIn text p .found)))))
@@ -86,6 +86,7 @@ stepAnswer file text p =
 abbrev pub standing : Answer (Option Token) → List ℕ → Position → Position
 standing (given t) text p = nextIn text p .reached
 standing (refused n) text p = p
+standing (refusedAt n node) text p = p
 
 -- The position that a step answers.
 abbrev pub positionOf : Step → Position
@@ -102,6 +103,7 @@ abbrev pub handOn : Answer (Option Token) → List Token → List Token
 handOn (given (some t)) later = t ∷ later
 handOn (given none) later = []
 handOn (refused n) later = []
+handOn (refusedAt n node) later = []
 
 unfoldable pub handedOut : ℕ → List ℕ → List ℕ → Position → List Token
 handedOut zero file text p = []

@@ -4,3 +4,4 @@ pub mod Orders
 pub mod Words
 pub mod NodeKinds
 pub mod Cells
+pub mod AnswerLaws

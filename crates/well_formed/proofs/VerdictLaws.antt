@@ -7,11 +7,12 @@ use mathlib.Core.Logic.{_↔_, ⊎-elim}
 use native.Mathlib.Nat.{eq-or-lt-of-le}
 use native.Mathlib.Omega.{arith}
 use Rattle.table.proofs.Orders.{le-or-lt}
-use Rattle.table.specs.Answer as table
+use Rattle.table.specs.Answer.{Answer, given, refused, refusedAt, andThen}
+use Rattle.table.proofs.AnswerLaws.{first-refuses, first-passes, table-nameless}
 use Rattle.table.specs.Checks.{tableAnswer}
 use Rattle.table.specs.Form.{form, nodeCount}
 use Rattle.well_formed.specs.WellFormed.{WellFormed, Passes, LowestBad}
-use Rattle.well_formed.specs.Check.{NodeAnswer, given, refused, refusedAt, afterTable, mayNothing, isWell, verdictFrom, checkAnswer, Means}
+use Rattle.well_formed.specs.Check.{mayNothing, isWell, verdictFrom, checkAnswer, Means}
 use Rattle.well_formed.proofs.DecidedLaws.{well-decided}
 use Rattle.well_formed.proofs.PassLaws.{not-so}
 
@@ -35,7 +36,7 @@ pub verdict-same : (p q : ℕ → Bool) (n left : ℕ) → ((k : ℕ) → k < n 
 unfolding verdictFrom
 verdict-same p q n zero h = refl
 verdict-same p q n (suc left) h =
-    ap₂ (λ (b : Bool) (v : NodeAnswer Unit). cond b v (refusedAt 7 n)) (h n (omega arith)) (verdict-same p q (suc n) left (λ k l. h k (omega arith)))
+    ap₂ (λ (b : Bool) (v : Answer Unit). cond b v (refusedAt 7 n)) (h n (omega arith)) (verdict-same p q (suc n) left (λ k l. h k (omega arith)))
 
 -- What a verdict over so many nodes from n on says of the test.
 module _ (well : ℕ → Bool) where
@@ -46,12 +47,12 @@ module _ (well : ℕ → Bool) where
     pub bad : well m ≡ false
     pub lower : (k : ℕ) → n ≤ k → k < m → well k ≡ true
 
-  data Says (n left : ℕ) : NodeAnswer Unit → Type 0 where
+  data Says (n left : ℕ) : Answer Unit → Type 0 where
     all-pass : ((k : ℕ) → n ≤ k → k < n + left → well k ≡ true) → Says n left (given tt)
     first-bad : (m : ℕ) → First n left m → Says n left (refusedAt 7 m)
 
   -- One node more that passes, before the others.
-  one-more : (n left : ℕ) {v : NodeAnswer Unit} → well n ≡ true → Says (suc n) left v → Says n (suc left) v
+  one-more : (n left : ℕ) {v : Answer Unit} → well n ≡ true → Says (suc n) left v → Says n (suc left) v
   one-more n left e (all-pass h) = all-pass (λ k l m. ⊎-elim (λ q. rw (← q) e) (λ j. h k j (omega arith)) (eq-or-lt-of-le l))
   one-more n left e (first-bad m f) =
       let a = f .from in
@@ -68,15 +69,15 @@ module _ (well : ℕ → Bool) where
       by-test false e h = rw e (first-bad n (record { from = omega arith; below = omega arith; bad = e; lower = λ k l j. absurd (omega arith) }))
 
   module _ (n left : ℕ) where
-    passes-all : {v : NodeAnswer Unit} → Says n left v → v ≡ given tt → (k : ℕ) → n ≤ k → k < n + left → well k ≡ true
+    passes-all : {v : Answer Unit} → Says n left v → v ≡ given tt → (k : ℕ) → n ≤ k → k < n + left → well k ≡ true
     passes-all (all-pass h) e = h
     passes-all (first-bad m f) e = absurd (let z : _≡_ {A = ℕ} 0 1 = cc in omega arith)
 
-    all-passes : {v : NodeAnswer Unit} → Says n left v → ((k : ℕ) → n ≤ k → k < n + left → well k ≡ true) → v ≡ given tt
+    all-passes : {v : Answer Unit} → Says n left v → ((k : ℕ) → n ≤ k → k < n + left → well k ≡ true) → v ≡ given tt
     all-passes (all-pass h) g = refl
     all-passes (first-bad m f) g = absurd (true≢false (sym (g m (f .from) (f .below)) ∙ f .bad))
 
-    names-first : {v : NodeAnswer Unit} → Says n left v → (m : ℕ) → v ≡ refusedAt 7 m → First n left m
+    names-first : {v : Answer Unit} → Says n left v → (m : ℕ) → v ≡ refusedAt 7 m → First n left m
     names-first (all-pass h) m e = absurd (let z : _≡_ {A = ℕ} 0 1 = cc in omega arith)
     names-first (first-bad k f) m e = let q : k ≡ m = cc in rw (← q) f
 
@@ -85,12 +86,12 @@ module _ (well : ℕ → Bool) where
         ⊎-elim (λ l. ⊎-elim (λ q. q) (λ j. absurd (true≢false (sym (g .lower m (f .from) j) ∙ f .bad))) (eq-or-lt-of-le l))
         (λ j. absurd (true≢false (sym (f .lower k (g .from) j) ∙ g .bad))) (le-or-lt m k)
 
-    first-named : {v : NodeAnswer Unit} → Says n left v → (m : ℕ) → First n left m → v ≡ refusedAt 7 m
+    first-named : {v : Answer Unit} → Says n left v → (m : ℕ) → First n left m → v ≡ refusedAt 7 m
     first-named (all-pass h) m f = absurd (true≢false (sym (h m (f .from) (f .below)) ∙ f .bad))
     first-named (first-bad k g) m f = ap (refusedAt 7) (same-first k m g f)
 
 -- The check's answer means what the least relations say.
-module _ (nodes rules : List ℕ) (passing : tableAnswer nodes rules ≡ table.given tt) where
+module _ (nodes rules : List ℕ) (passing : tableAnswer nodes rules ≡ given tt) where
   decided : (n : ℕ) → n < nodeCount nodes → (isWell nodes rules n ≡ true) ↔ WellFormed nodes rules (form nodes n)
   unfolding isWell mayNothing
   decided n h = well-decided nodes rules passing n h
@@ -129,29 +130,30 @@ pub check-means : (nodes rules : List ℕ) → Means nodes rules (checkAnswer no
 unfolding checkAnswer
 check-means nodes rules = by-table (tableAnswer nodes rules) refl
   where
-    by-table : (t : table.Answer Unit) → tableAnswer nodes rules ≡ t → Means nodes rules (afterTable (tableAnswer nodes rules) (verdictFrom (isWell nodes rules) 0 (nodeCount nodes)))
-    by-table (table.given tt) e =
+    by-table : (t : Answer Unit) → tableAnswer nodes rules ≡ t → Means nodes rules (andThen (tableAnswer nodes rules) (verdictFrom (isWell nodes rules) 0 (nodeCount nodes)))
+    by-table (given tt) e =
         rw e (record {
           passes = (λ p. (e, verdict-passes nodes rules e .0 p), λ p. verdict-passes nodes rules e .1 (p .1));
           named = λ n. (λ p. (e, verdict-names nodes rules e n .0 p), λ p. verdict-names nodes rules e n .1 (p .1));
         })
-    by-table (table.refused k) e =
+    by-table (refused k) e =
         rw e (record {
           passes = (λ p. absurd (let z : _≡_ {A = ℕ} 0 1 = cc in omega arith), λ p. absurd (let q = p .0 in let z : _≡_ {A = ℕ} 0 1 = cc in omega arith));
           named = λ n. (λ p. absurd (let z : _≡_ {A = ℕ} 0 1 = cc in omega arith), λ p. absurd (let q = p .0 in let z : _≡_ {A = ℕ} 0 1 = cc in omega arith));
         })
+    by-table (refusedAt k m) e = absurd (table-nameless nodes rules k m e)
 
 -- An answer that is the check's, with what it means.
-module _ (nodes rules : List ℕ) {v : NodeAnswer Unit} where
+module _ (nodes rules : List ℕ) {v : Answer Unit} where
   with-meaning : v ≡ checkAnswer nodes rules → (v ≡ checkAnswer nodes rules) × Means nodes rules v
   with-meaning e = (e, rw e (check-means nodes rules))
 
   -- A table that is refused.
-  pub answer-refused : {k : ℕ} → table.refused k ≡ tableAnswer nodes rules → v ≡ refused k → (v ≡ checkAnswer nodes rules) × Means nodes rules v
+  pub answer-refused : {k : ℕ} → refused k ≡ tableAnswer nodes rules → v ≡ refused k → (v ≡ checkAnswer nodes rules) × Means nodes rules v
   unfolding checkAnswer
-  answer-refused e q = with-meaning (q ∙ (rw (← e) refl))
+  answer-refused e q = with-meaning (q ∙ first-refuses _ e)
 
   -- One that is not.
-  pub answer-judged : tableAnswer nodes rules ≡ table.given tt → v ≡ verdictFrom (isWell nodes rules) 0 (nodeCount nodes) → (v ≡ checkAnswer nodes rules) × Means nodes rules v
+  pub answer-judged : tableAnswer nodes rules ≡ given tt → v ≡ verdictFrom (isWell nodes rules) 0 (nodeCount nodes) → (v ≡ checkAnswer nodes rules) × Means nodes rules v
   unfolding checkAnswer
-  answer-judged e q = with-meaning (q ∙ (rw e refl))
+  answer-judged e q = with-meaning (q ∙ first-passes _ (sym e))

@@ -4,7 +4,7 @@ use mathlib.Core.Path.{_≡_}
 use mathlib.Core.Bool.{Bool, cond}
 use mathlib.Core.List.{List}
 use mathlib.Core.Logic.{_↔_}
-use Rattle.table.specs.Answer as table
+use Rattle.table.specs.Answer.{Answer, given, refused, refusedAt, andThen}
 use Rattle.table.specs.Form.{nodeCount}
 use Rattle.table.specs.Checks.{tableAnswer}
 use Rattle.well_formed.specs.Facts.{nothing}
@@ -12,17 +12,6 @@ use Rattle.well_formed.specs.WellFormed as least
 use Rattle.well_formed.specs.Rounds.{knownAfter, wellAfter}
 use Rattle.well_formed.specs.declared.Verdict.{Verdict}
 use Rattle.well_formed.specs.declared.Verdict.the-variants.{Passes, Refused, IllFormed}
-
--- "The answer is the number, with the node for 7."
-pub data NodeAnswer (A : Type 0) : Type 0 where
-  given : A → NodeAnswer A
-  refused : ℕ → NodeAnswer A
-  refusedAt : (number node : ℕ) → NodeAnswer A
-
--- "Checks run in rising number": what an earlier part refuses with, and otherwise what the later checks give.
-abbrev pub afterTable : {A B : Type 0} → table.Answer B → NodeAnswer A → NodeAnswer A
-afterTable (table.given a) next = next
-afterTable (table.refused number) next = refused number
 
 -- Whether node n may succeed reading nothing, and whether it is well formed, by as many rounds as settle either.
 unfoldable pub mayNothing : List ℕ → List ℕ → ℕ → Bool
@@ -33,23 +22,23 @@ isWell nodes rules n = wellAfter nodes rules (mayNothing nodes rules) (nodeCount
 
 -- "The grammar passes if every node does, reachable or not; otherwise the lowest that doesn't is named": so many nodes
 -- from n on, in rising order.
-unfoldable pub verdictFrom : (ℕ → Bool) → ℕ → ℕ → NodeAnswer Unit
+unfoldable pub verdictFrom : (ℕ → Bool) → ℕ → ℕ → Answer Unit
 verdictFrom well n zero = given tt
 verdictFrom well n (suc left) = cond (well n) (verdictFrom well (suc n) left) (refusedAt 7 n)
 
 -- 3, 4 and 5 first, then 7.
-unfoldable pub checkAnswer : List ℕ → List ℕ → NodeAnswer Unit
-checkAnswer nodes rules = afterTable (tableAnswer nodes rules) (verdictFrom (isWell nodes rules) 0 (nodeCount nodes))
+unfoldable pub checkAnswer : List ℕ → List ℕ → Answer Unit
+checkAnswer nodes rules = andThen (tableAnswer nodes rules) (verdictFrom (isWell nodes rules) 0 (nodeCount nodes))
 
 -- What an answer says of a table and its rules by the least relations.
-pub record Means (nodes rules : List ℕ) (answer : NodeAnswer Unit) : Type 0 where
+pub record Means (nodes rules : List ℕ) (answer : Answer Unit) : Type 0 where
   -- It passes exactly if the table passes 3, 4 and 5 and every node is well formed.
-  pub passes : (answer ≡ given tt) ↔ ((tableAnswer nodes rules ≡ table.given tt) × least.Passes nodes rules)
+  pub passes : (answer ≡ given tt) ↔ ((tableAnswer nodes rules ≡ given tt) × least.Passes nodes rules)
   -- It is 7 with node n exactly if the table passes 3, 4 and 5, n is not well formed and every lower node is.
-  pub named : (n : ℕ) → (answer ≡ refusedAt 7 n) ↔ ((tableAnswer nodes rules ≡ table.given tt) × least.LowestBad nodes rules n)
+  pub named : (n : ℕ) → (answer ≡ refusedAt 7 n) ↔ ((tableAnswer nodes rules ≡ given tt) × least.LowestBad nodes rules n)
 
 -- 01's number for each case of `Verdict`, and the node for 7.
-abbrev pub numbers : Verdict → NodeAnswer Unit
+abbrev pub numbers : Verdict → Answer Unit
 numbers Passes = given tt
 numbers (Refused number) = refused number
 numbers (IllFormed node) = refusedAt 7 node

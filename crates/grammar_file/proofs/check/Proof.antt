@@ -3,8 +3,6 @@ use borrow.Author.Needs.{needs}
 use Rattle.grammar_file.proofs.check.Statement.{statement}
 use Rattle.grammar_file.proofs.check.Tie as tie
 use mathlib.Core.Path.{_∙_}
-use Rattle.table.specs.Answer.{given}
-use Rattle.grammar_file.specs.File.{fieldsOf, contents, fileAnswer}
 use Rattle.grammar_file.proofs.ReadLaws.{refuses, parts, passes}
 
 inspect-requires : tie.Need-inspect-requires
@@ -20,12 +18,10 @@ counts-requires : tie.Need-counts-requires
 counts-requires c κs = parts (c .before .before .before .before .before .args .file .now) (c .before .before .before .inspect .ensures) (c .before .found2 .given .0 .0) (c .before .found2 .given .1)
 
 returns : tie.Need-returns
-unfolding fileAnswer
-returns c = (refuses (c .before .before .before .before .before .args .file .now) (c .before .before .before .inspect .ensures) (c .before .found .given .0 .0) (c .before .found .given .1) (given (contents (fieldsOf (c .before .before .before .before .before .args .file .now)))), tt)
+returns c = (refuses (c .before .before .before .before .before .args .file .now) (c .before .before .before .inspect .ensures) (c .before .found .given .0 .0) (c .before .found .given .1), tt)
 
 returns-2 : tie.Need-returns-2
-unfolding fileAnswer
-returns-2 c = (c .counts .ensures .0 ∙ passes (c .before .before .before .before .before .before .args .file .now) (c .before .before .before .before .inspect .ensures) (c .before .before .found2 .given .0 .0) (c .before .before .found2 .given .1) (given (contents (fieldsOf (c .before .before .before .before .before .before .args .file .now)))), c .counts .ensures .1)
+returns-2 c = (c .counts .ensures .0 ∙ passes (c .before .before .before .before .before .before .args .file .now) (c .before .before .before .before .inspect .ensures) (c .before .before .found2 .given .0 .0) (c .before .before .found2 .given .1), c .counts .ensures .1)
 
 pub check-spec : {M : Type 1} → statement M
 check-spec =

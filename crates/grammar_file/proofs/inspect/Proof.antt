@@ -6,15 +6,15 @@ use borrow.Author.Tests.{not-true, not-false, le-ltb, lt-ltb}
 use mathlib.Core.Path.{refl, sym, ap, _∙_}
 use mathlib.Core.Bool.{true, false}
 use Rattle.table.specs.Checks.{numbers as checkedNumbers}
-use Rattle.grammar_file.specs.File.{checks1to5}
+use Rattle.grammar_file.specs.File.{fileAnswer}
 use Rattle.grammar_file.proofs.PartLaws.{by-names, by-table, by-start, start-test, mode-test}
 
 shape-of-requires : tie.Need-shape-of-requires
 shape-of-requires c κs = search needs
 
 returns : tie.Need-returns
-unfolding checks1to5
-returns c = λ next. rw (c .before .before .shape-of .ensures .wrong (not-true _ (c .if1 .taken))) refl
+unfolding fileAnswer
+returns c = rw (c .before .before .shape-of .ensures .wrong (not-true _ (c .if1 .taken))) refl
 
 names-wrong-requires : tie.Need-names-wrong-requires
 names-wrong-requires c κs = (c .before .before .shape-of .ensures .right (not-false _ (c .if1 .left)))

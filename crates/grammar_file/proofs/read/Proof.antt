@@ -5,7 +5,7 @@ use Rattle.grammar_file.proofs.read.Tie as tie
 use mathlib.Core.Path.{refl, _∙_}
 use lib.ListN.{length}
 use Rattle.grammar_file.specs.File.{readAnswer}
-use Rattle.grammar_file.proofs.ReadLaws.{refuses, parts, short-nodes, short-rules, enough, nodes-after, rules-after}
+use Rattle.grammar_file.proofs.ReadLaws.{read-refuses, parts, short-nodes, short-rules, enough, nodes-after, rules-after}
 
 inspect-requires : tie.Need-inspect-requires
 inspect-requires c κs = search needs
@@ -32,8 +32,7 @@ counts-requires : tie.Need-counts-requires
 counts-requires c κs = parts (c .before .before .before .before .before .before .before .before .before .before .before .before .before .before .before .before .before .before .before .args .file .now) (c .before .before .before .before .before .before .before .before .before .before .before .before .before .before .before .inspect .ensures) (c .before .before .before .before .before .before .before .before .before .before .before .before .before .found2 .given .0 .0) (c .before .before .before .before .before .before .before .before .before .before .before .before .before .found2 .given .1)
 
 returns-3 : tie.Need-returns-3
-unfolding readAnswer
-returns-3 c = (refuses (c .before .before .before .before .before .before .before .args .file .now) (c .before .before .before .inspect .ensures) (c .before .found .given .0 .0) (c .before .found .given .1) _, (refl, refl))
+returns-3 c = (read-refuses (c .before .before .before .before .before .before .before .args .file .now) (c .before .before .before .inspect .ensures) (c .before .found .given .0 .0) (c .before .found .given .1) _ _, (refl, refl))
 
 same-length : tie.Need-same-length
 same-length c = search needs
