@@ -20,7 +20,7 @@ use Rattle.well_formed.specs.WellFormed.{Passes}
 use Rattle.well_formed.specs.InternalRank.{Enters, enters-rule, enters-first, enters-second, enters-choice, enters-other, enters-not, enters-repeat, enters-indent, enters-position, enters-align, rank}
 use Rattle.well_formed.proofs.RankLaws.{rank-falls, rank-most, repeat-reads}
 use Rattle.clauses.specs.Clauses.{Tokens, State, Outcome, success, failure, Run}
-use Rattle.clauses.specs.Evaluation.{Result, ended, unfinished, after, reads, step, evaluate, enough, evaluated, outcomeFor}
+use Rattle.clauses.specs.Evaluation.{Result, ended, unfinished, after, reads, step, evaluate, enough, outcomeFor}
 use Rattle.agreement.proofs.Narrows.{onward, within}
 use Rattle.agreement.proofs.ShownFacts.{shown, at-once}
 use Rattle.clauses.proofs.Sound.{evaluate-sound}
@@ -81,7 +81,7 @@ module _ (nodes rules : List ℕ) (tokens : Tokens) (passing : tableAnswer nodes
 
     by-form : (f : Form) → form nodes n ≡ f → Ended (step nodes rules tokens (λ τ' f' s'. call k τ' f' s') τ f s)
     by-form table.empty e = this (success s)
-    by-form (table.terminal a) e = one-of (reads nodes rules tokens τ a s) _ failure
+    by-form (table.terminal a) e = one-of (reads tokens τ a s) _ failure
     by-form (table.rule x) e = child _ e (standsFor rules x) τ s refl (inside _ e) enters-rule
     by-form (table.sequence p q) e =
         after-ended (call k τ (form nodes p) s) _ _ (child _ e p τ s refl (inside _ e .0) enters-first)
@@ -124,7 +124,7 @@ module _ (nodes rules : List ℕ) (tokens : Tokens) (passing : tableAnswer nodes
 
   -- The outcome that is computed is one that the clauses give: an outcome exists.
   pub outcome-derived : (τ n : ℕ) (s : State Interval) → n < nodeCount nodes → s .0 ≤ tokens .count → Run ends nodes rules tokens τ (form nodes n) s (outcomeFor nodes rules tokens τ n s)
-  unfolding outcomeFor evaluated
+  unfolding outcomeFor
   outcome-derived τ n s h b =
       let r = evaluates (enough nodes rules tokens) n τ s h b (light n (s .0) h) in
       evaluate-sound nodes rules tokens (enough nodes rules tokens) τ (form nodes n) s (outcomeFor nodes rules tokens τ n s) (rw (r .is) refl)

@@ -5,3 +5,4 @@ pub mod Likeness
 pub mod Existence
 pub mod LimitLaws
 pub mod Agreement
+pub mod OffsetsUnread

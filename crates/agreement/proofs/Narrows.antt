@@ -1,6 +1,6 @@
--- A run only narrows (001, theorem 2.1): "o = ⊤(s') implies s ≥ s'. Also if s = (w, I, b) and s' = (w', I', b') then s ≠ s'
--- implies both w > w' and b' = ff, and I ≠ ∅ implies I' ≠ ∅." In any lawful column domain. Two sets are the same here if
--- they have the same members.
+-- A run only narrows (001, theorem 2.1), in any lawful column domain and for I ≠ ∅:
+--   e, τ ⊢ (w, I, b) → ⊤(w', I', b') ⟹ w ≥ w', I ⊇ I', b ⊇ b', I' ≠ ∅, and w = w' ∧ I = I' ∧ b = b' or w > w' ∧ b' = ff.
+-- Two sets are the same here if they have the same members.
 use Prim.Native.Nat.{ℕ, _≤_, _<_}
 use mathlib.Core.Path.{_≡_, refl, sym, ap, _∙_}
 use mathlib.Core.Bool.{Bool, true, false, _&&_, true≢false, and-true, and-false}

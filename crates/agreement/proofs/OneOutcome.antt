@@ -1,4 +1,4 @@
--- At most one outcome, in any column domain (001, theorem 2.1: "e, τ ⊢ s → o for at most one o").
+-- At most one outcome, in any column domain (001, theorem 2.1): e, τ ⊢ s → o, e, τ ⊢ s → o' ⟹ o = o'.
 use Prim.Native.Nat.{ℕ, _+_}
 use mathlib.Core.Path.{_≡_, refl, sym, ap, subst, _∙_}
 use mathlib.Core.Bool.{false, _&&_}

@@ -49,7 +49,7 @@ module _ (nodes rules : List ℕ) (tokens : Tokens) where
   read n (clear m) = terminal-clear n m
   read n (aligned m) = terminal-aligned n m
 
-  pub terminal-read : (τ a w : ℕ) (I : Interval) (b : Bool) → reads nodes rules tokens τ a (w, I, b) ≡ true
+  pub terminal-read : (τ a w : ℕ) (I : Interval) (b : Bool) → reads tokens τ a (w, I, b) ≡ true
       → Run ends nodes rules tokens τ (table.terminal a) (w, I, b) (success (w + 1, afterToken b τ I (tokens .column w), false))
   terminal-read τ a w I b e =
       let x = ltb w (tokens .count) in
@@ -58,7 +58,7 @@ module _ (nodes rules : List ℕ) (tokens : Tokens) where
       let p = and-left (x && y) z e in
       read (record { there = ltb-true w (tokens .count) (and-left x y p); terminal = eqb-true (tokens .terminal w) a (and-right x y p); column = refl }) (fitting b I (and-right (x && y) z e))
 
-  pub terminal-unread : (τ a w : ℕ) (I : Interval) (b : Bool) → reads nodes rules tokens τ a (w, I, b) ≡ false → Run ends nodes rules tokens τ (table.terminal a) (w, I, b) failure
+  pub terminal-unread : (τ a w : ℕ) (I : Interval) (b : Bool) → reads tokens τ a (w, I, b) ≡ false → Run ends nodes rules tokens τ (table.terminal a) (w, I, b) failure
   terminal-unread τ a w I b e = terminal-fails not-read
     where
       not-read : (i : ℕ) → Next tokens a i w → Fits ends τ i I b → ⊥
@@ -66,7 +66,7 @@ module _ (nodes rules : List ℕ) (tokens : Tokens) where
           let h : fits b τ I (tokens .column w) ≡ true = rw (n .column) (fits-true m) in
           true≢false (sym (rw (lt-ltb w (tokens .count) (n .there), eq-eqb (tokens .terminal w) a (n .terminal), h) refl) ∙ e)
 
-  terminal-derived : (τ a w : ℕ) (I : Interval) (b : Bool) (t : Bool) → reads nodes rules tokens τ a (w, I, b) ≡ t
+  terminal-derived : (τ a w : ℕ) (I : Interval) (b : Bool) (t : Bool) → reads tokens τ a (w, I, b) ≡ t
       → Derived τ (table.terminal a) (w, I, b) (cond t (ended (success (w + 1, afterToken b τ I (tokens .column w), false))) (ended failure))
   terminal-derived τ a w I b true e = is (terminal-read τ a w I b e)
   terminal-derived τ a w I b false e = is (terminal-unread τ a w I b e)
@@ -74,7 +74,7 @@ module _ (nodes rules : List ℕ) (tokens : Tokens) where
   module _ (run : ℕ → Form → State Interval → Result) (h : (τ : ℕ) (f : Form) (s : State Interval) → Derived τ f s (run τ f s)) where
     step-derived : (τ : ℕ) (f : Form) (s : State Interval) → Derived τ f s (step nodes rules tokens run τ f s)
     step-derived τ table.empty s = is empty
-    step-derived τ (table.terminal a) (w, I, b) = terminal-derived τ a w I b (reads nodes rules tokens τ a (w, I, b)) refl
+    step-derived τ (table.terminal a) (w, I, b) = terminal-derived τ a w I b (reads tokens τ a (w, I, b)) refl
     step-derived τ (table.rule x) s = made (λ o d. rule d) (h τ _ s)
     step-derived τ (table.sequence p q) s = after-derived _ _ _ (h τ _ _) (λ s' d. made (λ o e. sequence d e) (h τ _ _)) (λ d. is (sequence-fails d))
     step-derived τ (table.choice p q) s = after-derived _ _ _ (h τ _ _) (λ s' d. is (choice-first d)) (λ d. made (λ o e. choice-second d e) (h τ _ _))

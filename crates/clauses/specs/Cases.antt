@@ -1,8 +1,10 @@
 -- The bench cases a to j of 01 in one table, with the answers that 01 gives, and beside them cases that its slips would
--- break. A case is a run (nodes, rules, tokens, start) or a check. `CasesHold`, in proofs, computes them all.
-use Prim.Native.Nat.{ℕ, _-_}
+-- break. A case is a run (nodes, rules, tokens, start), answered by `runAnswer`, or a check, answered by `checkAnswer`.
+-- `CasesHold`, in proofs, computes them all.
+use Prim.Native.Nat.{ℕ}
 use mathlib.Core.Bool.{Bool, true, false}
 use mathlib.Core.List.{List, [], _∷_}
+use Rattle.table.specs.Answer.{Answer, given, refusedAt}
 use Rattle.table.specs.Words.{eachWords}
 use Rattle.table.specs.Form.{Form, empty, terminal, rule, sequence, choice, not, repeat, indent, position, align, other}
 use Rattle.columns.specs.Relations.{equal, greater, atLeast, any}
@@ -11,10 +13,9 @@ use Rattle.columns.specs.declared.Upper.{Upper}
 use Rattle.columns.specs.declared.Upper.the-variants.{At, Endless}
 use Rattle.columns.specs.declared.Interval.{Interval}
 use Rattle.columns.specs.declared.Start.{Start}
-use Rattle.well_formed.specs.Check.{NodeAnswer, given, refusedAt, checkAnswer}
-use Rattle.clauses.specs.Clauses.{success, failure}
-use Rattle.clauses.specs.Evaluation.{Result, ended, unfinished}
-use Rattle.clauses.specs.ThirdDemand.{ourResult}
+use Rattle.well_formed.specs.Check.{checkAnswer}
+use Rattle.clauses.specs.Clauses.{Outcome, success, failure}
+use Rattle.clauses.specs.RunAnswer.{runAnswer}
 
 -- The four words of a form, by 01's table of kinds.
 abbrev pub fourWords : Form → List ℕ
@@ -42,30 +43,29 @@ t at c = record { terminal = t; column = c }
 abbrev pub tokenWords : TokenAt → List ℕ
 tokenWords t = t .terminal ∷ t .column ∷ 0 ∷ 0 ∷ []
 
--- "Success answers the number of tokens read from that place on, the interval and the flag."
-pub data Answer : Type 0 where
-  reads : (tokens lower : ℕ) (upper : Upper) (flag : Bool) → Answer
-  fails : Answer
-  verdict : NodeAnswer Unit → Answer
-  -- the bound on depth was met: no outcome
-  unanswered : Answer
+-- What a run from place 0 answers: so many tokens read, an interval from a lower to an upper end, a flag.
+abbrev pub reads : (read lower : ℕ) (upper : Upper) (flag : Bool) → Answer (Outcome Interval)
+reads read lower upper flag = given (success (read, to lower upper, flag))
 
-abbrev pub answerFrom : Start → Result → Answer
-answerFrom start (ended (success s)) = reads (s .0 - start .place) (s .1 .lower) (s .1 .upper) (s .2)
-answerFrom start (ended failure) = fails
-answerFrom start unfinished = unanswered
+abbrev pub fails : Answer (Outcome Interval)
+fails = given failure
 
 pub data Case : Type 0 where
-  run : (nodes : List Form) (rules : List ℕ) (tokens : List TokenAt) (start : Start) (expected : Answer) → Case
-  check : (nodes : List Form) (rules : List ℕ) (expected : Answer) → Case
+  run : (nodes : List Form) (rules : List ℕ) (tokens : List TokenAt) (start : Start) (expected : Answer (Outcome Interval)) → Case
+  check : (nodes : List Form) (rules : List ℕ) (expected : Answer Unit) → Case
 
-abbrev pub expected : Case → Answer
-expected (run nodes rules tokens start answer) = answer
-expected (check nodes rules answer) = answer
+-- What a run, or a check, answers.
+pub data Answered : Type 0 where
+  ran : Answer (Outcome Interval) → Answered
+  checked : Answer Unit → Answered
 
-unfoldable pub answered : Case → Answer
-answered (run nodes rules tokens start answer) = answerFrom start (ourResult (eachWords fourWords nodes) rules (eachWords tokenWords tokens) start)
-answered (check nodes rules answer) = verdict (checkAnswer (eachWords fourWords nodes) rules)
+abbrev pub expected : Case → Answered
+expected (run nodes rules tokens start answer) = ran answer
+expected (check nodes rules answer) = checked answer
+
+unfoldable pub answered : Case → Answered
+answered (run nodes rules tokens start answer) = ran (runAnswer (eachWords fourWords nodes) rules (eachWords tokenWords tokens) start)
+answered (check nodes rules answer) = checked (checkAnswer (eachWords fourWords nodes) rules)
 
 -- "Start interval 0 without end and flag clear unless said": node, mode.
 abbrev pub from : ℕ → ℕ → Start
@@ -106,9 +106,9 @@ benchCases =
     ∷ run (terminal a ∷ indent 0 greater ∷ align 1 ∷ []) [] (a at 4 ∷ []) (record { node = 2; place = 0; interval = to 1 (At 1); flag = false; mode = equal }) (reads 1 1 (At 1) false)
     -- j. Check: repeat of empty is bad; repeat of not-empty passes; rule = (a or empty) then the rule, nodes in the order
     -- a, empty, choice, rule, sequence: bad at node 3.
-    ∷ check (empty ∷ repeat 0 ∷ []) [] (verdict (refusedAt 7 1))
-    ∷ check (empty ∷ not 0 ∷ repeat 1 ∷ []) [] (verdict (given tt))
-    ∷ check (terminal a ∷ empty ∷ choice 0 1 ∷ rule 0 ∷ sequence 2 3 ∷ []) (4 ∷ []) (verdict (refusedAt 7 3))
+    ∷ check (empty ∷ repeat 0 ∷ []) [] (refusedAt 7 1)
+    ∷ check (empty ∷ not 0 ∷ repeat 1 ∷ []) [] (given tt)
+    ∷ check (terminal a ∷ empty ∷ choice 0 1 ∷ rule 0 ∷ sequence 2 3 ∷ []) (4 ∷ []) (refusedAt 7 3)
     ∷ []
 
 -- Cases that each slip would break.

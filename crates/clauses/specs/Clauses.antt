@@ -1,6 +1,6 @@
--- The meaning of a grammar: the ten clauses of 001, section 2.1, over any column domain. In 001's words, e, τ ⊢ (w, I, b) → o:
--- "parsing expression e .. with input string w in the context of I and b assuming token mode τ results in o". An expression
--- is the form of a node, the rest w of the input is a place in the token list, and relations are numbers.
+-- The meaning of a grammar: the ten clauses of 001, section 2.1, over any column domain. Above each constructor stands its
+-- clause as a rule in 001's notation, premises ⟹ conclusion, and the clause's number. In e, τ ⊢ (w, I, b) → o an expression e
+-- is the form of a node, the rest w of the input is a place in the token list, and relations ρ, σ, τ are numbers.
 use Prim.Native.Nat.{ℕ, _+_, _<_}
 use mathlib.Core.Path.{_≡_}
 use mathlib.Core.Bool.{Bool, true, false, _&&_}
@@ -30,58 +30,51 @@ pub data Outcome {ℓ} (C : Type ℓ) : Type ℓ where
   success : State C → Outcome C
   failure : Outcome C
 
--- What clause 2 asks of a token at column i: "either b = ff and i ∈ τ⁻¹(I) or b = tt and i ∈ I".
+-- Clause 2 asks of a token at column i: b = ff ∧ i ∈ τ⁻¹(I), or b = tt ∧ i ∈ I.
 pub data Fits {ℓ κ} (D : Domain {ℓ, κ}) (τ i : ℕ) (I : D .Columns) : Bool → Type κ where
   clear : D .Member i (D .inner τ I) → Fits D τ i I false
   aligned : D .Member i I → Fits D τ i I true
 
 module _ {ℓ κ} (D : Domain {ℓ, κ}) (nodes rules : List ℕ) (tokens : Tokens) where
   pub data Run : ℕ → Form → State (D .Columns) → Outcome (D .Columns) → Type (ℓ ⊔ κ) where
-    -- 1. ε, τ ⊢ s → ⊤(s).
+    -- (1) ε, τ ⊢ s → ⊤(s)
     empty : {τ : ℕ} {s : State (D .Columns)} → Run τ table.empty s (success s)
-    -- 2. For every a, a, τ ⊢ (w, I, b) → o holds in two cases:
-    -- if o = ⊤(w', I', ff) for w', I', i such that w = aⁱw' and either b = ff and i ∈ τ⁻¹(I), I' = I ∩ τ({i}),
+    -- (2) w = aⁱw', i ∈ τ⁻¹(I) ⟹ a, τ ⊢ (w, I, ff) → ⊤(w', I ∩ τ({i}), ff)
     terminal-clear : {τ a i w : ℕ} {I : D .Columns} → Next tokens a i w → D .Member i (D .inner τ I)
         → Run τ (table.terminal a) (w, I, false) (success (w + 1, D .meet I (D .outer τ (D .one i)), false))
-    -- or b = tt and i ∈ I, I' = {i};
+    -- (2) w = aⁱw', i ∈ I ⟹ a, τ ⊢ (w, I, tt) → ⊤(w', {i}, ff)
     terminal-aligned : {τ a i w : ℕ} {I : D .Columns} → Next tokens a i w → D .Member i I
         → Run τ (table.terminal a) (w, I, true) (success (w + 1, D .one i, false))
-    -- if o = ⊥, and there are no w' and i such that w = aⁱw' with either b = ff and i ∈ τ⁻¹(I) or b = tt and i ∈ I.
+    -- (2) ∄ i, w': w = aⁱw' ∧ (b = ff ∧ i ∈ τ⁻¹(I) ∨ b = tt ∧ i ∈ I) ⟹ a, τ ⊢ (w, I, b) → ⊥
     terminal-fails : {τ a w : ℕ} {I : D .Columns} {b : Bool} → ((i : ℕ) → Next tokens a i w → Fits D τ i I b → ⊥)
         → Run τ (table.terminal a) (w, I, b) failure
-    -- 3. For every X, X, τ ⊢ s → o holds if δ(X), τ ⊢ s → o holds.
+    -- (3) δ(X), τ ⊢ s → o ⟹ X, τ ⊢ s → o
     rule : {τ x : ℕ} {s : State (D .Columns)} {o : Outcome (D .Columns)} → Run τ (form nodes (standsFor rules x)) s o → Run τ (table.rule x) s o
-    -- 4. For every p, q, pq, τ ⊢ s → o holds in two cases:
-    -- if there exists a triple s' such that p, τ ⊢ s → ⊤(s') and q, τ ⊢ s' → o;
+    -- (4) p, τ ⊢ s → ⊤(s'), q, τ ⊢ s' → o ⟹ pq, τ ⊢ s → o
     sequence : {τ p q : ℕ} {s s' : State (D .Columns)} {o : Outcome (D .Columns)} → Run τ (form nodes p) s (success s') → Run τ (form nodes q) s' o → Run τ (table.sequence p q) s o
-    -- if p, τ ⊢ s → ⊥ and o = ⊥.
+    -- (4) p, τ ⊢ s → ⊥ ⟹ pq, τ ⊢ s → ⊥
     sequence-fails : {τ p q : ℕ} {s : State (D .Columns)} → Run τ (form nodes p) s failure → Run τ (table.sequence p q) s failure
-    -- 5. For every p, q, p/q, τ ⊢ s → o holds in two cases:
-    -- if there exists a triple s' such that p, τ ⊢ s → ⊤(s') and o = ⊤(s');
+    -- (5) p, τ ⊢ s → ⊤(s') ⟹ p/q, τ ⊢ s → ⊤(s')
     choice-first : {τ p q : ℕ} {s s' : State (D .Columns)} → Run τ (form nodes p) s (success s') → Run τ (table.choice p q) s (success s')
-    -- if p, τ ⊢ s → ⊥ and q, τ ⊢ s → o.
+    -- (5) p, τ ⊢ s → ⊥, q, τ ⊢ s → o ⟹ p/q, τ ⊢ s → o
     choice-second : {τ p q : ℕ} {s : State (D .Columns)} {o : Outcome (D .Columns)} → Run τ (form nodes p) s failure → Run τ (form nodes q) s o → Run τ (table.choice p q) s o
-    -- 6. For every p, !p, τ ⊢ s → o holds in two cases:
-    -- if p, τ ⊢ s → ⊥ and o = ⊤(s);
+    -- (6) p, τ ⊢ s → ⊥ ⟹ !p, τ ⊢ s → ⊤(s)
     not : {τ p : ℕ} {s : State (D .Columns)} → Run τ (form nodes p) s failure → Run τ (table.not p) s (success s)
-    -- if there exists a triple s' such that p, τ ⊢ s → ⊤(s') and o = ⊥.
+    -- (6) p, τ ⊢ s → ⊤(s') ⟹ !p, τ ⊢ s → ⊥
     not-fails : {τ p : ℕ} {s s' : State (D .Columns)} → Run τ (form nodes p) s (success s') → Run τ (table.not p) s failure
-    -- 7. For every p, p*, τ ⊢ s → o holds in two cases:
-    -- if p, τ ⊢ s → ⊥ and o = ⊤(s);
+    -- (7) p, τ ⊢ s → ⊥ ⟹ p*, τ ⊢ s → ⊤(s)
     repeat-ends : {τ p : ℕ} {s : State (D .Columns)} → Run τ (form nodes p) s failure → Run τ (table.repeat p) s (success s)
-    -- if there exists a triple s' such that p, τ ⊢ s → ⊤(s') and p*, τ ⊢ s' → o.
+    -- (7) p, τ ⊢ s → ⊤(s'), p*, τ ⊢ s' → o ⟹ p*, τ ⊢ s → o
     repeat-again : {τ p : ℕ} {s s' : State (D .Columns)} {o : Outcome (D .Columns)} → Run τ (form nodes p) s (success s') → Run τ (table.repeat p) s' o → Run τ (table.repeat p) s o
-    -- 8. For every p and ρ, p^ρ, τ ⊢ (w, I, b) → o holds in two cases:
-    -- if there exists a triple (w', I', b') such that p, τ ⊢ (w, ρ⁻¹(I), b) → ⊤(w', I', b') and o = ⊤(w', I ∩ ρ(I'), b');
+    -- (8) p, τ ⊢ (w, ρ⁻¹(I), b) → ⊤(w', I', b') ⟹ p^ρ, τ ⊢ (w, I, b) → ⊤(w', I ∩ ρ(I'), b')
     indent : {τ p ρ w w' : ℕ} {I I' : D .Columns} {b b' : Bool} → Run τ (form nodes p) (w, D .inner ρ I, b) (success (w', I', b'))
         → Run τ (table.indent p ρ) (w, I, b) (success (w', D .meet I (D .outer ρ I'), b'))
-    -- if p, τ ⊢ (w, ρ⁻¹(I), b) → ⊥ and o = ⊥.
+    -- (8) p, τ ⊢ (w, ρ⁻¹(I), b) → ⊥ ⟹ p^ρ, τ ⊢ (w, I, b) → ⊥
     indent-fails : {τ p ρ w : ℕ} {I : D .Columns} {b : Bool} → Run τ (form nodes p) (w, D .inner ρ I, b) failure → Run τ (table.indent p ρ) (w, I, b) failure
-    -- 9. For every p and σ, p_σ, τ ⊢ s → o holds if p, σ ⊢ s → o holds.
+    -- (9) p, σ ⊢ s → o ⟹ p_σ, τ ⊢ s → o
     position : {τ p σ : ℕ} {s : State (D .Columns)} {o : Outcome (D .Columns)} → Run σ (form nodes p) s o → Run τ (table.position p σ) s o
-    -- 10. For every p, |p|, τ ⊢ (w, I, b) → o holds in two cases:
-    -- if there exists a triple (w', I', b') such that p, τ ⊢ (w, I, tt) → ⊤(w', I', b') and o = ⊤(w', I', b ∧ b');
+    -- (10) p, τ ⊢ (w, I, tt) → ⊤(w', I', b') ⟹ |p|, τ ⊢ (w, I, b) → ⊤(w', I', b ∧ b')
     align : {τ p w w' : ℕ} {I I' : D .Columns} {b b' : Bool} → Run τ (form nodes p) (w, I, true) (success (w', I', b'))
         → Run τ (table.align p) (w, I, b) (success (w', I', b && b'))
-    -- if p, τ ⊢ (w, I, tt) → ⊥ and o = ⊥.
+    -- (10) p, τ ⊢ (w, I, tt) → ⊥ ⟹ |p|, τ ⊢ (w, I, b) → ⊥
     align-fails : {τ p w : ℕ} {I : D .Columns} {b : Bool} → Run τ (form nodes p) (w, I, true) failure → Run τ (table.align p) (w, I, b) failure

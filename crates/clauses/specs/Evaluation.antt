@@ -21,15 +21,21 @@ after (ended (success s)) next otherwise = next s
 after (ended failure) next otherwise = otherwise
 after unfinished next otherwise = unfinished
 
-module _ (nodes rules : List ℕ) (tokens : Tokens) where
-  -- Whether clause 2 reads the token at place w as terminal a.
-  abbrev pub reads : ℕ → ℕ → State Interval → Bool
-  reads τ a s = ltb (s .0) (tokens .count) && eqb (tokens .terminal (s .0)) a && fits (s .2) τ (s .1) (tokens .column (s .0))
+-- Whether clause 2 reads the token at place w as terminal a.
+abbrev pub reads : Tokens → ℕ → ℕ → State Interval → Bool
+reads tokens τ a s = ltb (s .0) (tokens .count) && eqb (tokens .terminal (s .0)) a && fits (s .2) τ (s .1) (tokens .column (s .0))
 
+-- The outcome in a result. One that met the bound may be anything, as no grammar that passes the check meets it
+-- (`outcome-derived`, in `Existence`); failure is the value that needs no state.
+abbrev pub outcomeIn : Result → Outcome Interval
+outcomeIn (ended o) = o
+outcomeIn unfinished = failure
+
+module _ (nodes rules : List ℕ) (tokens : Tokens) where
   -- The clauses, in their order, by a function for what they call.
   abbrev pub step : (ℕ → Form → State Interval → Result) → ℕ → Form → State Interval → Result
   step run τ empty s = ended (success s)
-  step run τ (terminal a) s = cond (reads τ a s) (ended (success (s .0 + 1, afterToken (s .2) τ (s .1) (tokens .column (s .0)), false))) (ended failure)
+  step run τ (terminal a) s = cond (reads tokens τ a s) (ended (success (s .0 + 1, afterToken (s .2) τ (s .1) (tokens .column (s .0)), false))) (ended failure)
   step run τ (rule x) s = run τ (form nodes (standsFor rules x)) s
   step run τ (sequence p q) s = after (run τ (form nodes p) s) (λ s'. run τ (form nodes q) s') (ended failure)
   step run τ (choice p q) s = after (run τ (form nodes p) s) (λ s'. ended (success s')) (run τ (form nodes q) s)
@@ -50,13 +56,6 @@ module _ (nodes rules : List ℕ) (tokens : Tokens) where
   abbrev pub enough : ℕ
   enough = (tokens .count + 1) * (nodeCount nodes + 1)
 
-  abbrev pub outcomeIn : Result → Outcome Interval
-  outcomeIn (ended o) = o
-  outcomeIn unfinished = failure
-
   -- The outcome of node n in mode τ from a state.
-  unfoldable pub evaluated : ℕ → ℕ → State Interval → Result
-  evaluated τ n s = evaluate enough τ (form nodes n) s
-
   unfoldable pub outcomeFor : ℕ → ℕ → State Interval → Outcome Interval
-  outcomeFor τ n s = outcomeIn (evaluated τ n s)
+  outcomeFor τ n s = outcomeIn (evaluate enough τ (form nodes n) s)
