@@ -2,4 +2,3 @@ pub mod LeafLaws
 pub mod LowLaws
 pub mod WalkLaws
 pub mod RunLaws
-pub mod RunAgreement

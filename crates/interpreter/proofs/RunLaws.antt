@@ -1,39 +1,41 @@
 -- What a run answers, over plain values: by the walk's outcome, or by the first number that applies.
-use Prim.Native.Nat.{ℕ, _-_, _≤_}
-use mathlib.Core.Path.{_≡_, refl, ap}
+use Prim.Native.Nat.{ℕ, _+_, _-_, _≤_}
+use mathlib.Core.Path.{_≡_, refl, ap, _∙_}
 use mathlib.Core.Bool.{true, false}
 use mathlib.Core.List.{List}
 use native.Mathlib.Omega.{arith}
 use Rattle.table.specs.Form.{form}
 use Rattle.columns.specs.Intervals.{ends}
+use Rattle.columns.specs.declared.Interval.{Interval}
 use Rattle.columns.specs.declared.State.{State}
 use Rattle.columns.specs.declared.Start.{Start}
 use Rattle.columns.specs.declared.Outcome.{Outcome}
 use Rattle.columns.specs.declared.Outcome.the-variants.{Success, Failure}
-use Rattle.well_formed.specs.Check.{NodeAnswer, given, refused, refusedAt, checkAnswer}
+use Rattle.table.specs.Answer.{Answer, given, refused, refusedAt}
+use Rattle.table.proofs.AnswerLaws.{first-refuses, first-names, first-passes}
+use Rattle.well_formed.specs.Check.{checkAnswer}
 use Rattle.well_formed.proofs.VerdictLaws.{check-means}
 use Rattle.clauses.specs.Clauses as clauses
 use Rattle.clauses.specs.Limits.{tokensOf, fails11, fails12, WithinLimits}
-use Rattle.clauses.specs.ThirdDemand.{EndsRun, ourOutcome}
+use Rattle.clauses.specs.RunAnswer.{EndsRun, ourOutcome, runAnswer, Reads}
 use Rattle.agreement.proofs.Narrows.{onward}
 use Rattle.agreement.proofs.Agreement.{outcome-only}
 use Rattle.agreement.proofs.LimitLaws.{begins}
-use Rattle.interpreter.specs.RunAnswer.{Ended, success, failure, endedFrom, runAnswer}
 use Rattle.interpreter.specs.InternalWalk.{outcomeOf, Checked, Ready, Gives}
 use Rattle.interpreter.proofs.WalkLaws.{weight-most}
 
 module _ (nodes rules words : List ℕ) (start : Start) where
-  abbrev Answered : NodeAnswer Ended → Type 0
+  abbrev Answered : Answer (clauses.Outcome Interval) → Type 0
   Answered v = v ≡ runAnswer nodes rules words start
 
   -- The grammar is refused.
   pub check-refuses : {number : ℕ} → refused number ≡ checkAnswer nodes rules → Answered (refused number)
   unfolding runAnswer
-  check-refuses e = rw (← e) refl
+  check-refuses e = first-refuses _ e
 
   pub check-names : {number node : ℕ} → refusedAt number node ≡ checkAnswer nodes rules → Answered (refusedAt number node)
   unfolding runAnswer
-  check-names e = rw (← e) refl
+  check-names e = first-names _ e
 
   module _ (passed : checkAnswer nodes rules ≡ given tt) where
     -- 11 and 12.
@@ -68,11 +70,11 @@ module _ (nodes rules words : List ℕ) (start : Start) where
         settled : outcomeOf o ≡ ourOutcome nodes rules words start
         settled = outcome-only nodes rules words start limits (checked .well) (outcomeOf o) (d .derived)
 
-        answered : Answered (given (endedFrom (start .place) (outcomeOf o)))
+        answered : Answered (given (outcomeOf o))
         unfolding runAnswer
-        answered = rw (passed, tokens, begin) (ap (λ (v : clauses.Outcome _). given (endedFrom (start .place) v)) settled)
+        answered = rw (passed, tokens, begin) (ap given settled)
 
-      pub answer-failure : {o : Outcome} → o ≡ Failure → Gives nodes rules words (start .mode) (form nodes (start .node)) from o → Answered (given failure) × EndsRun nodes rules words start clauses.failure
+      pub answer-failure : {o : Outcome} → o ≡ Failure → Gives nodes rules words (start .mode) (form nodes (start .node)) from o → Answered (given clauses.failure) × EndsRun nodes rules words start clauses.failure
       answer-failure {o} e d = let f : Gives nodes rules words (start .mode) (form nodes (start .node)) from Failure = rw e at d in (answered Failure f, f .derived)
 
       module _ (u : State) {o : Outcome} (e : o ≡ Success u) (d : Gives nodes rules words (start .mode) (form nodes (start .node)) from o) where
@@ -82,5 +84,9 @@ module _ (nodes rules words : List ℕ) (start : Start) where
         pub success-onward : start .place ≤ u .place
         success-onward = onward ends nodes rules (tokensOf words) (moved .derived)
 
-        pub answer-success : Answered (given (success (u .place - start .place) (u .interval .lower) (u .interval .upper) (u .flag))) × (EndsRun nodes rules words start (clauses.success (u .place, u .interval, u .flag)) × (_≡_ {A = ℕ} (u .place - start .place) (u .place - start .place)))
-        answer-success = (answered (Success u) moved, (moved .derived, refl))
+        -- The tokens read end at the walk's place.
+        read : Reads (start .place) (u .place - start .place) (u .place)
+        read = let h = success-onward in omega arith
+
+        pub answer-success : Answered (given (clauses.success (start .place + (u .place - start .place), u .interval, u .flag))) × (EndsRun nodes rules words start (clauses.success (u .place, u .interval, u .flag)) × Reads (start .place) (u .place - start .place) (u .place))
+        answer-success = (ap (λ (w : ℕ). given (clauses.success (w, u .interval, u .flag))) read ∙ answered (Success u) moved, (moved .derived, read))

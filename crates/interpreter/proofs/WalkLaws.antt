@@ -117,10 +117,10 @@ module _ (nodes rules words : List ℕ) where
   -- One token.
   token-gives : (τ a : ℕ) (s : State) → Gives nodes rules words τ (table.terminal a) s (tokenOutcome words τ a s)
   unfolding tokenOutcome
-  token-gives τ a s = made (by-test (reads words words (tokensOf words) τ a (stateOf s)) refl)
+  token-gives τ a s = made (by-test (reads (tokensOf words) τ a (stateOf s)) refl)
     where
-      by-test : (t : Bool) → reads words words (tokensOf words) τ a (stateOf s) ≡ t
-          → Run ends nodes rules (tokensOf words) τ (table.terminal a) (stateOf s) (outcomeOf (cond (reads words words (tokensOf words) τ a (stateOf s)) (Success (record { place = s .place + 1; interval = afterToken (s .flag) τ (s .interval) (tokensOf words .column (s .place)); flag = false })) Failure))
+      by-test : (t : Bool) → reads (tokensOf words) τ a (stateOf s) ≡ t
+          → Run ends nodes rules (tokensOf words) τ (table.terminal a) (stateOf s) (outcomeOf (cond (reads (tokensOf words) τ a (stateOf s)) (Success (record { place = s .place + 1; interval = afterToken (s .flag) τ (s .interval) (tokensOf words .column (s .place)); flag = false })) Failure))
       by-test true e = rw e (let q = terminal-read nodes rules (tokensOf words) τ a (s .place) (s .interval) (s .flag) e in q)
       by-test false e = rw e (terminal-unread nodes rules (tokensOf words) τ a (s .place) (s .interval) (s .flag) e)
 

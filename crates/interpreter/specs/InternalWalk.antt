@@ -55,7 +55,7 @@ alignedState s u = withFlag u (s .flag && u .flag)
 -- Clause 2: tokens, mode, terminal, state.
 unfoldable pub tokenOutcome : List ℕ → ℕ → ℕ → State → Outcome
 tokenOutcome words τ a s =
-    cond (reads words words (tokensOf words) τ a (stateOf s))
+    cond (reads (tokensOf words) τ a (stateOf s))
     (Success (record { place = s .place + 1; interval = afterToken (s .flag) τ (s .interval) (tokensOf words .column (s .place)); flag = false }))
     Failure
 

@@ -1,3 +1,2 @@
-pub mod RunAnswer
-pub mod RunDemand
+pub mod Numbers
 pub mod InternalWalk

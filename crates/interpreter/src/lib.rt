@@ -12,8 +12,10 @@ use limits::tokens_wrong;
 use walk::expression;
 use well_formed::Verdict;
 ghost use mathlib.Core.Path.{_≡_};
-ghost use Rattle.well_formed.specs.Check.{checkAnswer, given as passed};
-ghost use Rattle.interpreter.specs.RunAnswer.{numbers, runAnswer, Derived};
+ghost use Rattle.table.specs.Answer.{given as passed};
+ghost use Rattle.well_formed.specs.Check.{checkAnswer};
+ghost use Rattle.clauses.specs.RunAnswer.{runAnswer};
+ghost use Rattle.interpreter.specs.Numbers.{numbers, Derived};
 
 // What a run answers: success with the number of tokens read and the state, failure, the number of the first check that
 // fails, or the lowest node that is not well formed (7).
@@ -26,7 +28,7 @@ pub enum Ran {
 
 // Runs a grammar on tokens from a start. It writes nothing.
 pub fn run(nodes: &[u16], rules: &[u16], tokens: &[u32], start: Start) -> Ran
-    ensures { λ r. ⌜ numbers r ≡ runAnswer (now (nodes .entry)) (now (rules .entry)) (now (tokens .entry)) start ⌝ }
+    ensures { λ r. ⌜ numbers (start .place) r ≡ runAnswer (now (nodes .entry)) (now (rules .entry)) (now (tokens .entry)) start ⌝ }
     ensures { λ r. ⌜ Derived (now (nodes .entry)) (now (rules .entry)) (now (tokens .entry)) start r ⌝ }
 {
     match well_formed::check(nodes, rules) {
@@ -39,7 +41,7 @@ pub fn run(nodes: &[u16], rules: &[u16], tokens: &[u32], start: Start) -> Ran
 // Runs a grammar that passes the check.
 fn begin(nodes: &[u16], rules: &[u16], tokens: &[u32], start: Start) -> Ran
     requires { ⌜ checkAnswer (now nodes) (now rules) ≡ passed tt ⌝ }
-    ensures { λ r. ⌜ numbers r ≡ runAnswer (now (nodes .entry)) (now (rules .entry)) (now (tokens .entry)) start ⌝ }
+    ensures { λ r. ⌜ numbers (start .place) r ≡ runAnswer (now (nodes .entry)) (now (rules .entry)) (now (tokens .entry)) start ⌝ }
     ensures { λ r. ⌜ Derived (now (nodes .entry)) (now (rules .entry)) (now (tokens .entry)) start r ⌝ }
 {
     if tokens_wrong(tokens) {
