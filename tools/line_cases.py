@@ -230,7 +230,7 @@ case("second line not equal", grammar(COLUMNS, EQUAL), b"  x\n   y", FAILURE)
 case("choice takes a", grammar([A, B, choice(0, 1)], EQUAL), b" :", success(1, 1, 1))
 case("choice takes b", grammar([A, B, choice(0, 1)], EQUAL), b" ,", success(1, 1, 1))
 case("choice takes neither", grammar([A, B, choice(0, 1)], EQUAL), b" ;", FAILURE)
-# 001: "ab/a consumes the input string ab entirely while a/ab only consumes its first" symbol.
+# The order counts (001, section 1): of ab, ab/a reads both tokens, a/ab only a.
 case("a b or a", grammar([A, B, seq(0, 1), choice(2, 0)], ANY), b":,", success(2, 0, "inf"))
 case("a or a b", grammar([A, B, seq(0, 1), choice(0, 2)], ANY), b":,", success(1, 0, "inf"))
 # The first alternative has succeeded; what follows fails and nothing else is tried.
