@@ -311,7 +311,7 @@ for value in (b"", b"\x01\x00", b"\x01\x01", b"\x00\x01", b"\x01\x01\x01", bytes
 for value in (0, 2, 3, 49, 129, 255):
     refused(f"tag 1 of value {value}", 1, field(1, bytes([value])) + TAIL)
 
-# "wrong value length (a tag 3 value only if under two bytes; keyword and name lengths are 2)".
+# "wrong value length (a tag 3 value only if under two bytes ..)": other lengths of a rule are 2.
 refused("tag 3 of 0 bytes", 1, VERSION + field(3, b"") + TAIL)
 refused("tag 3 of 1 byte", 1, VERSION + field(3, b"\0") + TAIL)
 refused("tag 3 of 1 letter", 1, VERSION + field(3, b"r") + TAIL)
@@ -430,7 +430,7 @@ for byte in FINE:
         reads(f"byte {byte} {said} in a keyword", (1, 0, 1, 0, 0), with_keywords(text))
         reads(f"byte {byte} {said} in a name", (1, 1, 0, 0, 0), with_names(text))
 
-# "A keyword that holds one of the nine single bytes below has length 1." Names have no such rule.
+# "A keyword that holds one of the nine single bytes .." Names have no such rule.
 for byte in b":,()[]=;%":
     sign = bytes([byte])
     said = sign.decode()
@@ -908,7 +908,7 @@ part("n", "not refused, name 0", 0, GOOD + TAIL, "r")
 
 # --- The table by itself -------------------------------------------------------------------------
 
-# "node words no multiple of 4, node or rule count outside the limits" is 3.
+# "node words no multiple of 4, node or rule count .." is 3.
 for count in (0, 1, 2, 3, 5, 6, 7, 2047, 2049, 2050, 2051, 2052, 2056, 2100):
     table(f"table, {count} words", [0] * count, [], "refused 3")
 for count in (4, 8, 2044, 2048):

@@ -56,8 +56,8 @@ FEW = 24  # Scans of no more tokens than these have every word printed.
 
 
 def scanned(tokens):
-    """The line of a scan that answers these tokens. "A token is four words in a lent slice of u32:
-    terminal, column, offset, length." "After success, words past those written are as before." """
+    """The line of a scan that answers these tokens. "A token is four words in a lent slice of u32 .."
+    "After success, words past those written are as before." """
     line = f"tokens {len(tokens)}"
     for token in tokens if len(tokens) <= FEW else tokens[-2:]:
         line += spaced(" |", token)
@@ -80,7 +80,7 @@ def scan(label, file, report, tokens, lent):
 
 def reads(label, file, report, tokens, column, lent=None):
     """The same, and the tokens handed out one by one are these too. "After the last token the answer
-    is none, with the offset at the end"; the column given is the one reached there.
+    is none ..": the column given is the one reached there.
 
     Where nothing else is said, six words more are lent than needed.
     """
@@ -187,8 +187,7 @@ reads("`a` and 8 words", PLAIN, b"a", A, 1, 8)
 # "A tab then `a`: column 8, offset 1."
 reads("tab then `a`", PLAIN, b"\ta", [(1, 8, 1, 1), (2, 9, 2, 0)], 9)
 
-# "With keywords `loss` and `:`, the sequence of terminals 3, 4, 0, 2 .. and the text `  loss: 0.03`
-# without a break".
+# "With keywords `loss` and `:` .. and the text `  loss: 0.03` without a break".
 BENCH = with_keywords(b"loss", b":")
 walk(
     "bench",
@@ -270,7 +269,7 @@ for byte in range(256):
         reads(between, PLAIN, b"a\tc", [(1, 0, 0, 1), (1, 8, 2, 1), (2, 9, 3, 0)], 9)
         reads(behind, LOSS, b"loss\t", [(3, 0, 0, 4), (2, 8, 5, 0)], 8)
     elif byte in (13, 32):
-        # "Bytes 13 and 32 are blanks. Each byte but 9 and 10 advances the column by one."
+        # "Bytes 13 and 32 are blanks. Each byte but 9 and 10 advances .."
         reads(alone, PLAIN, text, [], 1)
         reads(between, PLAIN, b"a" + text + b"c", [(1, 0, 0, 1), (1, 2, 2, 1), (2, 3, 3, 0)], 3)
         reads(behind, LOSS, b"loss" + text, [(3, 0, 0, 4), (2, 5, 5, 0)], 5)
@@ -307,7 +306,7 @@ for byte in (0, 8, 11, 12, 14, 31, 127):
 
 # --- Blanks, tabs and columns --------------------------------------------------------------------
 
-# "Bytes 13 and 32 are blanks. Each byte but 9 and 10 advances the column by one."
+# "Bytes 13 and 32 are blanks. Each byte but 9 and 10 advances .."
 for n in range(10):
     reads(f"{n} blanks then `a`", PLAIN, b" " * n + b"a", [(1, n, n, 1), (2, n + 1, n + 1, 0)], n + 1)
     reads(f"`a` then {n} blanks", PLAIN, b"a" + b" " * n, [(1, 0, 0, 1), (2, n + 1, n + 1, 0)], n + 1)
@@ -347,8 +346,7 @@ for label, text, tokens, column in (
 
 # --- Lines ---------------------------------------------------------------------------------------
 
-# "A line with a token ends in a token of terminal 2, also at the end of the text, at the column and
-# offset of the break or the end, length 0."
+# "A line with a token ends in a token of terminal 2 .."
 for label, text, tokens, column in (
     ("empty report", b"", [], 0),
     ("one break", b"\n", [], 0),
@@ -396,7 +394,7 @@ for n in (1, 2, 31, 32, 33, 64, 255, 256, 257, 4096):
 
 # --- Numbers -------------------------------------------------------------------------------------
 
-# "0 for a number (an optional `-`, digits, optionally `.` and digits, each group non-empty); else 1"
+# "0 for a number (an optional `-`, digits, optionally `.` and digits ..); else 1"
 NUMBERS = (
     "0 -0 007 1.5 -1.5 1 9 10 -1 00 0.0 -0.0 0.03 -00.10 123456789.987654321 00000000000000000000.0 "
     "99999999999999999999999 -99999999999999999999999 1.0 -1.00"
@@ -444,7 +442,7 @@ for label, text, tokens in (
 ):
     reads(f"number beside, {label}", PLAIN, text, tokens, len(text))
 
-# "3 + k where the spelling equals keyword k (from 0); else 0 for a number": the keyword comes first.
+# "3 + k where .. else 0 for a number": the keyword comes first.
 for spelling in NUMBERS + WORDS:
     text = spelling.encode()
     n = len(text)
@@ -643,7 +641,7 @@ reads("repeat of empty", VERSION + EMPTY + node(6, 0) + start(1), b"a", A, 1)
 
 # --- Files that are refused ----------------------------------------------------------------------
 
-# "The file reader uses 1 to 6, the scanner 1 to 5 and 8 to 10".
+# "the scanner 1 to 5 and 8 to 10".
 FILE_65535 = VERSION + keyword(b"kk") + EMPTY * 7280 + START
 FILE_65536 = VERSION + rule(0, b"r") + EMPTY * 7280 + START
 assert len(FILE_65535) == 65535 and len(FILE_65536) == 65536
@@ -893,9 +891,7 @@ for taken in itertools.product((False, True), repeat=8):
 
 # --- Single steps --------------------------------------------------------------------------------
 
-# "After a token the value stands right behind it, its line having had one. After a line end the line
-# has had none, and the value stands behind the break at column 0, or at the end of the text with its
-# column kept. After the last token the answer is none, with the offset at the end."
+# "After a token the value stands right behind it .. After a line end .. After the last token .."
 walk("steps, empty", PLAIN, b"", [(None, (0, 0, False))])
 walk("steps, blanks", PLAIN, b"  ", [(None, (2, 2, False))])
 walk("steps, empty lines", PLAIN, b"\n \n\t", [(None, (4, 8, False))])
@@ -1029,7 +1025,7 @@ for said, report, before, after in (
 ):
     step(f"no token, {said}", PLAIN, report, before, None, after)
 
-# "an offset past the text or a column over 524,280 is 8 too".
+# "an offset past the text or a column over 524,280 ..".
 for mark in (False, True):
     said = "mark set" if mark else "mark clear"
     for length, at in ((0, 1), (3, 4), (3, 5), (3, 65535), (3, 65536), (65535, 65536)):
