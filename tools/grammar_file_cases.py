@@ -4,8 +4,9 @@
 Run it at the top of the repository. It writes crates/grammar_file_cases/data/cases and
 crates/grammar_file_cases/stdout, the same bytes each time.
 
-Nothing here reads a grammar file. Each call, or family of calls, has its answer written beside the
-bytes that are put together for it, and a comment quotes the words of document 01 that decide it.
+Nothing here reads a grammar file. Each call has its answer written beside the bytes that are put
+together for it; a family of calls has one answer for all, or the rule that gives each, in its loop or
+function. A comment quotes the words of document 01 that decide it.
 """
 
 import itertools
@@ -224,6 +225,7 @@ FIVE = {
 
 
 def tags(order):
+    """The fields of these tags, in this order."""
     return b"".join(FIVE[tag] for tag in order)
 
 
@@ -541,6 +543,8 @@ refused("128 alike names, first two equal", 2, with_names(LONG[1], *LONG[1:128])
 
 
 def tried(label, words, number):
+    """A node that passes (None), or that a file and the table by itself are refused for by the number. A file
+    is tried where the words have room in its bytes."""
     kind, a, b, relation = words
     nodes = [(0, 0, 0, 0), (1, 9, 0, 0), words, (0, 0, 0, 0)]
     flat = [word for node_ in nodes for word in node_]
@@ -821,6 +825,7 @@ for number, said, file, lent in (
 
 
 def faults(said, chosen, answer, file, lent):
+    """A file with the faults chosen, one of each number: read if there are none, else refused by the lowest."""
     label = spaced(f"{said} faults", chosen or ("none",))
     if not chosen:
         reads(label, answer, file, lent)

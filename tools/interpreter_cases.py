@@ -4,8 +4,9 @@
 Run it at the top of the repository. It writes crates/interpreter_cases/data/cases and
 crates/interpreter_cases/stdout, the same bytes each time.
 
-Nothing here runs a grammar. Each call, or family of calls, has its answer written beside it, worked out
-by hand, and a comment quotes the words of document 01 or names the clause of document 001 that decide it.
+Nothing here runs a grammar. Each call has its answer written beside it, worked out by hand; a family of
+calls has one answer for all, or the rule that gives each, in its loop or function. A comment quotes the
+words of document 01 or names the clause of document 001 that decide it.
 
 How expressions are written: a to z are terminals 1 to 26, capitals are rules, `empty` is empty; p q, p / q,
 !p and p* as in 001; p^R is an indent, p_R a position and [p] an align, where R is =, >, >= or any. A token is
@@ -520,6 +521,8 @@ for mode in (4, 5, 7, 255, 256, 257, 258, 259, 32768, 65535):
 
 
 def ordered(label, chosen, ill, nodes, rules, tokens, start):
+    """A call with the faults chosen: success if there are none, else refused by the lowest; for 7 the node is
+    `ill`."""
     said = " ".join(map(str, chosen)) or "none"
     if not chosen:
         line = success("1 0 5 clear", 0)

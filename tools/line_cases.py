@@ -1,7 +1,8 @@
 """Writes the stored cases for the line that 01's program prints: crates/line_cases/data/cases and its stdout.
 
-Every answer stands beside its inputs and was worked out by hand from the words of 01 that are quoted there.
-Nothing here reads a grammar file, scans a report or runs a grammar.
+Every single answer stands beside its inputs and was worked out by hand from the words of 01 that are quoted
+there; a family of cases has one answer for all, or the rule that gives each, in its loop. Nothing here reads a
+grammar file, scans a report or runs a grammar.
 
 A record: the label's length (one byte), ten numbers of three bytes each, high byte first, the label, the
 stored bytes of the grammar file, the stored bytes of the report. The first five numbers tell how the file is
@@ -41,6 +42,7 @@ CASES = []
 
 
 def case(label, file, report, line):
+    """A grammar file, a report, and the line expected of them."""
     CASES.append((label, file, report, line))
 
 
@@ -98,6 +100,7 @@ EXAMPLE = b"  loss: 0.03"
 
 
 def loss_file(mode):
+    """The grammar of that example, in this mode."""
     return grammar(LOSS_NODES, mode, LOSS)
 
 
@@ -457,6 +460,7 @@ PAPER = [C, not_(0), not_(1), A, call(1), choice(3, 4), choice(2, 5), B, call(0)
 
 
 def paper(text, line):
+    """That grammar on a text where a, b, c and _ stand for the three keywords and a blank."""
     case(f"paper grammar on {text or 'no text'}", grammar(PAPER, EQUAL, rules=[6, 12]),
          text.translate(str.maketrans("abc_", ":,; ")).encode(), line)
 
@@ -644,6 +648,7 @@ case("column below lines without a token", grammar(SECOND, EQUAL), b"abc\n\n \t\
 COUNT = grammar([A, END, choice(0, 1), repeat(2)], ANY)
 for n in (8, 9, 98, 99, 998, 999, 4094, 4095):
     case(f"{n:,} tokens and a line end", COUNT, b":" * n, success(n + 1, 0, "inf"))
+# A word at column c: 0 to c - 1 in mode greater, c to c in mode equal.
 for column in (9, 10, 11, 99, 100, 101, 1000, 1001, 9999, 10000, 10001):
     text = b" " * column + b"w"
     case(f"column {column:,} mode greater", grammar([WORD], GREATER), text, success(1, 0, column - 1))
@@ -1177,6 +1182,8 @@ TEXTS = (
 MORE_TEXTS = (
     ("no text", b""), ("a length of 8", b" " * 65536), ("9", b"\t" * 8192 + b"a"), ("10", b":" * 4096),
 )
+# The file's number is lower than the text's, so its line holds whatever the text is. The first two texts go
+# with each file, the others with the first file of each number.
 for name, text in TEXTS:
     for number, kind, file, line in FILES:
         case(f"{number} {kind}, with {name}", file, text, line)

@@ -308,6 +308,7 @@ run("001 2.2 something read", "001 theorem 2.1", "reading clears the flag", "suc
 
 
 def pair(name, source, shows, expected, left, right, tokens, **more):
+    """The two sides of a law, a run each, with the same outcome."""
     run(f"001 2.3 {name} left", source, shows, expected, left, tokens, **more)
     run(f"001 2.3 {name} right", source, shows, expected, right, tokens, **more)
 
@@ -834,6 +835,7 @@ SEC3 = "001 section 3"
 
 
 def stages(name, shows, expected, tokens, every=False):
+    """The original and the final grammar on the same tokens, and if asked the two between, with one outcome."""
     run(f"001 3 original grammar {name}", SEC3, shows, expected, S_ORIGINAL, tokens, ORIGINAL)
     if every:
         run(f"001 3 stage 1 grammar {name}", SEC3, shows, expected, S_STAGE1, tokens, STAGE1)
@@ -1191,6 +1193,7 @@ H_EOF = pos(ANY, no(alt(*(t(k) for k in range(14)))))
 
 
 def haskell(label, source, shows, expected, text, start=H_PROGRAM, rules=HASKELL):
+    """A report read with the Haskell keywords."""
     report(label, source, shows, expected, HASKELL_KEYS, start, text, rules)
 
 

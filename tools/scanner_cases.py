@@ -4,8 +4,9 @@
 Run it at the top of the repository. It writes crates/scanner_cases/data/cases and
 crates/scanner_cases/stdout, the same bytes each time.
 
-Nothing here scans a report. Each call, or family of calls, has its tokens written beside the bytes
-that are put together for it, and a comment quotes the words of document 01 that decide it.
+Nothing here scans a report. Each call has its tokens written beside the bytes that are put together
+for it; a family of calls has the rule that gives its tokens, in its loop or function. A comment quotes
+the words of document 01 that decide it.
 """
 
 import itertools
@@ -167,11 +168,13 @@ def apart(*pairs):
 
 
 def reads_apart(label, file, *pairs):
+    """`reads` of the line of `apart`: a token for each spelling, where it begins, then the line's end."""
     text, tokens = apart(*pairs)
     reads(label, file, text, tokens, len(text))
 
 
 def scan_apart(label, file, *pairs):
+    """The same for `scan`."""
     text, tokens = apart(*pairs)
     scan(label, file, text, tokens, 4 * len(tokens) + 6)
 
@@ -248,6 +251,7 @@ reads(
 
 # --- One byte, and one byte between two letters --------------------------------------------------
 
+# Each byte alone, between `a` and `c`, and behind keyword loss: a rule for each class of bytes.
 for byte in range(256):
     text = bytes([byte])
     alone = f"byte {byte} alone"
@@ -467,6 +471,7 @@ reads_apart(
 
 # --- Single bytes --------------------------------------------------------------------------------
 
+# Each is a token of length 1 wherever it stands, of terminal 1, or 3 + k where it is keyword k.
 for byte in NINE:
     text = bytes([byte])
     name = text.decode()
@@ -858,7 +863,8 @@ refused_scan("9 before 10, line end 5001 too far", 9, PLAIN, b":" * 5000 + T8192
 refused_scan("9 before 10, last of 20001 tokens too far", 9, PLAIN, b"a\n" * 10000 + T8192 + b"a", 16400)
 refused_scan("10, 5000 tokens and 8192 tabs", 10, PLAIN, b"a\n" * 2500 + T8192, 16400)
 
-# Every choice of faults, one of each number: the answer is the lowest number chosen.
+# Every choice of faults, one of each number: the answer is the lowest number chosen. In the first set
+# those of lower numbers mostly stand later in the file and in the report, in the second earlier.
 for taken in itertools.product((False, True), repeat=8):
     chosen = tuple(n for i, n in enumerate((8, 9, 10, 1, 2, 3, 4, 5)) if taken[i])
     file = VERSION + keyword(b"k") + rule(7 if 5 in chosen else 0, b"first")

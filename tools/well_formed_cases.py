@@ -4,8 +4,9 @@
 Run it at the top of the repository. It writes crates/well_formed_cases/data/cases and
 crates/well_formed_cases/stdout, the same bytes each time.
 
-Nothing here decides whether a table is well formed. Each table, or family of tables, has its verdict
-written beside it, and a comment quotes the words of document 01 that decide it. N, S and F stand for
+Nothing here decides whether a table is well formed. Each table has its verdict written beside it; a
+family of tables has one verdict for all, or the rule that gives each, in its loop or function. A
+comment quotes the words of document 01 that decide it. N, S and F stand for
 the three facts: may succeed reading nothing, may succeed reading something, may fail. X, Y and Z are
 rules, a and b terminals.
 """
@@ -973,6 +974,7 @@ def any_position(i):
 
 
 def any_form(i):
+    """Align, indent, position and not in turn."""
     return (align(i), indent(i, 1), position(i, 2), not_(i))[i % 4]
 
 
