@@ -504,7 +504,7 @@ case("ever deeper mode any", grammar(RIGHT, ANY, rules=[5]), b"   :::", success(
 # outermost interval is 0 to 0.
 case("ever deeper 4,095 times", grammar(RIGHT, EQUAL, rules=[5]), b":" * 4095, success(4095, 0, 0))
 # Rule 0 = a, then rule 0: may only fail. It passes the check, as a sequence "whose a is", and this a
-# always reads something.
+# never succeeds reading nothing.
 case("a rule that can't end", grammar([A, call(0), seq(0, 1)], ANY, rules=[2]), b":::", FAILURE)
 case("repeat of a rule that can't end", grammar([A, call(0), seq(0, 1), repeat(2)], ANY, rules=[2]), b":::",
      EMPTY_ANSWER)
