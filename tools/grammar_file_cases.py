@@ -4,8 +4,9 @@
 Run it at the top of the repository. It writes crates/grammar_file_cases/data/cases and
 crates/grammar_file_cases/stdout, the same bytes each time.
 
-Nothing here reads a grammar file. Each call, or family of calls, has its answer written beside the
-bytes that are put together for it, and a comment quotes the words of document 01 that decide it.
+Nothing here reads a grammar file. Each call has its answer written beside the bytes that are put
+together for it; a family of calls has one answer for all, or the rule that gives each, in its loop or
+function. A comment quotes the words of document 01 that decide it.
 """
 
 import itertools
@@ -224,6 +225,7 @@ FIVE = {
 
 
 def tags(order):
+    """The fields of these tags, in this order."""
     return b"".join(FIVE[tag] for tag in order)
 
 
@@ -311,7 +313,7 @@ for value in (b"", b"\x01\x00", b"\x01\x01", b"\x00\x01", b"\x01\x01\x01", bytes
 for value in (0, 2, 3, 49, 129, 255):
     refused(f"tag 1 of value {value}", 1, field(1, bytes([value])) + TAIL)
 
-# "wrong value length (a tag 3 value only if under two bytes; keyword and name lengths are 2)".
+# "wrong value length (a tag 3 value only if under two bytes ..)": other lengths of a rule are 2.
 refused("tag 3 of 0 bytes", 1, VERSION + field(3, b"") + TAIL)
 refused("tag 3 of 1 byte", 1, VERSION + field(3, b"\0") + TAIL)
 refused("tag 3 of 1 letter", 1, VERSION + field(3, b"r") + TAIL)
@@ -430,7 +432,7 @@ for byte in FINE:
         reads(f"byte {byte} {said} in a keyword", (1, 0, 1, 0, 0), with_keywords(text))
         reads(f"byte {byte} {said} in a name", (1, 1, 0, 0, 0), with_names(text))
 
-# "A keyword that holds one of the nine single bytes below has length 1." Names have no such rule.
+# "A keyword that holds one of the nine single bytes .." Names have no such rule.
 for byte in b":,()[]=;%":
     sign = bytes([byte])
     said = sign.decode()
@@ -541,6 +543,8 @@ refused("128 alike names, first two equal", 2, with_names(LONG[1], *LONG[1:128])
 
 
 def tried(label, words, number):
+    """A node that passes (None), or that a file and the table by itself are refused for by the number. A file
+    is tried where the words have room in its bytes."""
     kind, a, b, relation = words
     nodes = [(0, 0, 0, 0), (1, 9, 0, 0), words, (0, 0, 0, 0)]
     flat = [word for node_ in nodes for word in node_]
@@ -821,6 +825,7 @@ for number, said, file, lent in (
 
 
 def faults(said, chosen, answer, file, lent):
+    """A file with the faults chosen, one of each number: read if there are none, else refused by the lowest."""
     label = spaced(f"{said} faults", chosen or ("none",))
     if not chosen:
         reads(label, answer, file, lent)
@@ -908,7 +913,7 @@ part("n", "not refused, name 0", 0, GOOD + TAIL, "r")
 
 # --- The table by itself -------------------------------------------------------------------------
 
-# "node words no multiple of 4, node or rule count outside the limits" is 3.
+# "node words no multiple of 4, node or rule count .." is 3.
 for count in (0, 1, 2, 3, 5, 6, 7, 2047, 2049, 2050, 2051, 2052, 2056, 2100):
     table(f"table, {count} words", [0] * count, [], "refused 3")
 for count in (4, 8, 2044, 2048):

@@ -4,8 +4,9 @@
 Run it at the top of the repository. It writes crates/interpreter_cases/data/cases and
 crates/interpreter_cases/stdout, the same bytes each time.
 
-Nothing here runs a grammar. Each call, or family of calls, has its answer written beside it, worked out
-by hand, and a comment quotes the words of document 01 or names the clause of document 001 that decide it.
+Nothing here runs a grammar. Each call has its answer written beside it, worked out by hand; a family of
+calls has one answer for all, or the rule that gives each, in its loop or function. A comment quotes the
+words of document 01 or names the clause of document 001 that decide it.
 
 How expressions are written: a to z are terminals 1 to 26, capitals are rules, `empty` is empty; p q, p / q,
 !p and p* as in 001; p^R is an indent, p_R a position and [p] an align, where R is =, >, >= or any. A token is
@@ -86,8 +87,8 @@ def ends(text):
 
 
 def success(answer, place):
-    """ "Success answers the number of tokens read from that place on, the interval and the flag": the place
-    reached is the start's and the tokens read."""
+    """ "Success answers the number of tokens read from that place on ..": the place reached is the start's and
+    the tokens read."""
     read, lower, upper, flag = answer.split()
     assert flag in ("clear", "set")
     return f"success {read} {lower} {upper} {flag} {place + int(read)}"
@@ -203,8 +204,8 @@ def row(expression, mode, start, answers, flag="clear", first=0):
 
 # --- Bench cases ---------------------------------------------------------------------------------
 
-# "Cases a to j are proved, in one table. Start interval 0 without end and flag clear unless said".
-# "a. Align of a b under greater, mode at least, a2 b3: 2 read, 0 to 1, clear (001)."
+# "Cases a to j .. Start interval 0 without end and flag clear unless said".
+# "a. Align of a b under greater .. a2 b3 .."
 given("[a b]^>", ">=", "a2 b3", "2 0 1 clear", name="case a")
 # "b. a, mode greater: a5 gives 0 to 4; a0 fails."
 given("a", ">", "a5", "1 0 4 clear", name="case b")
@@ -218,14 +219,14 @@ for mode in MODES:
     for flag in ("clear", "set"):
         given("a", mode, "", "failure", flag=flag, name="case e")
         given("empty", mode, "", f"0 0 inf {flag}", flag=flag, name="case e")
-# "f. a, then (b under greater, or empty), mode equal: a1 b2 reads 2, 1 to 1; a3 b2 reads 1, 3 to 3."
+# "f. a, then (b under greater, or empty) .. a1 b2 .. a3 b2 .."
 given("a (b^> / empty)", "=", "a1 b2", "2 1 1 clear", name="case f")
 given("a (b^> / empty)", "=", "a3 b2", "1 3 3 clear", name="case f")
-# "g. a, then b under any, mode equal, a3 b0: 2 read, 3 to 3."
+# "g. a, then b under any .. a3 b0 .."
 given("a b^any", "=", "a3 b0", "2 3 3 clear", name="case g")
 # "h. Align of empty, then a, mode greater, a5: 0 to 4."
 given("[empty] a", ">", "a5", "1 0 4 clear", name="case h")
-# "i. Align of (a under greater), mode equal, from 1 to 1, a4: 1 to 1."
+# "i. Align of (a under greater) .. from 1 to 1, a4 .."
 given("[a^>]", "=", "a4", "1 1 1 clear", start="1 1", name="case i")
 
 # 001, after Theorem 2.3: "(ab)^>, △ ⊢ (a1b2, N, ff) → ⊥" and "a^> b^>, △ ⊢ (a1b2, N, ff) → ⊤(ε, {0}, ff)".
@@ -253,7 +254,7 @@ def runs(label, answer, nodes, rules=(), tokens=(), start=(0, 0, 0, None, False,
     record(label, flat(nodes), rules, tokens, start, line)
 
 
-# "node words no multiple of 4, node or rule count outside the limits", "1 to 512 nodes, 0 to 128 rules".
+# "node words no multiple of 4, node or rule count ..", "1 to 512 nodes, 0 to 128 rules".
 refused("small 3, no node", 3, [])
 runs("one node", "0 0 inf clear", [EMPTY])
 for count in (1, 2, 3, 5, 6, 7, 2045, 2046, 2047, 2049, 2050, 2051):
@@ -271,8 +272,8 @@ refused("no node and a rule", 3, [], [0])
 
 # --- Number 4 ------------------------------------------------------------------------------------
 
-# "kind over 9, child not lower, no such rule, terminal over 255, relation over 3, unused word not 0". The
-# node stands behind a and b, with two rules; the run starts at a, so that the node is not walked.
+# "kind over 9, child not lower .. unused word not 0". The node stands behind a and b, with two rules; the run
+# starts at a, so that the node is not walked.
 refused("small 4, node 0 a repeat of 0", 4, flat([repeat(0)]))
 for node in (
     # "kind over 9"
@@ -342,10 +343,9 @@ refused("rule 0 = node 512 of 512", 5, flat([EMPTY] * 512), [512])
 
 # --- Number 7 ------------------------------------------------------------------------------------
 
-# "The grammar passes if every node does, reachable or not; otherwise the lowest that doesn't is named."
+# "The grammar passes if every node does .. otherwise the lowest .."
 bad("small 7, rule 0 = node 0 = rule 0", 0, [rule(0)], [0])
-# "j. Check: repeat of empty is bad; repeat of not-empty passes; rule = (a or empty) then the rule, nodes in
-# the order a, empty, choice, rule, sequence: bad at node 3." Not of empty always fails, so its repeat
+# "j. Check: repeat of empty .. repeat of not-empty .. bad at node 3." Not of empty always fails, so its repeat
 # succeeds in the old state.
 bad("case j, repeat of empty", 1, [EMPTY, repeat(0)])
 bad("case j, repeat of empty, started at it", 1, [EMPTY, repeat(0)], start=(1, 0, 0, None, False, 2))
@@ -356,7 +356,7 @@ bad("two repeats of empty", 1, [EMPTY, repeat(0), repeat(0)])
 bad("repeat of not a", 2, [A, not_(0), repeat(1)], (), token_words("a2"))
 bad("repeat of repeat of a", 2, [A, repeat(0), repeat(1)], (), token_words("a2"))
 bad("repeat of align of empty", 2, [EMPTY, align(0), repeat(1)])
-# "a sequence whose a is, and b too if a may read nothing": X = X a needs X before it.
+# "a sequence whose a is, and b too ..": X = X a needs X before it.
 bad("X = X a", 0, [rule(0), A, seq(0, 1)], [2])
 bad("a, then X = X a", 1, [A, rule(0), seq(1, 0)], [2])
 bad("repeat of empty as node 511", 511, [EMPTY] * 511 + [repeat(0)], start=(5, 0, 0, None, False, 2))
@@ -365,8 +365,8 @@ bad("every node of 511 a repeat of empty", 1, [EMPTY] + [repeat(0)] * 511)
 
 # --- Number 11 -----------------------------------------------------------------------------------
 
-# "token words no multiple of 4, over 4,096 tokens, terminal over 255, column over 65,535". The run is empty
-# from place 0, so that no token is looked at by it.
+# "token words no multiple of 4 .. column over 65,535". The run is empty from place 0, so that no token is
+# looked at by it.
 START = (0, 0, 0, None, False, 2)
 SAME = "0 0 inf clear"
 refused("small 11, 3 token words", 11, flat([EMPTY]), (), [0] * 3)
@@ -423,8 +423,7 @@ for rest in ((0, 0), (0, 1), (1, 0), (3, 2), (256, 256), (65536, 65536), (U32, 0
 
 # --- Number 12 -----------------------------------------------------------------------------------
 
-# "start node or place past its end (place = count is allowed), lower end over the upper, lower end over
-# 65,535 whatever the upper, finite upper end over 65,535, mode over 3".
+# "start node or place past its end .. mode over 3".
 A2 = token_words("a2")
 EMPTY_1 = flat([EMPTY])
 refused("small 12, interval 5 to 4", 12, EMPTY_1, (), (), (0, 0, 5, 4, False, 2))
@@ -448,8 +447,8 @@ for place in (4, 8):
     refused(
         f"place {place} of 2 tokens, a word's number", 12, EMPTY_1, (), A2 * 2, (0, place, 0, None, False, 2)
     )
-# "lower end over the upper", "lower end over 65,535 whatever the upper", "finite upper end over 65,535". The
-# last two also where the lower end is not over the upper.
+# "lower end over the upper .. finite upper end over 65,535". The last two also where the lower end is not over
+# the upper.
 for lower, upper in (
     (0, 0),
     (0, 1),
@@ -522,6 +521,8 @@ for mode in (4, 5, 7, 255, 256, 257, 258, 259, 32768, 65535):
 
 
 def ordered(label, chosen, ill, nodes, rules, tokens, start):
+    """A call with the faults chosen: success if there are none, else refused by the lowest; for 7 the node is
+    `ill`."""
     said = " ".join(map(str, chosen)) or "none"
     if not chosen:
         line = success("1 0 5 clear", 0)
@@ -597,8 +598,7 @@ bad("7 before 11 and 12", 1, [EMPTY, repeat(0)], (), [256, 65536, 0], BAD_START)
 
 # --- Terminal (001, clause 2) --------------------------------------------------------------------
 
-# "A terminal at column i: with the flag set, i must lie in the interval, which becomes i to i; else i must
-# lie in the mode's inner set, and the interval is met with the mode's outer set of i to i. The flag is then
+# "A terminal at column i: with the flag set .. else i must lie in the mode's inner set .. The flag is then
 # clear." By mode, the inner set of l to h: l to h; l+1 on; l on; 0 on. The outer set of i to i: i to i; 0 to
 # i-1; 0 to i; 0 on. Answers for a at columns 0 to 9, then with the flag set, where the mode says nothing.
 FROM_3_TO_6 = {
@@ -744,9 +744,8 @@ for inner in MODES:
 
 # --- Indent (001, clause 8) ----------------------------------------------------------------------
 
-# "Indent: the child gets the inner set of S; after its success S is met with the outer set of its set, the
-# rest as it left it." Rows for a at columns 0 to 9. An indent by equal changes nothing (001, Theorem 2.4,
-# "Identity indentation law").
+# "Indent: the child gets the inner set of S .." Rows for a at columns 0 to 9. An indent by equal changes
+# nothing (001, Theorem 2.4, "Identity indentation law").
 #
 # From 3 to 6. Greater: inside 4 on. Mode = leaves i to i, outside 0 to i-1; mode > leaves 4 to i-1, outside 0
 # to i-2; mode >= leaves 4 to i, outside 0 to i-1; mode any leaves 4 on, "without end less 1 is without end".
@@ -1094,7 +1093,7 @@ given("(!a b)*", ">=", "b4 b2 a9", "2 0 2 clear")
 
 # --- Repeat (001, clause 7) ----------------------------------------------------------------------
 
-# "Repeat: success in the old state if the child fails, else the repeat again from where the child ended."
+# "Repeat: success in the old state .. else the repeat again .."
 given("a*", ">", "", "0 0 inf clear")
 given("a*", ">", "b5", "0 0 inf clear")
 given("a*", ">", "b5", "0 3 6 set", start="3 6", flag="set")
@@ -1172,8 +1171,7 @@ given("[a]* b", ">", "b5", "1 5 5 clear", flag="set")
 
 # --- Align (001, clause 10) ----------------------------------------------------------------------
 
-# "Align sets the flag inside; after success it is set exactly if it was set both before and at the inner
-# end."
+# "Align sets the flag inside; after success .."
 for mode in MODES:
     given("[a]", mode, "a5", "1 5 5 clear")
     given("[a]", mode, "a5", "1 5 5 clear", start="3 6")
@@ -1278,7 +1276,7 @@ given("h ([a] [a])^>=", "=", "h2 a2 a2", "3 2 2 clear")
 
 # --- Recursion through rules ---------------------------------------------------------------------
 
-# "An expression may name a rule, and a rule is again an expression".
+# "An expression may name a rule ..".
 LIST = "X = a X / empty"
 given("X", ">=", "", "0 0 inf clear", rules=LIST)
 given("X", ">=", "b1", "0 3 6 set", rules=LIST, start="3 6", flag="set")
@@ -1465,8 +1463,8 @@ runs(
 
 # --- Lower ends past 65,535 ----------------------------------------------------------------------
 
-# "Capping the lower end at 65,535: in mode any it may pass that and tokens still match." From 65535 the inner
-# set under greater is 65536 on. No token lies there, so every mode but any fails, and an aligned token too.
+# "Capping the lower end at 65,535 .." From 65535 the inner set under greater is 65536 on. No token lies there,
+# so every mode but any fails, and an aligned token too.
 for start in ("65535 inf", "65535 65535"):
     for column in (0, 1, 65534, 65535):
         for mode in ("=", ">", ">="):

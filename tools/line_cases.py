@@ -1,7 +1,8 @@
 """Writes the stored cases for the line that 01's program prints: crates/line_cases/data/cases and its stdout.
 
-Every answer stands beside its inputs and was worked out by hand from the words of 01 that are quoted there.
-Nothing here reads a grammar file, scans a report or runs a grammar.
+Every single answer stands beside its inputs and was worked out by hand from the words of 01 that are quoted
+there; a family of cases has one answer for all, or the rule that gives each, in its loop. Nothing here reads a
+grammar file, scans a report or runs a grammar.
 
 A record: the label's length (one byte), ten numbers of three bytes each, high byte first, the label, the
 stored bytes of the grammar file, the stored bytes of the report. The first five numbers tell how the file is
@@ -31,7 +32,7 @@ def term(terminal):
     return (1, terminal, 0, 0)
 
 
-# "3 + k where the spelling equals keyword k (from 0); else 0 for a number"; "else 1"; a line's end is 2.
+# "3 + k where the spelling equals keyword k ..; else 0 for a number .. else 1"; a line's end is 2.
 NUMBER, WORD, END = term(0), term(1), term(2)
 A, B, C = term(3), term(4), term(5)
 # Tokens by themselves can stand side by side: ` :,` is a at column 1 and b at column 2.
@@ -41,6 +42,7 @@ CASES = []
 
 
 def case(label, file, report, line):
+    """A grammar file, a report, and the line expected of them."""
     CASES.append((label, file, report, line))
 
 
@@ -48,9 +50,9 @@ def success(read, lower, upper):
     """ "tokens read, lower end, upper end (`inf` if none), flag"
 
     The flag is always clear. It is so at the start, and each clause that starts with a clear flag ends with
-    one: empty "changes nothing"; after a terminal "The flag is then clear"; after an align it is "set exactly
-    if it was set both before and at the inner end"; "Not and failure hand the old state on"; the others end
-    as a child did that began with the parent's flag. So `set` is never printed.
+    one: empty "changes nothing"; after a terminal "The flag is then clear"; after an align it is set only if it
+    "was set both before .."; "Not and failure hand the old state on"; the others end as a child did that began
+    with the parent's flag. So `set` is never printed.
     """
     return f"success {read} {lower} {upper} clear"
 
@@ -59,7 +61,7 @@ FAILURE = "failure"
 
 
 def refused(number, *node_number):
-    """ "`refused` with the lowest number that any of the four parts gives and for 7 the node"
+    """ "`refused` with the lowest number .. and for 7 the node"
 
     6 never occurs: it is "a lent slice too short for what is to be written", and what is lent here is not
     part of the inputs. Nor does 11: the tokens are the scanner's own, with terminals up to 3 + 252, "At most
@@ -90,8 +92,7 @@ EMPTY_ANSWER = success(0, 0, "inf")
 
 # --- The example of 01 and texts near it --------------------------------------------------------------------
 
-# "With keywords `loss` and `:`, the sequence of terminals 3, 4, 0, 2 in mode greater, and the text
-# `  loss: 0.03` without a break, it prints `success 4 0 1 clear`".
+# "With keywords `loss` and `:` .. it prints `success 4 0 1 clear`".
 LOSS = (b"loss", b":")
 LOSS_NODES = [term(3), term(4), NUMBER, END, seq(2, 3), seq(1, 4), seq(0, 5)]
 LOSS_LEFT = [term(3), term(4), NUMBER, END, seq(0, 1), seq(4, 2), seq(5, 3)]
@@ -99,6 +100,7 @@ EXAMPLE = b"  loss: 0.03"
 
 
 def loss_file(mode):
+    """The grammar of that example, in this mode."""
     return grammar(LOSS_NODES, mode, LOSS)
 
 
@@ -111,8 +113,7 @@ case("example mode equal", loss_file(EQUAL), EXAMPLE, FAILURE)
 case("example mode at least", loss_file(AT_LEAST), EXAMPLE, success(4, 0, 2))
 # Any: "0 on, without end".
 case("example mode any", loss_file(ANY), EXAMPLE, success(4, 0, "inf"))
-# "A line with a token ends in a token of terminal 2, also at the end of the text": a
-# break changes nothing here.
+# A line ends in a token "also at the end of the text": a break changes nothing here.
 case("example with a break", loss_file(GREATER), EXAMPLE + b"\n", success(4, 0, 1))
 # "Bytes 13 and 32 are blanks."
 case("example with a return and a break", loss_file(GREATER), EXAMPLE + b"\r\n", success(4, 0, 1))
@@ -162,9 +163,8 @@ for name, text in (("no text", b""), ("a break", b"\n"), ("breaks", b"\n\n\n"), 
                    ("blanks and breaks", b" \n\t\r\n ")):
     case(f"line end on {name}", grammar([END], ANY), text, FAILURE)
     case(f"no token at all on {name}", grammar([END, WORD, choice(0, 1), not_(2)], ANY), text, EMPTY_ANSWER)
-# "A rule is its node", "Position changes the mode for its child", "Align sets the flag inside; after
-# success it is set exactly if it was set both before and at the inner end", and for indent greater "Without
-# end less 1 is without end": over empty the state is as before.
+# "A rule is its node", "Position changes the mode for its child", "Align sets the flag inside; after success
+# ..", and for indent greater "Without end less 1 is without end": over empty the state is as before.
 case("empty under a rule", grammar([EMPTY, call(0)], EQUAL, rules=[0]), b"", EMPTY_ANSWER)
 case("empty under align", grammar([EMPTY, align(0)], EQUAL), b"", EMPTY_ANSWER)
 for name, relation in MODES:
@@ -230,7 +230,7 @@ case("second line not equal", grammar(COLUMNS, EQUAL), b"  x\n   y", FAILURE)
 case("choice takes a", grammar([A, B, choice(0, 1)], EQUAL), b" :", success(1, 1, 1))
 case("choice takes b", grammar([A, B, choice(0, 1)], EQUAL), b" ,", success(1, 1, 1))
 case("choice takes neither", grammar([A, B, choice(0, 1)], EQUAL), b" ;", FAILURE)
-# 001: "ab/a consumes the input string ab entirely while a/ab only consumes its first" symbol.
+# The order counts (001, section 1): of ab, ab/a reads both tokens, a/ab only a.
 case("a b or a", grammar([A, B, seq(0, 1), choice(2, 0)], ANY), b":,", success(2, 0, "inf"))
 case("a or a b", grammar([A, B, seq(0, 1), choice(0, 2)], ANY), b":,", success(1, 0, "inf"))
 # The first alternative has succeeded; what follows fails and nothing else is tried.
@@ -247,7 +247,7 @@ case("not not a before b", grammar([A, not_(0), not_(1)], EQUAL), b"   ,", FAILU
 case("not not a then a", grammar([A, not_(0), not_(1), seq(2, 0)], GREATER), b"   :", success(1, 0, 2))
 # a0 fails in mode greater by its column alone.
 case("not a at a column outside", grammar([A, not_(0)], GREATER), b":", EMPTY_ANSWER)
-# "Repeat: success in the old state if the child fails, else the repeat again from where the child ended."
+# "Repeat: success in the old state .. else the repeat again .."
 REPEAT = [A, repeat(0)]
 case("repeat mode any", grammar(REPEAT, ANY), b":::", success(3, 0, "inf"))
 case("repeat mode at least", grammar(REPEAT, AT_LEAST), b"  :::", success(3, 0, 2))
@@ -306,7 +306,7 @@ case("indent greater inside any", grammar([A, indent(0), indent(1, ANY)], EQUAL)
 # indents apart give 0 to 0.
 case("indent of a sequence", grammar([A, B, seq(0, 1), indent(2)], EQUAL), b" :,", FAILURE)
 case("sequence of indents", grammar([A, B, indent(0), indent(1), seq(2, 3)], EQUAL), b" :,", success(2, 0, 0))
-# Case f: "a, then (b under greater, or empty), mode equal: a1 b2 reads 2, 1 to 1".
+# Case f: "a, then (b under greater, or empty) .. a1 b2 reads 2, 1 to 1".
 case("case f on one line", grammar([A, B, indent(1), EMPTY, choice(2, 3), seq(0, 4)], EQUAL), b" :,",
      success(2, 1, 1))
 # "a3 b2 reads 1, 3 to 3": b2 stands on the next line, so the line's end is read too, in mode any.
@@ -314,7 +314,7 @@ CASE_F = [A, B, END, position(2, ANY), indent(1), EMPTY, choice(4, 5), seq(3, 6)
 case("case f with b lower", grammar(CASE_F, EQUAL), b"   :\n  ,", success(2, 3, 3))
 case("case f with b higher", grammar(CASE_F, EQUAL), b" :\n  ,", success(3, 1, 1))
 case("case f with b at the same column", grammar(CASE_F, EQUAL), b" :\n ,", success(2, 1, 1))
-# Case g: "a, then b under any, mode equal, a3 b0: 2 read, 3 to 3", and the line's end between them.
+# Case g: "a, then b under any .. a3 b0: 2 read, 3 to 3", and the line's end between them.
 case("case g", grammar([A, B, END, position(2, ANY), indent(1, ANY), seq(3, 4), seq(0, 5)], EQUAL),
      b"   :\n,", success(3, 3, 3))
 # At least: b must be at 3 or above.
@@ -330,13 +330,13 @@ case("second indent lowers the upper end",
 
 # --- Align --------------------------------------------------------------------------------------------------
 
-# Case a, from 001: "Align of a b under greater, mode at least, a2 b3: 2 read, 0 to 1, clear".
+# Case a, from 001: "Align of a b under greater .. a2 b3: 2 read, 0 to 1 ..".
 case("case a", grammar([A, B, seq(0, 1), align(2), indent(3)], AT_LEAST), b"  :,", success(2, 0, 1))
 # 001, theorem 2.4: align and indent may be exchanged. 1 on with the flag set: 2 to
 # 2, then 2 to 2, out 0 to 1.
 case("case a with align outside", grammar([A, B, seq(0, 1), indent(2), align(3)], AT_LEAST), b"  :,",
      success(2, 0, 1))
-# "with the flag set, i must lie in the interval, which becomes i to i", whatever the mode (case d).
+# "with the flag set, i must lie in the interval ..", whatever the mode (case d).
 for name, mode in MODES:
     case(f"align of a mode {name}", grammar([A, align(0)], mode), b"     :", success(1, 5, 5))
     case(f"align of a at 0 mode {name}", grammar([A, align(0)], mode), b":", success(1, 0, 0))
@@ -350,8 +350,7 @@ case("case h", grammar([EMPTY, align(0), A, seq(1, 2)], GREATER), b"     :", suc
 # Within one more align the flag "was set both before and at the inner end", so a is aligned.
 case("case h inside an align", grammar([EMPTY, align(0), A, seq(1, 2), align(3)], GREATER), b"     :",
      success(1, 5, 5))
-# "after success it is set exactly if it was set both before and at the inner end": a read
-# in the inner one clears it.
+# "after success it is set exactly if ..": a read in the inner one clears it.
 case("align of align", grammar([A, align(0), align(1)], GREATER), b"     :", success(1, 5, 5))
 case("align of align of a then b", grammar([A, B, align(0), seq(2, 1), align(3)], GREATER), b"     :,",
      success(2, 5, 5))
@@ -393,7 +392,7 @@ case("two aligns at the same column", grammar(TWO_ALIGNS, GREATER), b"  :\n  ,",
 case("two aligns with b lower", grammar(TWO_ALIGNS, GREATER), b"  :\n ,", FAILURE)
 case("two aligns with b higher", grammar(TWO_ALIGNS, GREATER), b"  :\n   ,", FAILURE)
 # Case i starts "from 1 to 1"; here a first token in mode equal, x1, gives that. "Align of (a under
-# greater), mode equal, from 1 to 1, a4: 1 to 1." (2 on, flag set: 4 to 4, out 0 to 3.)
+# greater) .. a4: 1 to 1." (2 on, flag set: 4 to 4, out 0 to 3.)
 case("case i behind a token", grammar([A, B, indent(1), align(2), seq(0, 3)], EQUAL), b" :  ,",
      success(2, 1, 1))
 case("case i right behind a token", grammar([A, B, indent(1), align(2), seq(0, 3)], EQUAL), b" :,",
@@ -461,6 +460,7 @@ PAPER = [C, not_(0), not_(1), A, call(1), choice(3, 4), choice(2, 5), B, call(0)
 
 
 def paper(text, line):
+    """That grammar on a text where a, b, c and _ stand for the three keywords and a blank."""
     case(f"paper grammar on {text or 'no text'}", grammar(PAPER, EQUAL, rules=[6, 12]),
          text.translate(str.maketrans("abc_", ":,; ")).encode(), line)
 
@@ -503,8 +503,8 @@ case("ever deeper mode any", grammar(RIGHT, ANY, rules=[5]), b"   :::", success(
 # 4,095 and the line's end are 4,096 tokens; the k-th token is at column k, and the
 # outermost interval is 0 to 0.
 case("ever deeper 4,095 times", grammar(RIGHT, EQUAL, rules=[5]), b":" * 4095, success(4095, 0, 0))
-# Rule 0 = a, then rule 0: may only fail. It passes the check, as a sequence "whose a is, and b
-# too if a may read nothing".
+# Rule 0 = a, then rule 0: may only fail. It passes the check, as a sequence "whose a is", and this a
+# never succeeds reading nothing.
 case("a rule that can't end", grammar([A, call(0), seq(0, 1)], ANY, rules=[2]), b":::", FAILURE)
 case("repeat of a rule that can't end", grammar([A, call(0), seq(0, 1), repeat(2)], ANY, rules=[2]), b":::",
      EMPTY_ANSWER)
@@ -578,7 +578,7 @@ case("a number on a line of its own", steps, STEP_TEXT.replace(b": 0.5", b":\n  
 
 # --- The scanner's terminals and columns --------------------------------------------------------------------
 
-# "0 for a number (an optional `-`, digits, optionally `.` and digits, each group non-empty); else 1".
+# "0 for a number (an optional `-`, digits, optionally `.` and digits ..); else 1".
 NUMBERS = b"0 7 -1 0.03 -12.50 007 -0 1234567890.0987654321".split()
 NO_NUMBERS = b"- . -. .5 5. -5. 1.2.3 1..2 --1 +1 1e5 1-2 -.5 1.-2 0x1 1. 1a a1 1.a".split()
 NO_NUMBERS += b"\xd9\xa1 1/2 #1 1_0".split()
@@ -588,7 +588,7 @@ for i, text in enumerate(NO_NUMBERS):
 # `,` is a token by itself: number, other, number.
 case("number comma number", grammar([NUMBER, WORD, seq(1, 0), seq(0, 2)], ANY, ()), b"1,5",
      success(3, 0, "inf"))
-# "3 + k where the spelling equals keyword k (from 0); else 0 for a number": a keyword comes first.
+# "3 + k where .. else 0 for a number": a keyword comes first.
 case("a number that is a keyword", grammar([term(3), NUMBER, seq(0, 1)], ANY, (b"12",)), b"12 13",
      success(2, 0, "inf"))
 case("a keyword is no number", grammar([NUMBER], ANY, (b"12",)), b"12", FAILURE)
@@ -648,6 +648,7 @@ case("column below lines without a token", grammar(SECOND, EQUAL), b"abc\n\n \t\
 COUNT = grammar([A, END, choice(0, 1), repeat(2)], ANY)
 for n in (8, 9, 98, 99, 998, 999, 4094, 4095):
     case(f"{n:,} tokens and a line end", COUNT, b":" * n, success(n + 1, 0, "inf"))
+# A word at column c: 0 to c - 1 in mode greater, c to c in mode equal.
 for column in (9, 10, 11, 99, 100, 101, 1000, 1001, 9999, 10000, 10001):
     text = b" " * column + b"w"
     case(f"column {column:,} mode greater", grammar([WORD], GREATER), text, success(1, 0, column - 1))
@@ -679,8 +680,7 @@ case("a run up to column 65,535", grammar(END_COLUMN, EQUAL), b"\t" * 8191 + b"w
 # `w` at 0 and the line's end at 65,535: 8,191 tabs and 7 blanks.
 FAR = b"w" + b"\t" * 8191 + b" " * 7
 case("line end at 65,535 behind tabs", grammar(END_COLUMN, EQUAL), FAR, success(2, 65535, 65535))
-# Two such lines: the first end makes 65,535 to 65,535. "Capping the lower end at 65,535: in mode any it may
-# pass that and tokens still match."
+# Two such lines: the first end makes 65,535 to 65,535. "Capping the lower end at 65,535 .."
 FAR2 = FAR + b"\n" + FAR
 FIRST = [WORD, END, position(0, ANY), seq(2, 1)]
 # Under greater 65,536 on: the word matches in mode any, the end at 65,535 not in mode equal.
@@ -720,8 +720,7 @@ case("second line end in mode at least",
 
 # --- Refused by 1: the file's fields ------------------------------------------------------------------------
 
-# "file over length, a field cut short, tag missing, out of order or unknown, wrong value length (a tag 3
-# value only if under two bytes; keyword and name lengths are 2), tag 1's value not 1, over 253 keywords".
+# "file over length, a field cut short .. over 253 keywords".
 case("file of no bytes", b"", EXAMPLE, refused(1))
 case("file of no bytes and no text", b"", b"", refused(1))
 R0 = rule(0, b"r0")
@@ -806,8 +805,7 @@ case("file that passes, then zeros up to 65,536", NOTHING + bytes(65536 - len(NO
 
 # --- Refused by 2: keywords and names -----------------------------------------------------------------------
 
-# "Keywords and names have 1 to 32 bytes, none of them at or below 32 or equal to 127, and are distinct
-# within their tag. A keyword that holds one of the nine single bytes below has length 1."
+# "Keywords and names have 1 to 32 bytes ..", and "A keyword that holds one of the nine single bytes ..".
 BAD = (
     ("a b", b"a b"), ("no byte", b""), ("33 bytes", b"x" * 33), ("256 bytes", b"x" * 256), ("a blank", b" "),
     ("byte 0", b"\x00"), ("byte 9 last", b"ab\t"), ("byte 10 first", b"\nab"), ("byte 31", b"a\x1f"),
@@ -895,9 +893,8 @@ case("longest file and one node more", LONGEST[:-6] + EMPTY_FIELD + LONGEST[-6:]
 
 # --- Refused by 4: nodes ------------------------------------------------------------------------------------
 
-# "kind over 9, child not lower, no such rule, terminal over 255, relation over 3, unused word not
-# 0". The node comes behind an empty node 0, which is the start; "reachable or not" has no part in
-# it. One rule stands for node 0.
+# "kind over 9, child not lower .. unused word not 0". The node comes behind an empty node 0, which is the
+# start; "reachable or not" has no part in it. One rule stands for node 0.
 for name, words in (
     ("kind 10", (10, 0, 0, 0)), ("kind 255", (255, 0, 0, 0)),
     ("terminal 256", (1, 256, 0, 0)), ("terminal 65,535", (1, 65535, 0, 0)), ("terminal 259", (1, 259, 0, 0)),
@@ -938,7 +935,7 @@ case("terminal 255 without keywords", grammar([term(255)], ANY, ()), EXAMPLE, FA
 
 # --- Refused by 5: rule nodes and the start -----------------------------------------------------------------
 
-# "a rule's node, or a file's start node, not in the table; file's mode over 3".
+# "a rule's node, or a file's start node .. file's mode over 3".
 case("rule 0 = node 1 of 1", grammar([EMPTY], ANY, (), [1]), EXAMPLE, refused(5))
 case("last rule's node not there", grammar([EMPTY, EMPTY], ANY, (), [0, 1, 2]), EXAMPLE, refused(5))
 case("rule node 65,535", grammar([EMPTY], ANY, (), [65535]), EXAMPLE, refused(5))
@@ -954,12 +951,11 @@ for mode in (4, 35, 128, 255):
 
 # --- Refused by 7: well formed ------------------------------------------------------------------------------
 
-# "The grammar passes if every node does, reachable or not; otherwise the lowest that doesn't is named."
+# "The grammar passes if every node does .. otherwise the lowest .."
 for label, nodes, rules, bad in (
     # "rule 0 = node 0 = rule 0": well formed "is also least".
     ("rule 0 = node 0 = rule 0", [call(0)], [0], 0),
-    # Case j: "repeat of empty is bad"; "rule = (a or empty) then the rule, nodes in the order a, empty,
-    # choice, rule, sequence: bad at node 3".
+    # Case j: "repeat of empty is bad"; "rule = (a or empty) then the rule .. bad at node 3".
     ("repeat of empty", [EMPTY, repeat(0)], [], 1),
     ("case j", [A, EMPTY, choice(0, 1), call(0), seq(2, 3)], [4], 3),
     # "a repeat whose child is and may not succeed reading nothing". "Repeat: ... nothing if it may fail."
@@ -1005,8 +1001,8 @@ for label, nodes, rules, bad in (
     # The lowest: the rule node 0 stands for node 2, which is bad.
     ("rule for a higher bad node", [call(0), EMPTY, repeat(1)], [2], 0),
     ("two bad nodes", [EMPTY, repeat(0), call(0)], [2], 1),
-    # "a sequence whose a is, and b too if a may read nothing": node 0 is rule 1, node 3, a then the bad
-    # node 2. It passes, node 2 doesn't. With empty for a it doesn't, and a choice or repeat never does.
+    # "a sequence whose a is, and b too ..": node 0 is rule 1, node 3, a then the bad node 2. It passes, node 2
+    # doesn't. With empty for a it doesn't, and a choice or repeat never does.
     ("bad node behind a", [call(1), A, call(0), seq(1, 2)], [2, 3], 2),
     ("bad node behind empty", [call(1), EMPTY, call(0), seq(1, 2)], [2, 3], 0),
     ("bad node behind not empty", [call(1), EMPTY, not_(1), call(0), seq(2, 3)], [3, 4], 3),
@@ -1186,6 +1182,8 @@ TEXTS = (
 MORE_TEXTS = (
     ("no text", b""), ("a length of 8", b" " * 65536), ("9", b"\t" * 8192 + b"a"), ("10", b":" * 4096),
 )
+# The file's number is lower than the text's, so its line holds whatever the text is. The first two texts go
+# with each file, the others with the first file of each number.
 for name, text in TEXTS:
     for number, kind, file, line in FILES:
         case(f"{number} {kind}, with {name}", file, text, line)

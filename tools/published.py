@@ -308,6 +308,7 @@ run("001 2.2 something read", "001 theorem 2.1", "reading clears the flag", "suc
 
 
 def pair(name, source, shows, expected, left, right, tokens, **more):
+    """The two sides of a law, a run each, with the same outcome."""
     run(f"001 2.3 {name} left", source, shows, expected, left, tokens, **more)
     run(f"001 2.3 {name} right", source, shows, expected, right, tokens, **more)
 
@@ -834,6 +835,7 @@ SEC3 = "001 section 3"
 
 
 def stages(name, shows, expected, tokens, every=False):
+    """The original and the final grammar on the same tokens, and if asked the two between, with one outcome."""
     run(f"001 3 original grammar {name}", SEC3, shows, expected, S_ORIGINAL, tokens, ORIGINAL)
     if every:
         run(f"001 3 stage 1 grammar {name}", SEC3, shows, expected, S_STAGE1, tokens, STAGE1)
@@ -1069,14 +1071,14 @@ report("000 3.2 list over lines", "000 section 3.2.2, atom", "brackets free the 
 
 # ---- 002 (Burreau 2023) ----
 
-# Landin's rule: the whole phrase lies in the quadrant of its first symbol: |p| in mode at least.
+# Landin's rule: nothing of a phrase stands left of where it begins: |p| in mode at least.
 # flag: a2 2..2; b5 >= 2; c2 >= 2: 2..2 with 0..5 and 0..2 = 2..2.
 run("002 4.1 landin offside rule", "002 section 4.1.2, Landin's wording", "no token left of the first",
     "success 3 2 2 clear", al(seq(a, b, c)), "a2 b5 c2", mode=GE)
 # c1 is not in 2...
 run("002 4.1 landin offside rule broken", "002 section 4.1.2, Landin's wording", "a token left of the first",
     "failure", al(seq(a, b, c)), "a2 b5 c1", mode=GE)
-# "except possibly for bracketed sub-segments": a2 2..2; any: in N, b0 0..0, out 2..2 with N; c3 >= 2.
+# What is in brackets is let off: a2 2..2; any: in N, b0 0..0, out 2..2 with N; c3 >= 2.
 run("002 4.1 landin offside rule with brackets", "002 section 4.1.2, Landin's wording",
     "a freed segment inside", "success 3 2 2 clear", al(seq(a, ind(ANY, b), c)), "a2 b0 c3", mode=GE)
 # The newer wording: further to the right: mode greater. c2 is not in 3...
@@ -1191,6 +1193,7 @@ H_EOF = pos(ANY, no(alt(*(t(k) for k in range(14)))))
 
 
 def haskell(label, source, shows, expected, text, start=H_PROGRAM, rules=HASKELL):
+    """A report read with the Haskell keywords."""
     report(label, source, shows, expected, HASKELL_KEYS, start, text, rules)
 
 

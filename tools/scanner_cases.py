@@ -4,8 +4,9 @@
 Run it at the top of the repository. It writes crates/scanner_cases/data/cases and
 crates/scanner_cases/stdout, the same bytes each time.
 
-Nothing here scans a report. Each call, or family of calls, has its tokens written beside the bytes
-that are put together for it, and a comment quotes the words of document 01 that decide it.
+Nothing here scans a report. Each call has its tokens written beside the bytes that are put together
+for it; a family of calls has the rule that gives its tokens, in its loop or function. A comment quotes
+the words of document 01 that decide it.
 """
 
 import itertools
@@ -56,8 +57,8 @@ FEW = 24  # Scans of no more tokens than these have every word printed.
 
 
 def scanned(tokens):
-    """The line of a scan that answers these tokens. "A token is four words in a lent slice of u32:
-    terminal, column, offset, length." "After success, words past those written are as before." """
+    """The line of a scan that answers these tokens. "A token is four words in a lent slice of u32 .."
+    "After success, words past those written are as before." """
     line = f"tokens {len(tokens)}"
     for token in tokens if len(tokens) <= FEW else tokens[-2:]:
         line += spaced(" |", token)
@@ -80,7 +81,7 @@ def scan(label, file, report, tokens, lent):
 
 def reads(label, file, report, tokens, column, lent=None):
     """The same, and the tokens handed out one by one are these too. "After the last token the answer
-    is none, with the offset at the end"; the column given is the one reached there.
+    is none ..": the column given is the one reached there.
 
     Where nothing else is said, six words more are lent than needed.
     """
@@ -167,11 +168,13 @@ def apart(*pairs):
 
 
 def reads_apart(label, file, *pairs):
+    """`reads` of the line of `apart`: a token for each spelling, where it begins, then the line's end."""
     text, tokens = apart(*pairs)
     reads(label, file, text, tokens, len(text))
 
 
 def scan_apart(label, file, *pairs):
+    """The same for `scan`."""
     text, tokens = apart(*pairs)
     scan(label, file, text, tokens, 4 * len(tokens) + 6)
 
@@ -187,8 +190,7 @@ reads("`a` and 8 words", PLAIN, b"a", A, 1, 8)
 # "A tab then `a`: column 8, offset 1."
 reads("tab then `a`", PLAIN, b"\ta", [(1, 8, 1, 1), (2, 9, 2, 0)], 9)
 
-# "With keywords `loss` and `:`, the sequence of terminals 3, 4, 0, 2 .. and the text `  loss: 0.03`
-# without a break".
+# "With keywords `loss` and `:` .. and the text `  loss: 0.03` without a break".
 BENCH = with_keywords(b"loss", b":")
 walk(
     "bench",
@@ -249,6 +251,7 @@ reads(
 
 # --- One byte, and one byte between two letters --------------------------------------------------
 
+# Each byte alone, between `a` and `c`, and behind keyword loss: a rule for each class of bytes.
 for byte in range(256):
     text = bytes([byte])
     alone = f"byte {byte} alone"
@@ -270,7 +273,7 @@ for byte in range(256):
         reads(between, PLAIN, b"a\tc", [(1, 0, 0, 1), (1, 8, 2, 1), (2, 9, 3, 0)], 9)
         reads(behind, LOSS, b"loss\t", [(3, 0, 0, 4), (2, 8, 5, 0)], 8)
     elif byte in (13, 32):
-        # "Bytes 13 and 32 are blanks. Each byte but 9 and 10 advances the column by one."
+        # "Bytes 13 and 32 are blanks. Each byte but 9 and 10 advances .."
         reads(alone, PLAIN, text, [], 1)
         reads(between, PLAIN, b"a" + text + b"c", [(1, 0, 0, 1), (1, 2, 2, 1), (2, 3, 3, 0)], 3)
         reads(behind, LOSS, b"loss" + text, [(3, 0, 0, 4), (2, 5, 5, 0)], 5)
@@ -307,7 +310,7 @@ for byte in (0, 8, 11, 12, 14, 31, 127):
 
 # --- Blanks, tabs and columns --------------------------------------------------------------------
 
-# "Bytes 13 and 32 are blanks. Each byte but 9 and 10 advances the column by one."
+# "Bytes 13 and 32 are blanks. Each byte but 9 and 10 advances .."
 for n in range(10):
     reads(f"{n} blanks then `a`", PLAIN, b" " * n + b"a", [(1, n, n, 1), (2, n + 1, n + 1, 0)], n + 1)
     reads(f"`a` then {n} blanks", PLAIN, b"a" + b" " * n, [(1, 0, 0, 1), (2, n + 1, n + 1, 0)], n + 1)
@@ -347,8 +350,7 @@ for label, text, tokens, column in (
 
 # --- Lines ---------------------------------------------------------------------------------------
 
-# "A line with a token ends in a token of terminal 2, also at the end of the text, at the column and
-# offset of the break or the end, length 0."
+# "A line with a token ends in a token of terminal 2 .."
 for label, text, tokens, column in (
     ("empty report", b"", [], 0),
     ("one break", b"\n", [], 0),
@@ -396,7 +398,7 @@ for n in (1, 2, 31, 32, 33, 64, 255, 256, 257, 4096):
 
 # --- Numbers -------------------------------------------------------------------------------------
 
-# "0 for a number (an optional `-`, digits, optionally `.` and digits, each group non-empty); else 1"
+# "0 for a number (an optional `-`, digits, optionally `.` and digits ..); else 1"
 NUMBERS = (
     "0 -0 007 1.5 -1.5 1 9 10 -1 00 0.0 -0.0 0.03 -00.10 123456789.987654321 00000000000000000000.0 "
     "99999999999999999999999 -99999999999999999999999 1.0 -1.00"
@@ -444,7 +446,7 @@ for label, text, tokens in (
 ):
     reads(f"number beside, {label}", PLAIN, text, tokens, len(text))
 
-# "3 + k where the spelling equals keyword k (from 0); else 0 for a number": the keyword comes first.
+# "3 + k where .. else 0 for a number": the keyword comes first.
 for spelling in NUMBERS + WORDS:
     text = spelling.encode()
     n = len(text)
@@ -469,6 +471,7 @@ reads_apart(
 
 # --- Single bytes --------------------------------------------------------------------------------
 
+# Each is a token of length 1 wherever it stands, of terminal 1, or 3 + k where it is keyword k.
 for byte in NINE:
     text = bytes([byte])
     name = text.decode()
@@ -643,7 +646,7 @@ reads("repeat of empty", VERSION + EMPTY + node(6, 0) + start(1), b"a", A, 1)
 
 # --- Files that are refused ----------------------------------------------------------------------
 
-# "The file reader uses 1 to 6, the scanner 1 to 5 and 8 to 10".
+# "the scanner 1 to 5 and 8 to 10".
 FILE_65535 = VERSION + keyword(b"kk") + EMPTY * 7280 + START
 FILE_65536 = VERSION + rule(0, b"r") + EMPTY * 7280 + START
 assert len(FILE_65535) == 65535 and len(FILE_65536) == 65536
@@ -860,7 +863,8 @@ refused_scan("9 before 10, line end 5001 too far", 9, PLAIN, b":" * 5000 + T8192
 refused_scan("9 before 10, last of 20001 tokens too far", 9, PLAIN, b"a\n" * 10000 + T8192 + b"a", 16400)
 refused_scan("10, 5000 tokens and 8192 tabs", 10, PLAIN, b"a\n" * 2500 + T8192, 16400)
 
-# Every choice of faults, one of each number: the answer is the lowest number chosen.
+# Every choice of faults, one of each number: the answer is the lowest number chosen. In the first set
+# those of lower numbers mostly stand later in the file and in the report, in the second earlier.
 for taken in itertools.product((False, True), repeat=8):
     chosen = tuple(n for i, n in enumerate((8, 9, 10, 1, 2, 3, 4, 5)) if taken[i])
     file = VERSION + keyword(b"k") + rule(7 if 5 in chosen else 0, b"first")
@@ -893,9 +897,7 @@ for taken in itertools.product((False, True), repeat=8):
 
 # --- Single steps --------------------------------------------------------------------------------
 
-# "After a token the value stands right behind it, its line having had one. After a line end the line
-# has had none, and the value stands behind the break at column 0, or at the end of the text with its
-# column kept. After the last token the answer is none, with the offset at the end."
+# "After a token the value stands right behind it .. After a line end .. After the last token .."
 walk("steps, empty", PLAIN, b"", [(None, (0, 0, False))])
 walk("steps, blanks", PLAIN, b"  ", [(None, (2, 2, False))])
 walk("steps, empty lines", PLAIN, b"\n \n\t", [(None, (4, 8, False))])
@@ -1029,7 +1031,7 @@ for said, report, before, after in (
 ):
     step(f"no token, {said}", PLAIN, report, before, None, after)
 
-# "an offset past the text or a column over 524,280 is 8 too".
+# "an offset past the text or a column over 524,280 ..".
 for mark in (False, True):
     said = "mark set" if mark else "mark clear"
     for length, at in ((0, 1), (3, 4), (3, 5), (3, 65535), (3, 65536), (65535, 65536)):

@@ -4,8 +4,9 @@
 Run it at the top of the repository. It writes crates/well_formed_cases/data/cases and
 crates/well_formed_cases/stdout, the same bytes each time.
 
-Nothing here decides whether a table is well formed. Each table, or family of tables, has its verdict
-written beside it, and a comment quotes the words of document 01 that decide it. N, S and F stand for
+Nothing here decides whether a table is well formed. Each table has its verdict written beside it; a
+family of tables has one verdict for all, or the rule that gives each, in its loop or function. A
+comment quotes the words of document 01 that decide it. N, S and F stand for
 the three facts: may succeed reading nothing, may succeed reading something, may fail. X, Y and Z are
 rules, a and b terminals.
 """
@@ -96,8 +97,7 @@ def moved(nodes, by):
 
 # --- Case j and the small inputs of the table of numbers -----------------------------------------
 
-# "j. Check: repeat of empty is bad; repeat of not-empty passes; rule = (a or empty) then the rule,
-# nodes in the order a, empty, choice, rule, sequence: bad at node 3."
+# "j. Check: repeat of empty .. repeat of not-empty .. bad at node 3."
 bad("case j, repeat of empty", 1, [EMPTY, repeat(0)])
 passes("case j, repeat of not-empty", [EMPTY, not_(0), repeat(1)])
 bad("case j, X = (a / empty) X", 3, [A, EMPTY, choice(0, 1), rule(0), seq(2, 3)], [4])
@@ -117,8 +117,7 @@ passes("rule 0 = node 0 = a", [A], [0])
 
 # --- Number 3 ------------------------------------------------------------------------------------
 
-# "node words no multiple of 4, node or rule count outside the limits"; "1 to 512 nodes, 0 to 128
-# rules".
+# "node words no multiple of 4, node or rule count .."; "1 to 512 nodes, 0 to 128 rules".
 for count in (1, 2, 3, 5, 6, 7, 2045, 2046, 2047, 2049, 2050, 2051):
     refused(f"{count} node words", 3, [0] * count)
 for count in (1, 2, 511, 512):
@@ -136,8 +135,8 @@ refused("513 nodes and 129 rules", 3, flat([EMPTY] * 513), [0] * 129)
 
 # --- Number 4 ------------------------------------------------------------------------------------
 
-# "kind over 9, child not lower, no such rule, terminal over 255, relation over 3, unused word not 0".
-# The node stands behind a and b, with two rules; alone, then as the middle one of three.
+# "kind over 9, child not lower .. unused word not 0". The node stands behind a and b, with two rules;
+# alone, then as the middle one of three.
 ALLOWED = [
     (0, 0, 0, 0),
     (1, 0, 0, 0),
@@ -442,8 +441,8 @@ bad("((empty)*)*", 1, [EMPTY, repeat(0), repeat(1)])
 
 # --- Left recursion and what hides it ------------------------------------------------------------
 
-# "a sequence whose a is, and b too if a may read nothing"; "Well formed is also least". A rule that
-# comes back to itself with nothing read has no ground to stand on.
+# "a sequence whose a is, and b too .."; "Well formed is also least". A rule that comes back to itself
+# with nothing read has no ground to stand on.
 bad("X = X a", 1, [A, rule(0), seq(1, 0)], [2])
 passes("X = a X", [A, rule(0), seq(0, 1)], [2])
 passes("X = a X b", [A, B, rule(0), seq(2, 1), seq(0, 3)], [4])
@@ -454,7 +453,7 @@ passes("X = a (X X)", [A, rule(0), seq(1, 1), seq(0, 2)], [3])
 bad("X = (X X) a", 1, [A, rule(0), seq(1, 1), seq(2, 0)], [3])
 bad("X = a* X", 2, [A, repeat(0), rule(0), seq(1, 2)], [3])
 bad("X = (not a) X", 2, [A, not_(0), rule(0), seq(1, 2)], [3])
-# "X = (not empty) X passes": not empty may not succeed at all.
+# Not empty may not succeed at all, so what stands behind it is not asked.
 passes("X = (not empty) X", [EMPTY, not_(0), rule(0), seq(1, 2)], [3])
 bad("X = (not not a) X", 3, [A, not_(0), not_(1), rule(0), seq(2, 3)], [4])
 bad("X = (not not empty) X", 3, [EMPTY, not_(0), not_(1), rule(0), seq(2, 3)], [4])
@@ -536,7 +535,7 @@ passes("X = Y X, Y = a", [rule(1), rule(0), seq(0, 1), A], [2, 3])
 bad("X = Y X, Y = a / empty", 1, [rule(1), rule(0), seq(0, 1), A, EMPTY, choice(3, 4)], [2, 5])
 bad("X = Y X, Y = a Y / empty", 1, [rule(1), rule(0), seq(0, 1), A, seq(3, 0), EMPTY, choice(4, 5)], [2, 6])
 passes("X = Y X, Y = a Y / b", [rule(1), rule(0), seq(0, 1), A, seq(3, 0), B, choice(4, 5)], [2, 6])
-# Y = a Y may only fail: it succeeds by no finite reading, and "the facts are the least ones".
+# Y = a Y may only fail: it succeeds by no finite reading, and the facts "are the least ones".
 passes("X = Y X, Y = a Y", [rule(1), rule(0), seq(0, 1), A, seq(3, 0)], [2, 4])
 bad("X = (not Y) X, Y = a Y", 2, [rule(1), not_(0), rule(0), seq(1, 2), A, seq(4, 0)], [3, 5])
 passes(
@@ -616,7 +615,7 @@ passes("rule 126 named, rule 127 empty", [A, rule(126), repeat(1), EMPTY], [0] *
 
 # --- The lowest one is named, reachable or not ---------------------------------------------------
 
-# "if every node does, reachable or not; otherwise the lowest that doesn't is named".
+# "if every node does, reachable or not; otherwise the lowest ..".
 bad("unreachable (empty)*", 2, [A, EMPTY, repeat(1)], [0])
 bad("unreachable (empty)* before the rest", 1, [EMPTY, repeat(0), A, seq(2, 2)], [3])
 bad("unreachable X X = X X", 2, [A, EMPTY, rule(1), seq(2, 2)], [0, 3])
@@ -629,7 +628,7 @@ bad("bad last of many", 6, [A, EMPTY, B, choice(0, 2), repeat(3), seq(0, 4), rep
 # A rule that stands for a bad higher node is bad itself: "else the child".
 bad("X, X = (empty)*", 0, [rule(0), EMPTY, repeat(1)], [2])
 bad("a X, X = (empty)*", 1, [A, rule(0), seq(0, 1), EMPTY, repeat(3)], [4])
-# "A sequence can pass while its b does not; then b itself is named." Node 0 stands for the sequence
+# A sequence can pass while its b does not; then b itself is named. Node 0 stands for the sequence
 # and passes with it where a reads; node 2 is b.
 bad("a X passes as Y, X = (empty)*", 2, [rule(1), A, rule(0), seq(1, 2), EMPTY, repeat(4)], [5, 3])
 bad("empty X as Y, X = (empty)*", 0, [rule(1), EMPTY, rule(0), seq(1, 2), repeat(1)], [4, 3])
@@ -712,8 +711,8 @@ def seen(label, facts, nodes, rules=()):
 for number, said, facts in SETS:
     seen(f"set {facts}: {said}", facts, BASE[: number + 1])
 
-# "Sequence: nothing if both; something if both may succeed and one reads something; fails if a may
-# fail, or a may succeed and b fail." A row for each a, a column for each b, in the order of SETS.
+# "Sequence: nothing if both; something .. fails if a may fail, or .." A row for each a, a column for
+# each b, in the order of SETS.
 SEQUENCE = (
     ("N", "SF", "F", "NF", "NS", "NSF"),
     ("SF", "SF", "F", "SF", "SF", "SF"),
@@ -975,6 +974,7 @@ def any_position(i):
 
 
 def any_form(i):
+    """Align, indent, position and not in turn."""
     return (align(i), indent(i, 1), position(i, 2), not_(i))[i % 4]
 
 
