@@ -7,19 +7,20 @@ use lib.ListN.{length, take, drop, length-map}
 use lib.Dec.{ltb}
 use native.Mathlib.Omega.{arith}
 use borrow.Author.Tests.{ltb-false}
-use Rattle.table.specs.Answer as table
-use Rattle.table.specs.Answer.{Answer, refuseIf, afterwards}
+use Rattle.table.specs.Answer.{Answer, given, refused, refusedAt, refuseIf, afterwards}
+use Rattle.table.proofs.AnswerLaws.{first-refuses, first-names, first-passes, second-given}
 use Rattle.table.specs.Limits.{mostTokens}
 use Rattle.table.proofs.Every.{both-false}
 use Rattle.table.proofs.Words.{length-words}
-use Rattle.grammar_file.specs.File.{Contents, contents, fieldsOf, nodeTable, ruleList, fourWords, startNode, startMode, fails1, fails2, fails5ByFile, fails6, checks1to5, readAnswer}
-use Rattle.table.specs.Checks.{fails3, fails4}
+use Rattle.grammar_file.specs.File.{Contents, contents, fieldsOf, nodeTable, ruleList, fourWords, startNode, startMode, fails6, fileAnswer, readAnswer}
 use Rattle.file_fields.specs.Fields.{Field, tagged}
 use Rattle.scanner.specs.Places.{places}
 use Rattle.scanner.specs.Tokens.{tokens, tokenWords, wordsOf}
 use Rattle.scanner.specs.Scan.{scanTokens, scanAnswer, fails8, fails9, fails10}
-use Rattle.well_formed.specs.Check.{NodeAnswer, given, refused, refusedAt, checkAnswer}
-use Rattle.interpreter.specs.RunAnswer.{Ended, runAnswer}
+use Rattle.well_formed.specs.Check.{checkAnswer}
+use Rattle.columns.specs.declared.Interval.{Interval}
+use Rattle.clauses.specs.Clauses.{Outcome}
+use Rattle.clauses.specs.RunAnswer.{runAnswer}
 use Rattle.line.specs.Line.{startAt, scanAndRun, checkAndRun, lineAnswer}
 
 -- The front of what was written is what was written.
@@ -28,32 +29,19 @@ front [] r n e = rw (← e) refl
 front (x ∷ w) r n e = rw (← e) (ap (λ (l : List ℕ). x ∷ l) (front w r (length w) refl))
 
 -- Checks that did not refuse.
-five : {A : Type 0} (a b c d e : Bool) (next : Answer A) (x : A) → table.given x ≡ refuseIf a 1 (refuseIf b 2 (refuseIf c 3 (refuseIf d 4 (refuseIf e 5 next)))) → table.given x ≡ next
-five true b c d e next x p = absurd (let z : _≡_ {A = ℕ} 0 1 = cc in omega arith)
-five false true c d e next x p = absurd (let z : _≡_ {A = ℕ} 0 1 = cc in omega arith)
-five false false true d e next x p = absurd (let z : _≡_ {A = ℕ} 0 1 = cc in omega arith)
-five false false false true e next x p = absurd (let z : _≡_ {A = ℕ} 0 1 = cc in omega arith)
-five false false false false true next x p = absurd (let z : _≡_ {A = ℕ} 0 1 = cc in omega arith)
-five false false false false false next x p = p
-
-file-given : {A : Type 0} (file : List ℕ) (next : Answer A) (x : A) → table.given x ≡ checks1to5 file next → table.given x ≡ next
-unfolding checks1to5
-file-given file next x e =
-    five (fails1 file) (fails2 (fieldsOf file)) (fails3 (nodeTable (fieldsOf file)) (ruleList (fieldsOf file))) (fails4 (nodeTable (fieldsOf file)) (ruleList (fieldsOf file))) (fails5ByFile (fieldsOf file)) next x e
-
-three : (a b c : Bool) (m n : ℕ) → table.given n ≡ refuseIf a 8 (refuseIf b 9 (refuseIf c 10 (table.given m))) → (c ≡ false) × (n ≡ m)
+three : (a b c : Bool) (m n : ℕ) → given n ≡ refuseIf a 8 (refuseIf b 9 (refuseIf c 10 (given m))) → (c ≡ false) × (n ≡ m)
 three true b c m n p = absurd (let z : _≡_ {A = ℕ} 0 1 = cc in omega arith)
 three false true c m n p = absurd (let z : _≡_ {A = ℕ} 0 1 = cc in omega arith)
 three false false true m n p = absurd (let z : _≡_ {A = ℕ} 0 1 = cc in omega arith)
 three false false false m n p = (refl, cc)
 
 -- The scanner.
-module _ (file report : List ℕ) (n : ℕ) (e : table.given n ≡ scanAnswer file report 16384) where
+module _ (file report : List ℕ) (n : ℕ) (e : given n ≡ scanAnswer file report 16384) where
   scan-counts : (n * 4 ≤ 16384) × (length (wordsOf (scanTokens file report)) ≡ n * 4)
   unfolding scanAnswer fails10 tokens
   scan-counts =
-      let next = refuseIf (fails8 report) 8 (refuseIf (fails9 report) 9 (refuseIf (fails10 report 16384) 10 (table.given (length (places report))))) in
-      let s = three (fails8 report) (fails9 report) (fails10 report 16384) (length (places report)) n (file-given file next n e) in
+      let next = refuseIf (fails8 report) 8 (refuseIf (fails9 report) 9 (refuseIf (fails10 report 16384) 10 (given (length (places report))))) in
+      let s = three (fails8 report) (fails9 report) (fails10 report 16384) (length (places report)) n (second-given (fileAnswer file) next n e) in
       let l = ltb-false 16384 (length (places report) * 4) (both-false (ltb mostTokens (length (places report))) (ltb 16384 (length (places report) * 4)) (s .0) .1) in
       let w = length-words tokenWords (λ t. refl) (scanTokens file report) in
       let k : length (scanTokens file report) ≡ length (places report) = length-map (places report) _ in
@@ -66,44 +54,44 @@ module _ (file report : List ℕ) (n : ℕ) (e : table.given n ≡ scanAnswer fi
   pub scan-whole : length (wordsOf (scanTokens file report)) ≡ n * 4
   scan-whole = scan-counts .1
 
-  pub scan-front : (old : List ℕ) {after : List ℕ} → after ≡ afterwards (table.given n) (wordsOf (scanTokens file report)) old → take (n * 4) after ≡ wordsOf (scanTokens file report)
+  pub scan-front : (old : List ℕ) {after : List ℕ} → after ≡ afterwards (given n) (wordsOf (scanTokens file report)) old → take (n * 4) after ≡ wordsOf (scanTokens file report)
   scan-front old e = rw e (front (wordsOf (scanTokens file report)) (drop (length (wordsOf (scanTokens file report))) old) (n * 4) (scan-counts .1))
 
   -- The run is the answer.
-  pub scan-run : (nodes rules : List ℕ) (node mode : ℕ) {words : List ℕ} {v : NodeAnswer Ended} → words ≡ wordsOf (scanTokens file report) → v ≡ runAnswer nodes rules words (startAt node mode) → v ≡ scanAndRun file report nodes rules node mode
+  pub scan-run : (nodes rules : List ℕ) (node mode : ℕ) {words : List ℕ} {v : Answer (Outcome Interval)} → words ≡ wordsOf (scanTokens file report) → v ≡ runAnswer nodes rules words (startAt node mode) → v ≡ scanAndRun file report nodes rules node mode
   unfolding scanAndRun
   scan-run nodes rules node mode q d = d ∙ rw (q, ← e) refl
 
-pub scan-refuses : (file report nodes rules : List ℕ) (node mode : ℕ) {k : ℕ} → table.refused k ≡ scanAnswer file report 16384 → refused k ≡ scanAndRun file report nodes rules node mode
+pub scan-refuses : (file report nodes rules : List ℕ) (node mode : ℕ) {k : ℕ} → refused k ≡ scanAnswer file report 16384 → refused k ≡ scanAndRun file report nodes rules node mode
 unfolding scanAndRun
-scan-refuses file report nodes rules node mode e = rw (← e) refl
+scan-refuses file report nodes rules node mode e = first-refuses _ e
 
 -- The check.
 module _ (file report nodes rules : List ℕ) (node mode : ℕ) where
   pub check-refuses : {k : ℕ} → refused k ≡ checkAnswer nodes rules → refused k ≡ checkAndRun file report nodes rules node mode
   unfolding checkAndRun
-  check-refuses e = rw (← e) refl
+  check-refuses e = first-refuses _ e
 
   pub check-names : {k n : ℕ} → refusedAt k n ≡ checkAnswer nodes rules → refusedAt k n ≡ checkAndRun file report nodes rules node mode
   unfolding checkAndRun
-  check-names e = rw (← e) refl
+  check-names e = first-names _ e
 
-  pub check-passes : {v : NodeAnswer Ended} → given tt ≡ checkAnswer nodes rules → v ≡ scanAndRun file report nodes rules node mode → v ≡ checkAndRun file report nodes rules node mode
+  pub check-passes : {v : Answer (Outcome Interval)} → given tt ≡ checkAnswer nodes rules → v ≡ scanAndRun file report nodes rules node mode → v ≡ checkAndRun file report nodes rules node mode
   unfolding checkAndRun
-  check-passes e d = d ∙ rw (← e) refl
+  check-passes e d = d ∙ first-passes _ e
 
 -- The file reader.
-six : (c : Bool) (m x : Contents) → table.given x ≡ refuseIf c 6 (table.given m) → (c ≡ false) × (x ≡ m)
+six : (c : Bool) (m x : Contents) → given x ≡ refuseIf c 6 (given m) → (c ≡ false) × (x ≡ m)
 six true m x p = absurd (let z : _≡_ {A = ℕ} 0 1 = cc in omega arith)
 six false m x p = (refl, cc)
 
-module _ (file : List ℕ) (x : Contents) (e : table.given x ≡ readAnswer file 2048 128) where
+module _ (file : List ℕ) (x : Contents) (e : given x ≡ readAnswer file 2048 128) where
   abbrev fs : List Field
   fs = fieldsOf file
 
   read-six : (fails6 fs 2048 128 ≡ false) × (x ≡ contents fs)
   unfolding readAnswer
-  read-six = six (fails6 fs 2048 128) (contents fs) x (file-given file (refuseIf (fails6 fs 2048 128) 6 (table.given (contents fs))) x e)
+  read-six = six (fails6 fs 2048 128) (contents fs) x (second-given (fileAnswer file) (refuseIf (fails6 fs 2048 128) 6 (given (contents fs))) x e)
 
   pub record Reads : Type 0 where
     pub few-nodes : x .nodes * 4 ≤ 2048
@@ -124,16 +112,16 @@ module _ (file : List ℕ) (x : Contents) (e : table.given x ≡ readAnswer file
       let r : x .rules ≡ length (ruleList fs) = ap (λ (c : Contents). c .rules) (read-six .1) in
       record { few-nodes = omega arith; few-rules = omega arith; all-nodes = omega arith; all-rules = sym r; node = ap (λ (c : Contents). c .start) (read-six .1); mode-of = ap (λ (c : Contents). c .mode) (read-six .1) }
 
-  pub nodes-front : (old : List ℕ) {after : List ℕ} → after ≡ afterwards (table.given x) (nodeTable fs) old → take (x .nodes * 4) after ≡ nodeTable fs
+  pub nodes-front : (old : List ℕ) {after : List ℕ} → after ≡ afterwards (given x) (nodeTable fs) old → take (x .nodes * 4) after ≡ nodeTable fs
   nodes-front old d = rw d (front (nodeTable fs) (drop (length (nodeTable fs)) old) (x .nodes * 4) (read-as .all-nodes))
 
-  pub rules-front : (old : List ℕ) {after : List ℕ} → after ≡ afterwards (table.given x) (ruleList fs) old → take (x .rules) after ≡ ruleList fs
+  pub rules-front : (old : List ℕ) {after : List ℕ} → after ≡ afterwards (given x) (ruleList fs) old → take (x .rules) after ≡ ruleList fs
   rules-front old d = rw d (front (ruleList fs) (drop (length (ruleList fs)) old) (x .rules) (read-as .all-rules))
 
-  pub read-runs : (report : List ℕ) {nodes rules : List ℕ} {v : NodeAnswer Ended} → nodes ≡ nodeTable fs → rules ≡ ruleList fs → v ≡ checkAndRun file report nodes rules (x .start) (x .mode) → v ≡ lineAnswer file report
+  pub read-runs : (report : List ℕ) {nodes rules : List ℕ} {v : Answer (Outcome Interval)} → nodes ≡ nodeTable fs → rules ≡ ruleList fs → v ≡ checkAndRun file report nodes rules (x .start) (x .mode) → v ≡ lineAnswer file report
   unfolding lineAnswer
   read-runs report p q d = d ∙ rw (p, q, read-as .node, read-as .mode-of, ← e) refl
 
-pub read-refuses : (file report : List ℕ) {k : ℕ} → table.refused k ≡ readAnswer file 2048 128 → refused k ≡ lineAnswer file report
+pub read-refuses : (file report : List ℕ) {k : ℕ} → refused k ≡ readAnswer file 2048 128 → refused k ≡ lineAnswer file report
 unfolding lineAnswer
-read-refuses file report e = rw (← e) refl
+read-refuses file report e = first-refuses _ e

@@ -11,8 +11,9 @@ use native.Mathlib.Omega.{arith}
 use Rattle.columns.specs.declared.Upper.{Upper}
 use Rattle.columns.specs.declared.Upper.the-variants.{At, Endless}
 use Rattle.line.specs.Line.{decimalTo, decimal, successWord, space, break, upperWord, flagWord, lineBytes}
-use Rattle.well_formed.specs.Check.{given}
-use Rattle.interpreter.specs.RunAnswer.{success}
+use Rattle.table.specs.Answer.{given}
+use Rattle.columns.specs.Intervals.{to}
+use Rattle.clauses.specs.Clauses.{success}
 use Rattle.line.specs.InternalPut.{pasted}
 
 -- One element that is stored.
@@ -135,5 +136,5 @@ pub success-line : (o : List ℕ) {o₁ o₂ o₃ o₄ o₅ o₆ o₇ : List ℕ
     → (r₃ ≡ r₂ + length space) × (o₃ ≡ pasted o₂ r₂ space) → (r₄ ≡ r₃ + length (decimal lower)) × (o₄ ≡ pasted o₃ r₃ (decimal lower))
     → (r₅ ≡ r₄ + length space) × (o₅ ≡ pasted o₄ r₄ space) → (r₆ ≡ r₅ + length (upperWord upper)) × (o₆ ≡ pasted o₅ r₅ (upperWord upper))
     → (r₇ ≡ r₆ + length (space ++ flagWord flag ++ break)) × (o₇ ≡ pasted o₆ r₆ (space ++ flagWord flag ++ break))
-    → (r₇ ≡ length (lineBytes (given (success read lower upper flag)))) × (o₇ ≡ pasted o 0 (lineBytes (given (success read lower upper flag))))
-success-line o read lower upper flag a b c d e f g = put-first (put-then (put-then (put-then (put-then (put-then (put-then (wrote a) (wrote b)) (wrote c)) (wrote d)) (wrote e)) (wrote f)) (wrote g))
+    → (r₇ ≡ length (lineBytes (given (success (0 + read, to lower upper, flag))))) × (o₇ ≡ pasted o 0 (lineBytes (given (success (0 + read, to lower upper, flag)))))
+success-line o read lower upper flag a b c d e f g = rw (zero-add read) (put-first (put-then (put-then (put-then (put-then (put-then (put-then (wrote a) (wrote b)) (wrote c)) (wrote d)) (wrote e)) (wrote f)) (wrote g)))

@@ -4,16 +4,19 @@ use mathlib.Core.Bool.{Bool, true, false, cond}
 use mathlib.Core.List.{List, [], _∷_, _++_}
 use lib.ListN.{length, drop}
 use lib.Dec.{ltb}
+use Rattle.table.specs.Answer.{Answer, given, refused, refusedAt, andThen}
 use Rattle.table.specs.Limits.{mostNodes, mostRules, mostTokens}
 use Rattle.columns.specs.Intervals.{to}
 use Rattle.columns.specs.declared.Upper.{Upper}
 use Rattle.columns.specs.declared.Upper.the-variants.{At, Endless}
+use Rattle.columns.specs.declared.Interval.{Interval}
 use Rattle.columns.specs.declared.Start.{Start}
 use Rattle.grammar_file.specs.File.{fieldsOf, nodeTable, ruleList, startNode, startMode, readAnswer}
 use Rattle.scanner.specs.Tokens.{wordsOf}
 use Rattle.scanner.specs.Scan.{scanTokens, scanAnswer}
-use Rattle.well_formed.specs.Check.{NodeAnswer, given, refused, refusedAt, afterTable, checkAnswer}
-use Rattle.interpreter.specs.RunAnswer.{Ended, success, failure, afterCheck, runAnswer}
+use Rattle.well_formed.specs.Check.{checkAnswer}
+use Rattle.clauses.specs.Clauses.{Outcome, success, failure}
+use Rattle.clauses.specs.RunAnswer.{runAnswer}
 
 -- "runs the file's start from token 0, interval 0 without end, flag clear": node and mode.
 abbrev pub startAt : ℕ → ℕ → Start
@@ -21,17 +24,17 @@ startAt node mode = record { node = node; place = 0; interval = to 0 Endless; fl
 
 -- "the lowest number that any of the four parts gives": 1 to 5 by the file reader, 7 by the check, 8 to 10 by the scanner,
 -- and then the run. The file reader and the scanner are lent what the largest table and the most tokens need.
-unfoldable pub scanAndRun : List ℕ → List ℕ → List ℕ → List ℕ → ℕ → ℕ → NodeAnswer Ended
+unfoldable pub scanAndRun : List ℕ → List ℕ → List ℕ → List ℕ → ℕ → ℕ → Answer (Outcome Interval)
 scanAndRun file report nodes rules node mode =
-    afterTable (scanAnswer file report (mostTokens * 4))
+    andThen (scanAnswer file report (mostTokens * 4))
     (runAnswer nodes rules (wordsOf (scanTokens file report)) (startAt node mode))
 
-unfoldable pub checkAndRun : List ℕ → List ℕ → List ℕ → List ℕ → ℕ → ℕ → NodeAnswer Ended
-checkAndRun file report nodes rules node mode = afterCheck (checkAnswer nodes rules) (scanAndRun file report nodes rules node mode)
+unfoldable pub checkAndRun : List ℕ → List ℕ → List ℕ → List ℕ → ℕ → ℕ → Answer (Outcome Interval)
+checkAndRun file report nodes rules node mode = andThen (checkAnswer nodes rules) (scanAndRun file report nodes rules node mode)
 
-unfoldable pub lineAnswer : List ℕ → List ℕ → NodeAnswer Ended
+unfoldable pub lineAnswer : List ℕ → List ℕ → Answer (Outcome Interval)
 lineAnswer file report =
-    afterTable (readAnswer file (mostNodes * 4) mostRules)
+    andThen (readAnswer file (mostNodes * 4) mostRules)
     (checkAndRun file report (nodeTable (fieldsOf file)) (ruleList (fieldsOf file)) (startNode (fieldsOf file)) (startMode (fieldsOf file)))
 
 -- A number in decimal digits, at most so many: those of its tenth, if it is 10 or more, and the last one.
@@ -69,11 +72,11 @@ abbrev pub flagWord : Bool → List ℕ
 flagWord true = 115 ∷ 101 ∷ 116 ∷ []
 flagWord false = 99 ∷ 108 ∷ 101 ∷ 97 ∷ 114 ∷ []
 
--- "`success 4 0 1 clear`: tokens read, lower end, upper end, flag. Otherwise `failure`, or `refused` with the lowest number
--- .. and for 7 the node. One space parts the words and a line break ends the line."
-abbrev pub lineBytes : NodeAnswer Ended → List ℕ
-lineBytes (given (success read lower upper flag)) =
-    successWord ++ space ++ decimal read ++ space ++ decimal lower ++ space ++ upperWord upper ++ (space ++ flagWord flag ++ break)
+-- "`success 4 0 1 clear`: tokens read, lower end, upper end .., flag. Otherwise `failure`, or `refused` with the lowest number
+-- .. and for 7 the node." The run begins at place 0, so its end place is the number of tokens read.
+abbrev pub lineBytes : Answer (Outcome Interval) → List ℕ
+lineBytes (given (success s)) =
+    successWord ++ space ++ decimal (s .0) ++ space ++ decimal (s .1 .lower) ++ space ++ upperWord (s .1 .upper) ++ (space ++ flagWord (s .2) ++ break)
 lineBytes (given failure) = failureWord ++ break
 lineBytes (refused number) = refusedWord ++ space ++ decimal number ++ break
 lineBytes (refusedAt number node) = refusedWord ++ space ++ decimal number ++ space ++ decimal node ++ break

@@ -2,25 +2,26 @@
 use Prim.Native.Nat.{ℕ, _≤_, _*_}
 use mathlib.Core.Path.{_≡_}
 use mathlib.Core.List.{List}
+use Rattle.table.specs.Answer.{Answer, given, refused, refusedAt}
 use Rattle.table.specs.Limits.{mostNodes, mostRules, mostTokens}
 use Rattle.grammar_file.specs.File.{fieldsOf, nodeTable, ruleList, startNode, startMode, readAnswer}
 use Rattle.scanner.specs.Tokens.{wordsOf}
 use Rattle.scanner.specs.Scan.{scanTokens, scanAnswer}
-use Rattle.well_formed.specs.Check.{NodeAnswer, given, refused, refusedAt, afterTable, checkAnswer}
-use Rattle.interpreter.specs.RunAnswer.{runAnswer}
+use Rattle.well_formed.specs.Check.{checkAnswer}
+use Rattle.clauses.specs.RunAnswer.{runAnswer}
 use Rattle.line.specs.Line.{startAt}
 
 -- An answer refuses with number n.
-abbrev pub Refuses : {A : Type 0} → NodeAnswer A → ℕ → Type 0
+abbrev pub Refuses : {A : Type 0} → Answer A → ℕ → Type 0
 Refuses (given a) n = ⊥
 Refuses (refused number) n = n ≡ number
 Refuses (refusedAt number node) n = n ≡ number
 
 -- A part gives number n: the file reader, the check of the file's table, the scanner, the interpreter on both.
 pub data Gives (file report : List ℕ) (n : ℕ) : Type 0 where
-  by-reader : Refuses {A = Unit} (afterTable (readAnswer file (mostNodes * 4) mostRules) (given tt)) n → Gives file report n
+  by-reader : Refuses (readAnswer file (mostNodes * 4) mostRules) n → Gives file report n
   by-check : Refuses (checkAnswer (nodeTable (fieldsOf file)) (ruleList (fieldsOf file))) n → Gives file report n
-  by-scanner : Refuses {A = Unit} (afterTable (scanAnswer file report (mostTokens * 4)) (given tt)) n → Gives file report n
+  by-scanner : Refuses (scanAnswer file report (mostTokens * 4)) n → Gives file report n
   by-interpreter : Refuses (runAnswer (nodeTable (fieldsOf file)) (ruleList (fieldsOf file)) (wordsOf (scanTokens file report)) (startAt (startNode (fieldsOf file)) (startMode (fieldsOf file)))) n → Gives file report n
 
 -- n is the lowest number that any part gives.

@@ -14,7 +14,7 @@ use well_formed::Verdict;
 ghost use mathlib.Core.Path.{_≡_};
 ghost use Prim.Native.Nat.{_≤_, _+_};
 ghost use lib.ListN.{length};
-ghost use Rattle.interpreter.specs.RunAnswer.{numbers};
+ghost use Rattle.interpreter.specs.Numbers.{numbers};
 ghost use Rattle.line.specs.Line.{lineAnswer, lineBytes, lineCount, lineAfter, checkAndRun, scanAndRun, upperWord, flagWord, space, break};
 ghost use mathlib.Core.List.{_++_};
 ghost use Rattle.interpreter.specs.declared.Ran.the-variants.{Success};
@@ -37,7 +37,7 @@ pub fn write(file: &[u8], report: &[u8], out: &mut [u8]) -> usize
 
 // What the four parts answer: the file reader first.
 fn answer(file: &[u8], report: &[u8]) -> Ran
-    ensures { λ r. ⌜ numbers r ≡ lineAnswer (now (file .entry)) (now (report .entry)) ⌝ }
+    ensures { λ r. ⌜ numbers 0 r ≡ lineAnswer (now (file .entry)) (now (report .entry)) ⌝ }
 {
     let mut nodes = [0u16; 2048];
     let mut rules = [0u16; 128];
@@ -59,7 +59,7 @@ fn answer(file: &[u8], report: &[u8]) -> Ran
 
 // The check.
 fn checked(file: &[u8], report: &[u8], nodes: &[u16], rules: &[u16], node: u16, mode: u16) -> Ran
-    ensures { λ r. ⌜ numbers r ≡ checkAndRun (now (file .entry)) (now (report .entry)) (now (nodes .entry)) (now (rules .entry)) node mode ⌝ }
+    ensures { λ r. ⌜ numbers 0 r ≡ checkAndRun (now (file .entry)) (now (report .entry)) (now (nodes .entry)) (now (rules .entry)) node mode ⌝ }
 {
     match well_formed::check(nodes, rules) {
         Verdict::Refused(number) => Ran::Refused(number),
@@ -70,7 +70,7 @@ fn checked(file: &[u8], report: &[u8], nodes: &[u16], rules: &[u16], node: u16, 
 
 // The scanner and the interpreter.
 fn scanned(file: &[u8], report: &[u8], nodes: &[u16], rules: &[u16], node: u16, mode: u16) -> Ran
-    ensures { λ r. ⌜ numbers r ≡ scanAndRun (now (file .entry)) (now (report .entry)) (now (nodes .entry)) (now (rules .entry)) node mode ⌝ }
+    ensures { λ r. ⌜ numbers 0 r ≡ scanAndRun (now (file .entry)) (now (report .entry)) (now (nodes .entry)) (now (rules .entry)) node mode ⌝ }
 {
     let mut tokens = [0u32; 16384];
     let x = scanner::scan(file, report, &mut tokens);
@@ -97,8 +97,8 @@ fn scanned(file: &[u8], report: &[u8], nodes: &[u16], rules: &[u16], node: u16, 
 // Puts the line of an answer.
 fn put_answer(out: &mut [u8], x: Ran) -> usize
     requires { ⌜ 64 ≤ length (now out) ⌝ }
-    ensures { λ r. ⌜ r ≡ length (lineBytes (numbers x)) ⌝ }
-    ensures { λ r. ⌜ now (out .exit) ≡ pasted (now (out .entry)) 0 (lineBytes (numbers x)) ⌝ }
+    ensures { λ r. ⌜ r ≡ length (lineBytes (numbers 0 x)) ⌝ }
+    ensures { λ r. ⌜ now (out .exit) ≡ pasted (now (out .entry)) 0 (lineBytes (numbers 0 x)) ⌝ }
 {
     match x {
         Ran::Success(read, s) => put_success(out, read, s),
@@ -119,8 +119,8 @@ fn put_answer(out: &mut [u8], x: Ran) -> usize
 // Puts the line of a success: tokens read, lower end, upper end, flag.
 fn put_success(out: &mut [u8], read: u32, s: State) -> usize
     requires { ⌜ 64 ≤ length (now out) ⌝ }
-    ensures { λ r. ⌜ r ≡ length (lineBytes (numbers (Success read s))) ⌝ }
-    ensures { λ r. ⌜ now (out .exit) ≡ pasted (now (out .entry)) 0 (lineBytes (numbers (Success read s))) ⌝ }
+    ensures { λ r. ⌜ r ≡ length (lineBytes (numbers 0 (Success read s))) ⌝ }
+    ensures { λ r. ⌜ now (out .exit) ≡ pasted (now (out .entry)) 0 (lineBytes (numbers 0 (Success read s))) ⌝ }
 {
     let c = s.interval;
     let lower = c.lower;

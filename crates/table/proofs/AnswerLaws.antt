@@ -19,6 +19,12 @@ module _ {A B : Type 0} {first : Answer B} where
   pub first-passes : {x : B} (next : Answer A) → given x ≡ first → next ≡ andThen first next
   first-passes next e = rw (← e) refl
 
+-- Both parts pass where the two together do.
+pub second-given : {A B : Type 0} (first : Answer B) (next : Answer A) (x : A) → given x ≡ andThen first next → given x ≡ next
+second-given (given b) next x e = e
+second-given (refused number) next x e = absurd (let z : _≡_ {A = ℕ} 0 1 = cc in omega arith)
+second-given (refusedAt number node) next x e = absurd (let z : _≡_ {A = ℕ} 0 1 = cc in omega arith)
+
 -- An answer that names no node.
 abbrev pub Nameless : {A : Type 0} → Answer A → Type 0
 Nameless a = (number node : ℕ) → a ≡ refusedAt number node → ⊥
