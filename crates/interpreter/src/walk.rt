@@ -71,13 +71,13 @@ pub(crate) fn expression(
                                 s = u;
                                 node = b;
                             }
-                            4 => {
+                            4 => { // the first alternative
                                 return Outcome::Success(u);
                             }
                             5 => {
                                 return Outcome::Failure; // a not of what succeeds
                             }
-                            6 => {
+                            6 => { // a round was read
                                 s = u; // the next round
                             }
                             7 => {
