@@ -38,7 +38,7 @@ returns-3 : tie.Need-returns-3
 returns-3 c = search needs
 
 returns-4 : tie.Need-returns-4
-returns-4 c = rw (c .before .before .x3 .given .1) (c .seven-at .ensures, refl)
+returns-4 c = (cc, search needs)
 
 pub report-spec : {M : Type 1} → statement M
 report-spec =
