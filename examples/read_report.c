@@ -4,8 +4,10 @@
  */
 #include <stdio.h>
 #include <stdlib.h>
+#include <string.h>
 
 #include "saktroum.h"
+#include "saktroum_stack.h"
 
 /* One byte more than a file or report may have, so that one over length is noticed. */
 enum { MOST = 65536 };
@@ -13,6 +15,12 @@ enum { MOST = 65536 };
 static uint8_t file[MOST], report[MOST];
 static uint16_t nodes[SAKTROUM_NODE_WORDS], rules[SAKTROUM_RULE_WORDS];
 static uint32_t tokens[SAKTROUM_TOKEN_WORDS];
+
+/* How many bytes there are to read, and afterwards the exit status. */
+struct reading {
+    size_t file_bytes, report_bytes;
+    int status;
+};
 
 static size_t load(const char *path, uint8_t *bytes)
 {
@@ -26,10 +34,42 @@ static size_t load(const char *path, uint8_t *bytes)
     return n;
 }
 
-static int refused(const char *part, uint32_t number)
+static int refused(const char *part, uint32_t answer)
 {
-    printf("%s: refused %u\n", part, number);
+    printf("%s: refused %u", part, saktroum_number(answer));
+    if (saktroum_number(answer) == 7)
+        printf(", node %u", saktroum_node(answer));
+    putchar('\n');
     return 1;
+}
+
+static int read_report(size_t file_bytes, size_t report_bytes)
+{
+    size_t read[5], count[1], ran[6];
+    uint32_t answer;
+    if ((answer = saktroum_read(file, file_bytes, nodes, SAKTROUM_NODE_WORDS, rules, SAKTROUM_RULE_WORDS, read)))
+        return refused("read", answer);
+    printf("read: %zu nodes, %zu rules, %zu keywords\n", read[0], read[1], read[2]);
+    if ((answer = saktroum_check(nodes, read[0] * 4, rules, read[1])))
+        return refused("check", answer);
+    if ((answer = saktroum_scan(file, file_bytes, report, report_bytes, tokens, SAKTROUM_TOKEN_WORDS, count)))
+        return refused("scan", answer);
+    printf("scan: %zu tokens\n", count[0]);
+    /* The file's start from token 0, interval 0 without end, flag clear. */
+    if ((answer = saktroum_run(nodes, read[0] * 4, rules, read[1], tokens, count[0] * 4,
+                               (uint16_t)read[3], 0, 0, 0, true, false, (uint16_t)read[4], ran)))
+        return refused("run", answer);
+    if (ran[0])
+        printf("run: success, %zu of %zu tokens read\n", ran[1], count[0]);
+    else
+        puts("run: failure");
+    return 0;
+}
+
+static void work(void *argument)
+{
+    struct reading *it = argument;
+    it->status = read_report(it->file_bytes, it->report_bytes);
 }
 
 int main(int argc, char **argv)
@@ -38,28 +78,10 @@ int main(int argc, char **argv)
         fprintf(stderr, "usage: read_report GRAMMAR REPORT\n");
         return 2;
     }
-    size_t file_bytes = load(argv[1], file), report_bytes = load(argv[2], report);
-    size_t read[5], count[1], node[1], ran[6];
-    uint32_t number;
-    if ((number = saktroum_read(file, file_bytes, nodes, SAKTROUM_NODE_WORDS, rules, SAKTROUM_RULE_WORDS, read)))
-        return refused("read", number);
-    printf("read: %zu nodes, %zu rules, %zu keywords\n", read[0], read[1], read[2]);
-    /* What was read passes 3, 4 and 5, so only 7 is left. */
-    if ((number = saktroum_check(nodes, read[0] * 4, rules, read[1], node))) {
-        printf("check: refused %u, node %zu\n", number, node[0]);
-        return 1;
-    }
-    if ((number = saktroum_scan(file, file_bytes, report, report_bytes, tokens, SAKTROUM_TOKEN_WORDS, count)))
-        return refused("scan", number);
-    printf("scan: %zu tokens\n", count[0]);
-    /* The file's start from token 0, interval 0 without end, flag clear. */
-    if ((number = saktroum_run(nodes, read[0] * 4, rules, read[1], tokens, count[0] * 4,
-                               (uint16_t)read[3], 0, 0, 0, true, false, (uint16_t)read[4], ran)))
-        return refused("run", number);
-    if (!ran[0]) {
-        puts("run: failure");
-        return 0;
-    }
-    printf("run: success, %zu of %zu tokens read\n", ran[1], count[0]);
-    return 0;
+    struct reading it = {load(argv[1], file), load(argv[2], report), 2};
+    /* A run may need more stack than a program usually has. */
+    int error = saktroum_with_stack(work, &it);
+    if (error)
+        fprintf(stderr, "no thread with 1 GiB of stack: %s\n", strerror(error));
+    return it.status;
 }

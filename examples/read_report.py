@@ -4,12 +4,26 @@
     python3 examples/read_report.py LIBRARY GRAMMAR REPORT
 """
 
+import concurrent.futures
 import ctypes
 import pathlib
 import sys
+import threading
 from ctypes import byref, c_bool, c_size_t, c_uint8, c_uint16, c_uint32
 
 NODE_WORDS, RULE_WORDS, TOKEN_WORDS = 2048, 128, 16384
+PARTS = ("saktroum_read", "saktroum_check", "saktroum_scan", "saktroum_run")
+
+# What the deepest runs need fits into 1 GiB; only what is used is taken.
+STACK_BYTES = 1 << 30
+
+
+def loaded(library):
+    """The library, whose answers have 32 bits and no sign."""
+    reader = ctypes.CDLL(str(pathlib.Path(library).resolve()))
+    for part in PARTS:
+        reader[part].restype = c_uint32
+    return reader
 
 
 def given(values, kind):
@@ -17,18 +31,20 @@ def given(values, kind):
     return (kind * max(1, len(values)))(*values), c_size_t(len(values))
 
 
-def passed(number, part, node=None):
+def passed(answer, part):
+    """Ends with the number, and with the node for 7, unless the answer is 0."""
+    number, node = answer & 65535, answer >> 16
     if number:
-        sys.exit(f"{part}: refused {number}" + (f", node {node[0]}" if number == 7 else ""))
+        sys.exit(f"{part}: refused {number}" + (f", node {node}" if number == 7 else ""))
 
 
-def main(library, grammar, report):
-    reader = ctypes.CDLL(str(pathlib.Path(library).resolve()))
+def read_report(library, grammar, report):
+    reader = loaded(library)
     file = given(pathlib.Path(grammar).read_bytes(), c_uint8)
     text = pathlib.Path(report).read_bytes()
     bytes_ = given(text, c_uint8)
     nodes, rules, tokens = (c_uint16 * NODE_WORDS)(), (c_uint16 * RULE_WORDS)(), (c_uint32 * TOKEN_WORDS)()
-    read, count, node, ran = (c_size_t * 5)(), (c_size_t * 1)(), (c_size_t * 1)(), (c_size_t * 6)()
+    read, count, ran = (c_size_t * 5)(), (c_size_t * 1)(), (c_size_t * 6)()
     passed(
         reader.saktroum_read(
             *file, nodes, c_size_t(NODE_WORDS), rules, c_size_t(RULE_WORDS), byref(read)
@@ -36,7 +52,7 @@ def main(library, grammar, report):
         "read",
     )
     table = (nodes, c_size_t(read[0] * 4), rules, c_size_t(read[1]))
-    passed(reader.saktroum_check(*table, byref(node)), "check", node)
+    passed(reader.saktroum_check(*table), "check")
     passed(reader.saktroum_scan(*file, *bytes_, tokens, c_size_t(TOKEN_WORDS), byref(count)), "scan")
     # The file's start from token 0, interval 0 without end, flag clear.
     start = (c_uint16(read[3]), c_uint32(0), c_uint32(0), c_uint32(0), c_bool(True), c_bool(False), c_uint16(read[4]))
@@ -50,7 +66,14 @@ def main(library, grammar, report):
         print(terminal, column, text[offset : offset + length].decode("utf-8", "replace"))
 
 
-if __name__ == "__main__":
+def main():
     if len(sys.argv) != 4:
         sys.exit("usage: read_report.py LIBRARY GRAMMAR REPORT")
-    main(*sys.argv[1:])
+    # On a thread of its own: a run may need more stack than a program usually has. What ends the thread ends the program.
+    threading.stack_size(STACK_BYTES)
+    with concurrent.futures.ThreadPoolExecutor(1) as thread:
+        thread.submit(read_report, *sys.argv[1:]).result()
+
+
+if __name__ == "__main__":
+    main()

@@ -9,10 +9,12 @@
  * - What a call may write (a pointer without `const`) overlaps no other argument of the call.
  * - Until the call ends nothing else reads or writes what it may write, and nothing writes what it may read.
  * - saktroum_run and saktroum_line call themselves as deep as grammar and tokens make them, and no proof speaks of the
- *   stack. In the programs that were measured 1 GiB is enough for every grammar and 4,096 tokens, and 4 MiB for the list
- *   X = (a X) / empty (docs/BENCHMARKS.md).
+ *   stack: where it is too small, the system ends the program. 1 GiB is enough for every grammar and 4,096 tokens, by
+ *   measurement (docs/BENCHMARKS.md); the usual 8 MiB are not. saktroum_stack.h makes a thread with so much. The other
+ *   calls need little, STACKKIB at most.
  *
- * The answer of the first four is 0 if the call passed every check, or the number of the first check it failed:
+ * The answer of the first four is 0 if the call passed every check, or else the number of the first check it failed, for 7
+ * with the node: 7 + 65,536 * node. saktroum_number and saktroum_node take it apart. The numbers:
  *
  *    1  file over 65,535 bytes; a field cut short, missing, out of order, unknown or of a wrong length; tag 1's value
  *       not 1; over 253 keywords
@@ -21,7 +23,7 @@
  *    4  kind over 9, child not lower, no such rule, terminal over 255, relation over 3, unused word not 0
  *    5  a rule's node or the file's start node not in the table, the file's mode over 3
  *    6  a lent slice too short for the table or the rules
- *    7  not well formed; the lowest such node is in result[0]
+ *    7  not well formed; the node is the lowest such one
  *    8  report over 65,535 bytes, or a refused byte
  *    9  a token's column over 65,535
  *   10  over 4,096 tokens, or too few words lent
@@ -29,7 +31,7 @@
  *   12  start node past the table, place past the tokens (right behind the last is allowed), lower end over the upper or
  *       over 65,535, upper end over 65,535, mode over 3
  *
- * A call that answers a number writes nothing but the node for 7. After success, words past those written are as before.
+ * A call that does not answer 0 writes nothing. After success, words past those written are as before.
  */
 #ifndef SAKTROUM_H
 #define SAKTROUM_H
@@ -67,6 +69,10 @@ enum {
 /* Relations and token modes. */
 enum { SAKTROUM_EQUAL = 0, SAKTROUM_GREATER = 1, SAKTROUM_AT_LEAST = 2, SAKTROUM_ANY = 3 };
 
+/* The number of an answer, 0 if the call passed every check, and for 7 the node. */
+static inline uint32_t saktroum_number(uint32_t answer) { return answer & 65535; }
+static inline uint32_t saktroum_node(uint32_t answer) { return answer >> 16; }
+
 /* Reads a grammar file (1 to 6). Writes four words a node (kind, a, b, relation) to `nodes` and a node number a rule to
  * `rules`; result: the number of nodes, of rules, of keywords, the start node, its mode. */
 uint32_t saktroum_read(const uint8_t *file, size_t file_bytes,
@@ -81,10 +87,9 @@ uint32_t saktroum_scan(const uint8_t *file, size_t file_bytes,
                        uint32_t *tokens, size_t token_words,
                        size_t result[1]);
 
-/* Checks that a grammar is well formed (3, 4, 5, 7). Writes result[0] for 7 only. */
+/* Checks that a grammar is well formed (3, 4, 5, 7). */
 uint32_t saktroum_check(const uint16_t *nodes, size_t node_words,
-                        const uint16_t *rules, size_t rule_words,
-                        size_t result[1]);
+                        const uint16_t *rules, size_t rule_words);
 
 /* Runs a grammar on tokens (3, 4, 5, 7, 11, 12) from a start: its node, the token place, the interval from `lower` to
  * `upper`, or without end (then `upper` is not looked at), the alignment flag and the token mode.

@@ -237,14 +237,13 @@ fn checks() -> Result<(), String> {
 
 fn check(name: &str, nodes: &[[u16; 4]], rules: &[u16]) -> Result<(), String> {
     let nodes = nodes.concat();
-    let mut result = [0];
     time(
         name,
-        || plain::check(&nodes, rules, &mut result) as usize,
+        || plain::check(&nodes, rules) as usize,
         || match second::check(&nodes, rules) {
             second::Verdict::Passes => 0,
             second::Verdict::Refused(number) => usize::from(number),
-            second::Verdict::IllFormed(_) => 7,
+            second::Verdict::IllFormed(node) => 7 + 65_536 * usize::from(node),
         },
     )
 }

@@ -30,7 +30,6 @@ mod c {
             node_words: usize,
             rules: *const u16,
             rule_words: usize,
-            result: *mut [usize; 1],
         ) -> u32;
         pub fn saktroum_run(
             nodes: *const u16,
@@ -92,16 +91,8 @@ pub mod plain {
         }
     }
 
-    pub fn check(nodes: &[u16], rules: &[u16], result: &mut [usize; 1]) -> u32 {
-        unsafe {
-            c::saktroum_check(
-                nodes.as_ptr(),
-                nodes.len(),
-                rules.as_ptr(),
-                rules.len(),
-                result,
-            )
-        }
+    pub fn check(nodes: &[u16], rules: &[u16]) -> u32 {
+        unsafe { c::saktroum_check(nodes.as_ptr(), nodes.len(), rules.as_ptr(), rules.len()) }
     }
 
     /// The stack must do for the run.
@@ -200,11 +191,17 @@ impl<T: Copy + PartialEq> Lent<T> {
     }
 }
 
+/// The number of an answer without a node.
 fn number(answer: u32) -> Result<u8, Odd> {
     match answer {
         0..=12 => Ok(answer as u8),
         _ => Err(Odd(format!("the answer is {answer}"))),
     }
+}
+
+/// The node of an answer whose number is 7.
+fn node_of(answer: u32) -> Option<u16> {
+    (answer & 0xffff == 7).then_some((answer >> 16) as u16)
 }
 
 /// A word of a result, of a narrower type.
@@ -252,29 +249,27 @@ pub fn scan(file: &[u8], report: &[u8], room: usize) -> Result<Result<Vec<u32>, 
 
 /// The check.
 pub fn check(nodes: &[u16], rules: &[u16]) -> Result<Verdict, Odd> {
-    let mut result = Lent::new(1, RESULT_WORD);
-    let answer = plain::check(nodes, rules, result.array());
-    match number(answer)? {
-        7 => narrow(result.reported(1, "result")?[0]).map(Verdict::IllFormed),
-        0 => result.reported(0, "result").map(|_| Verdict::Passes),
-        refused => result
-            .reported(0, "result")
-            .map(|_| Verdict::Refused(refused)),
+    let answer = plain::check(nodes, rules);
+    if let Some(node) = node_of(answer) {
+        return Ok(Verdict::IllFormed(node));
     }
+    Ok(match number(answer)? {
+        0 => Verdict::Passes,
+        refused => Verdict::Refused(refused),
+    })
 }
 
 /// The interpreter. The stack must do for the run.
 pub fn run(nodes: &[u16], rules: &[u16], tokens: &[u32], start: &Start) -> Result<Ran, Odd> {
     let mut result = Lent::new(6, RESULT_WORD);
     let answer = plain::run(nodes, rules, tokens, start, result.array());
+    if let Some(node) = node_of(answer) {
+        return result.reported(0, "result").map(|_| Ran::IllFormed(node));
+    }
     let first = result.slice()[0];
     match (number(answer)?, first) {
         (0, 0) => result.reported(1, "result").map(|_| Ran::Failure),
         (0, _) => success(&result.reported(6, "result")?),
-        (7, node) => {
-            result.reported(1, "result")?;
-            narrow(node).map(Ran::IllFormed)
-        }
         (refused, _) => result.reported(0, "result").map(|_| Ran::Refused(refused)),
     }
 }

@@ -1,5 +1,5 @@
 -- What the C interface reports: a number, and words in a lent array.
-use Prim.Native.Nat.{ℕ}
+use Prim.Native.Nat.{ℕ, _+_, _*_}
 use mathlib.Core.Bool.{Bool, cond}
 use mathlib.Core.List.{List, [], _∷_, _++_}
 use lib.ListN.{set}
@@ -17,17 +17,17 @@ abbrev pub nodeless : {A : Type 0} → table.Answer A → NodeAnswer A
 nodeless (table.given a) = given a
 nodeless (table.refused number) = refused number
 
--- The number: 0 where the call passes every check, else that of the first it fails.
+-- The number: 0 where the call passes every check, else that of the first it fails, and 65,536 times the node with it.
 abbrev pub number : {A : Type 0} → NodeAnswer A → ℕ
 number (given a) = 0
 number (refused n) = n
-number (refusedAt n node) = n
+number (refusedAt n node) = n + 65536 * node
 
--- The lent words afterwards: the value in them, or for 7 the node in the first; another number leaves them as they were.
+-- The lent words afterwards: the value in them; a refused call leaves them as they were.
 abbrev pub reported : {A : Type 0} → (A → List ℕ → List ℕ) → NodeAnswer A → List ℕ → List ℕ
 reported value (given a) before = value a before
 reported value (refused n) before = before
-reported value (refusedAt n node) before = set before 0 node
+reported value (refusedAt n node) before = before
 
 -- What a value puts into the lent words. A value of as many words as are lent leaves none of those that were there.
 
@@ -38,10 +38,6 @@ contentsIn c before = c .nodes ∷ c .rules ∷ c .keywords ∷ c .start ∷ c .
 -- The number of tokens of a scan: one word.
 abbrev pub countIn : ℕ → List ℕ → List ℕ
 countIn n before = n ∷ []
-
--- Nothing, where a grammar passes the check.
-abbrev pub nothingIn : {A : Type 0} → A → List ℕ → List ℕ
-nothingIn a before = before
 
 -- A truth value as a word.
 abbrev pub bit : Bool → ℕ

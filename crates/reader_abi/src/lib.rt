@@ -8,6 +8,7 @@ use interpreter::Ran;
 use scanner::Scanned;
 use well_formed::Verdict;
 ghost use mathlib.Core.Path.{_≡_};
+ghost use Prim.Native.Nat.{_+_, _*_};
 ghost use mathlib.Core.List.{[]};
 ghost use lib.ListN.{length};
 ghost use Rattle.table.specs.Answer.{afterwards};
@@ -18,7 +19,7 @@ ghost use Rattle.well_formed.specs.Check.{checkAnswer};
 ghost use Rattle.interpreter.specs.RunAnswer.{runAnswer, numbers};
 ghost use Rattle.line.specs.Line.{lineCount, lineAfter};
 ghost use Rattle.interpreter.specs.declared.Ran.the-variants.{Success};
-ghost use Rattle.reader_abi.specs.Reported.{nodeless, number, reported, contentsIn, countIn, nothingIn, endedIn, upperFrom, startFrom};
+ghost use Rattle.reader_abi.specs.Reported.{nodeless, number, reported, contentsIn, countIn, endedIn, upperFrom, startFrom};
 
 // Reads a grammar file. The answer is 0, with the counts of nodes, rules and keywords, the start node and its mode in
 // `result`, or the number that refused the call.
@@ -73,26 +74,28 @@ pub extern "C" fn saktroum_scan(
     }
 }
 
-// Checks that a grammar is well formed. The answer is 0 or the number that refused the call, for 7 with the node in
-// `result`.
+// Checks that a grammar is well formed. The answer is 0 or the number that refused the call, for 7 with the node.
 #[no_mangle]
-pub extern "C" fn saktroum_check(nodes: &[u16], rules: &[u16], result: &mut [usize; 1]) -> u32
+pub extern "C" fn saktroum_check(nodes: &[u16], rules: &[u16]) -> u32
     ensures { λ r. ⌜ r ≡ number (checkAnswer (now (nodes .entry)) (now (rules .entry))) ⌝ }
-    ensures { λ r. ⌜ now (result .exit) ≡ reported nothingIn (checkAnswer (now (nodes .entry)) (now (rules .entry))) (now (result .entry)) ⌝ }
 {
     let x = well_formed::check(nodes, rules);
     match x {
         Verdict::Refused(n) => n as u32,
-        Verdict::IllFormed(node) => {
-            result[0] = node as usize;
-            7
-        }
+        Verdict::IllFormed(node) => seven_at(node),
         Verdict::Passes => 0,
     }
 }
 
+// 7 with its node.
+fn seven_at(node: u16) -> u32
+    ensures { λ r. ⌜ r ≡ 7 + 65536 * node ⌝ }
+{
+    7 + 65536 * (node as u32)
+}
+
 // Runs a grammar on tokens from a start. The answer is 0, with success or failure in `result`, or the number that
-// refused the call, for 7 with the node in the first word of `result`.
+// refused the call, for 7 with the node.
 #[no_mangle]
 pub extern "C" fn saktroum_run(
     nodes: &[u16],
@@ -140,10 +143,7 @@ fn report(x: Ran, result: &mut [usize; 6]) -> u32
             0
         }
         Ran::Refused(n) => n as u32,
-        Ran::IllFormed(node) => {
-            result[0] = node as usize;
-            7
-        }
+        Ran::IllFormed(node) => seven_at(node),
     }
 }
 

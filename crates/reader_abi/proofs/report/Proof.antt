@@ -25,11 +25,8 @@ cast-result c = search needs
 enum-known-x-3 : tie.Need-enum-known-x-3
 enum-known-x-3 c = search needs
 
-cast-result-2 : tie.Need-cast-result-2
-cast-result-2 c = search needs
-
-element-write-result-2 : tie.Need-element-write-result-2
-element-write-result-2 c = search needs
+seven-at-requires : tie.Need-seven-at-requires
+seven-at-requires c κs = search needs
 
 returns : tie.Need-returns
 returns c = (rw (c .before .before .x .given .1) refl, c .success-words .ensures ∙ rw (c .before .before .x .given .1) refl)
@@ -41,7 +38,7 @@ returns-3 : tie.Need-returns-3
 returns-3 c = search needs
 
 returns-4 : tie.Need-returns-4
-returns-4 c = rw (c .before .x3 .given .1) (refl, refl)
+returns-4 c = (cc, search needs)
 
 pub report-spec : {M : Type 1} → statement M
 report-spec =
@@ -54,8 +51,7 @@ report-spec =
     enum-known-x-2
     cast-result
     enum-known-x-3
-    cast-result-2
-    element-write-result-2
+    seven-at-requires
     returns
     returns-2
     returns-3

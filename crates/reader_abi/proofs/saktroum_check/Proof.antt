@@ -17,23 +17,20 @@ cast-result c = search needs
 enum-known-x-2 : tie.Need-enum-known-x-2
 enum-known-x-2 c = search needs
 
-cast-result-2 : tie.Need-cast-result-2
-cast-result-2 c = search needs
-
-element-write-result : tie.Need-element-write-result
-element-write-result c = search needs
+seven-at-requires : tie.Need-seven-at-requires
+seven-at-requires c κs = search needs
 
 enum-told : tie.Need-enum-told
 enum-told c = search needs
 
 returns : tie.Need-returns
-returns c = rw (← (sym (ap numbers (c .before .x .given .1)) ∙ c .before .before .before .check .ensures .0)) (refl, refl)
+returns c = rw (← (sym (ap numbers (c .before .x .given .1)) ∙ c .before .before .before .check .ensures .0)) refl
 
 returns-2 : tie.Need-returns-2
-returns-2 c = rw (← (sym (ap numbers (c .before .x2 .given .1)) ∙ c .before .before .before .check .ensures .0)) (refl, refl)
+returns-2 c = rw (← (sym (ap numbers (c .before .before .x2 .given .1)) ∙ c .before .before .before .before .check .ensures .0)) (c .seven-at .ensures)
 
 returns-3 : tie.Need-returns-3
-returns-3 c = rw (← (sym (ap numbers (c .enum-told .given .1)) ∙ c .before .before .check .ensures .0)) (refl, refl)
+returns-3 c = rw (← (sym (ap numbers (c .enum-told .given .1)) ∙ c .before .before .check .ensures .0)) refl
 
 pub saktroum-check-spec : {M : Type 1} → statement M
 saktroum-check-spec =
@@ -43,8 +40,7 @@ saktroum-check-spec =
     enum-known-x
     cast-result
     enum-known-x-2
-    cast-result-2
-    element-write-result
+    seven-at-requires
     enum-told
     returns
     returns-2
