@@ -3,28 +3,24 @@ use Prim.Native.Nat.{ℕ, _+_, _*_}
 use mathlib.Core.Bool.{Bool, cond}
 use mathlib.Core.List.{List, [], _∷_, _++_}
 use lib.ListN.{set}
-use Rattle.table.specs.Answer as table
+use Rattle.table.specs.Answer.{Answer, given, refused, refusedAt}
 use Rattle.columns.specs.Intervals.{to}
 use Rattle.columns.specs.declared.Upper.{Upper}
 use Rattle.columns.specs.declared.Upper.the-variants.{At, Endless}
+use Rattle.columns.specs.declared.Interval.{Interval}
 use Rattle.columns.specs.declared.Start.{Start}
 use Rattle.grammar_file.specs.File.{Contents}
-use Rattle.well_formed.specs.Check.{NodeAnswer, given, refused, refusedAt}
-use Rattle.interpreter.specs.RunAnswer.{Ended, success, failure}
-
--- An answer that names no node.
-abbrev pub nodeless : {A : Type 0} → table.Answer A → NodeAnswer A
-nodeless (table.given a) = given a
-nodeless (table.refused number) = refused number
+use Rattle.clauses.specs.Clauses.{Outcome, success, failure}
+use Rattle.clauses.specs.RunAnswer.{Reads}
 
 -- The number: 0 where the call passes every check, else that of the first it fails, and 65,536 times the node with it.
-abbrev pub number : {A : Type 0} → NodeAnswer A → ℕ
+abbrev pub number : {A : Type 0} → Answer A → ℕ
 number (given a) = 0
 number (refused n) = n
 number (refusedAt n node) = n + 65536 * node
 
 -- The lent words afterwards: the value in them; a refused call leaves them as they were.
-abbrev pub reported : {A : Type 0} → (A → List ℕ → List ℕ) → NodeAnswer A → List ℕ → List ℕ
+abbrev pub reported : {A : Type 0} → (A → List ℕ → List ℕ) → Answer A → List ℕ → List ℕ
 reported value (given a) before = value a before
 reported value (refused n) before = before
 reported value (refusedAt n node) before = before
@@ -48,10 +44,17 @@ abbrev pub upperWords : Upper → List ℕ
 upperWords (At h) = h ∷ 0 ∷ []
 upperWords Endless = 0 ∷ 1 ∷ []
 
--- Success, six words: 1, the tokens read, the lower end, the two of the upper end, the flag. Failure: 0 in the first.
-abbrev pub endedIn : Ended → List ℕ → List ℕ
-endedIn (success read lower upper flag) before = 1 ∷ read ∷ lower ∷ (upperWords upper ++ (bit flag ∷ []))
-endedIn failure before = set before 0 0
+-- Success, six words: 1, the tokens read, the lower end, the two of the upper end, the flag.
+abbrev pub successWords : (read : ℕ) → Interval → Bool → List ℕ
+successWords read c flag = 1 ∷ read ∷ c .lower ∷ (upperWords (c .upper) ++ (bit flag ∷ []))
+
+-- The lent words before and after a run from a place: those of a success, which has read from the place on to its end place;
+-- 0 in the first for failure; as they were for a refused call.
+pub data RunReported (place : ℕ) (before : List ℕ) : Answer (Outcome Interval) → List ℕ → Type 0 where
+  of-success : {read end : ℕ} {c : Interval} {flag : Bool} → Reads place read end → RunReported place before (given (success (end, c, flag))) (successWords read c flag)
+  of-failure : RunReported place before (given failure) (set before 0 0)
+  of-refused : {n : ℕ} → RunReported place before (refused n) before
+  of-refusedAt : {n node : ℕ} → RunReported place before (refusedAt n node) before
 
 -- The upper end of plain values: a column, unless it is without end.
 abbrev pub upperFrom : ℕ → Bool → Upper

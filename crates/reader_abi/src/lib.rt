@@ -8,18 +8,17 @@ use interpreter::Ran;
 use scanner::Scanned;
 use well_formed::Verdict;
 ghost use mathlib.Core.Path.{_≡_};
-ghost use Prim.Native.Nat.{_+_, _*_};
-ghost use mathlib.Core.List.{[]};
+ghost use Prim.Native.Nat.{ℕ, _+_, _*_};
 ghost use lib.ListN.{length};
 ghost use Rattle.table.specs.Answer.{afterwards};
 ghost use Rattle.grammar_file.specs.File.{fieldsOf, nodeTable, ruleList, readAnswer};
 ghost use Rattle.scanner.specs.Tokens.{wordsOf};
 ghost use Rattle.scanner.specs.Scan.{scanTokens, scanAnswer};
 ghost use Rattle.well_formed.specs.Check.{checkAnswer};
-ghost use Rattle.interpreter.specs.RunAnswer.{runAnswer, numbers};
+ghost use Rattle.clauses.specs.RunAnswer.{runAnswer};
+ghost use Rattle.interpreter.specs.Numbers.{numbers};
 ghost use Rattle.line.specs.Line.{lineCount, lineAfter};
-ghost use Rattle.interpreter.specs.declared.Ran.the-variants.{Success};
-ghost use Rattle.reader_abi.specs.Reported.{nodeless, number, reported, contentsIn, countIn, endedIn, upperFrom, startFrom};
+ghost use Rattle.reader_abi.specs.Reported.{number, reported, contentsIn, countIn, successWords, RunReported, upperFrom, startFrom};
 
 // Reads a grammar file. The answer is 0, with the counts of nodes, rules and keywords, the start node and its mode in
 // `result`, or the number that refused the call.
@@ -30,10 +29,10 @@ pub extern "C" fn saktroum_read(
     rules: &mut [u16],
     result: &mut [usize; 5],
 ) -> u32
-    ensures { λ r. ⌜ r ≡ number (nodeless (readAnswer (now (file .entry)) (length (now (nodes .entry))) (length (now (rules .entry))))) ⌝ }
+    ensures { λ r. ⌜ r ≡ number (readAnswer (now (file .entry)) (length (now (nodes .entry))) (length (now (rules .entry)))) ⌝ }
     ensures { λ r. ⌜ now (nodes .exit) ≡ afterwards (readAnswer (now (file .entry)) (length (now (nodes .entry))) (length (now (rules .entry)))) (nodeTable (fieldsOf (now (file .entry)))) (now (nodes .entry)) ⌝ }
     ensures { λ r. ⌜ now (rules .exit) ≡ afterwards (readAnswer (now (file .entry)) (length (now (nodes .entry))) (length (now (rules .entry)))) (ruleList (fieldsOf (now (file .entry)))) (now (rules .entry)) ⌝ }
-    ensures { λ r. ⌜ now (result .exit) ≡ reported contentsIn (nodeless (readAnswer (now (file .entry)) (length (now (nodes .entry))) (length (now (rules .entry))))) (now (result .entry)) ⌝ }
+    ensures { λ r. ⌜ now (result .exit) ≡ reported contentsIn (readAnswer (now (file .entry)) (length (now (nodes .entry))) (length (now (rules .entry)))) (now (result .entry)) ⌝ }
 {
     let x = grammar_file::read(file, nodes, rules);
     match x {
@@ -60,9 +59,9 @@ pub extern "C" fn saktroum_scan(
     tokens: &mut [u32],
     result: &mut [usize; 1],
 ) -> u32
-    ensures { λ r. ⌜ r ≡ number (nodeless (scanAnswer (now (file .entry)) (now (report .entry)) (length (now (tokens .entry))))) ⌝ }
+    ensures { λ r. ⌜ r ≡ number (scanAnswer (now (file .entry)) (now (report .entry)) (length (now (tokens .entry)))) ⌝ }
     ensures { λ r. ⌜ now (tokens .exit) ≡ afterwards (scanAnswer (now (file .entry)) (now (report .entry)) (length (now (tokens .entry)))) (wordsOf (scanTokens (now (file .entry)) (now (report .entry)))) (now (tokens .entry)) ⌝ }
-    ensures { λ r. ⌜ now (result .exit) ≡ reported countIn (nodeless (scanAnswer (now (file .entry)) (now (report .entry)) (length (now (tokens .entry))))) (now (result .entry)) ⌝ }
+    ensures { λ r. ⌜ now (result .exit) ≡ reported countIn (scanAnswer (now (file .entry)) (now (report .entry)) (length (now (tokens .entry)))) (now (result .entry)) ⌝ }
 {
     let x = scanner::scan(file, report, tokens);
     match x {
@@ -111,7 +110,7 @@ pub extern "C" fn saktroum_run(
     result: &mut [usize; 6],
 ) -> u32
     ensures { λ r. ⌜ r ≡ number (runAnswer (now (nodes .entry)) (now (rules .entry)) (now (tokens .entry)) (startFrom node place lower upper endless flag mode)) ⌝ }
-    ensures { λ r. ⌜ now (result .exit) ≡ reported endedIn (runAnswer (now (nodes .entry)) (now (rules .entry)) (now (tokens .entry)) (startFrom node place lower upper endless flag mode)) (now (result .entry)) ⌝ }
+    ensures { λ r. ⌜ RunReported place (now (result .entry)) (runAnswer (now (nodes .entry)) (now (rules .entry)) (now (tokens .entry)) (startFrom node place lower upper endless flag mode)) (now (result .exit)) ⌝ }
 {
     let interval = Interval {
         lower,
@@ -128,10 +127,10 @@ pub extern "C" fn saktroum_run(
     report(x, result)
 }
 
-// Reports what a run answered.
+// Reports what a run answered, wherever it began.
 fn report(x: Ran, result: &mut [usize; 6]) -> u32
-    ensures { λ r. ⌜ r ≡ number (numbers x) ⌝ }
-    ensures { λ r. ⌜ now (result .exit) ≡ reported endedIn (numbers x) (now (result .entry)) ⌝ }
+    ensures { λ r. ⌜ ((place : ℕ) → r ≡ number (numbers place x)) ⌝ }
+    ensures { λ r. ⌜ ((place : ℕ) → RunReported place (now (result .entry)) (numbers place x) (now (result .exit))) ⌝ }
 {
     match x {
         Ran::Success(read, s) => {
@@ -149,7 +148,7 @@ fn report(x: Ran, result: &mut [usize; 6]) -> u32
 
 // The words of a success.
 fn success_words(read: u32, s: State) -> [usize; 6]
-    ensures { λ r. ⌜ r ≡ reported endedIn (numbers (Success read s)) [] ⌝ }
+    ensures { λ r. ⌜ r ≡ successWords read (s .interval) (s .flag) ⌝ }
 {
     let interval = s.interval;
     let upper = interval.upper;

@@ -2,7 +2,8 @@
 use borrow.Author.Needs.{needs}
 use Rattle.reader_abi.proofs.report.Statement.{statement}
 use Rattle.reader_abi.proofs.report.Tie as tie
-use mathlib.Core.Path.{refl, _∙_}
+use mathlib.Core.Path.{refl}
+use Rattle.reader_abi.specs.Reported.{of-success, of-failure, of-refused, of-refusedAt}
 
 enum-known-x : tie.Need-enum-known-x
 enum-known-x c = search needs
@@ -29,16 +30,16 @@ seven-at-requires : tie.Need-seven-at-requires
 seven-at-requires c κs = search needs
 
 returns : tie.Need-returns
-returns c = (rw (c .before .before .x .given .1) refl, c .success-words .ensures ∙ rw (c .before .before .x .given .1) refl)
+returns c = (λ place. rw (c .before .before .x .given .1) refl, λ place. rw (c .before .before .x .given .1, c .success-words .ensures) (of-success refl))
 
 returns-2 : tie.Need-returns-2
-returns-2 c = rw (c .enum-told .given .1) (refl, refl)
+returns-2 c = (λ place. rw (c .enum-told .given .1) refl, λ place. rw (c .enum-told .given .1) of-failure)
 
 returns-3 : tie.Need-returns-3
-returns-3 c = search needs
+returns-3 c = (λ place. rw (c .before .x2 .given .1) refl, λ place. rw (c .before .x2 .given .1) of-refused)
 
 returns-4 : tie.Need-returns-4
-returns-4 c = (cc, search needs)
+returns-4 c = (λ place. rw (c .before .before .x3 .given .1) (c .seven-at .ensures), λ place. rw (c .before .before .x3 .given .1) of-refusedAt)
 
 pub report-spec : {M : Type 1} → statement M
 report-spec =
