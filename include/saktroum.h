@@ -9,9 +9,9 @@
  * - What a call may write (a pointer without `const`) overlaps no other argument of the call.
  * - Until the call ends nothing else reads or writes what it may write, and nothing writes what it may read.
  * - saktroum_run and saktroum_line call themselves as deep as grammar and tokens make them, and no proof speaks of the
- *   stack: where it is too small, the system ends the program. 1 GiB is enough for every grammar and 4,096 tokens, by
- *   measurement (docs/BENCHMARKS.md); the usual 8 MiB are not. saktroum_stack.h makes a thread with so much. The other
- *   calls need little, STACKKIB at most.
+ *   stack: where it is too small, the system ends the program. By measurement 1 GiB is enough for every grammar and
+ *   4,096 tokens, and the usual 8 MiB are not (docs/BENCHMARKS.md). saktroum_stack.h has a function that runs the
+ *   caller's work on a thread with 1 GiB. The other calls do not nest; 64 KiB are enough for each.
  *
  * The answer of the first four is 0 if the call passed every check, or else the number of the first check it failed, for 7
  * with the node: 7 + 65,536 * node. saktroum_number and saktroum_node take it apart. The numbers:
@@ -31,7 +31,8 @@
  *   12  start node past the table, place past the tokens (right behind the last is allowed), lower end over the upper or
  *       over 65,535, upper end over 65,535, mode over 3
  *
- * A call that does not answer 0 writes nothing. After success, words past those written are as before.
+ * If one of the first four answers anything but 0, it has written nothing. After success, words past those written are as
+ * before.
  */
 #ifndef SAKTROUM_H
 #define SAKTROUM_H
@@ -69,7 +70,7 @@ enum {
 /* Relations and token modes. */
 enum { SAKTROUM_EQUAL = 0, SAKTROUM_GREATER = 1, SAKTROUM_AT_LEAST = 2, SAKTROUM_ANY = 3 };
 
-/* The number of an answer, 0 if the call passed every check, and for 7 the node. */
+/* The number in an answer, 0 if the call passed every check, and the node in one with 7. */
 static inline uint32_t saktroum_number(uint32_t answer) { return answer & 65535; }
 static inline uint32_t saktroum_node(uint32_t answer) { return answer >> 16; }
 
@@ -91,7 +92,7 @@ uint32_t saktroum_scan(const uint8_t *file, size_t file_bytes,
 uint32_t saktroum_check(const uint16_t *nodes, size_t node_words,
                         const uint16_t *rules, size_t rule_words);
 
-/* Runs a grammar on tokens (3, 4, 5, 7, 11, 12) from a start: its node, the token place, the interval from `lower` to
+/* Runs a grammar on tokens (3, 4, 5, 7, 11, 12; mind the stack, above) from a start: its node, the token place, the interval from `lower` to
  * `upper`, or without end (then `upper` is not looked at), the alignment flag and the token mode.
  * result, on success: 1, the number of tokens read, the lower end, the upper end (0 if there is none), whether the
  * interval is without end (1 or 0), whether the flag is set (1 or 0). On failure: result[0] is 0, the others are as before. */
