@@ -83,29 +83,28 @@ c = 3
 
 unfoldable pub benchCases : List Case
 benchCases =
-    -- a. Align of a b under greater, mode at least, a2 b3: 2 read, 0 to 1, clear (001).
+    -- a. |ab|^> in mode ≥ on a²b³ (001's own example).
     run (terminal a ∷ terminal b ∷ sequence 0 1 ∷ align 2 ∷ indent 3 greater ∷ []) [] (a at 2 ∷ b at 3 ∷ []) (from 4 atLeast) (reads 2 0 (At 1) false)
-    -- b. a, mode greater: a5 gives 0 to 4; a0 fails.
+    -- b. a in mode > on a⁵ and on a⁰.
     ∷ run (terminal a ∷ []) [] (a at 5 ∷ []) (from 0 greater) (reads 1 0 (At 4) false)
     ∷ run (terminal a ∷ []) [] (a at 0 ∷ []) (from 0 greater) fails
-    -- c. a, mode at least, a0: 0 to 0.
+    -- c. a in mode ≥ on a⁰.
     ∷ run (terminal a ∷ []) [] (a at 0 ∷ []) (from 0 atLeast) (reads 1 0 (At 0) false)
-    -- d. a, flag set, mode greater, a5: 5 to 5.
+    -- d. a in mode > with the flag set, on a⁵.
     ∷ run (terminal a ∷ []) [] (a at 5 ∷ []) (record { node = 0; place = 0; interval = to 0 Endless; flag = true; mode = greater }) (reads 1 5 (At 5) false)
-    -- e. No tokens: a fails; empty succeeds, state unchanged.
+    -- e. a and ε on no tokens.
     ∷ run (terminal a ∷ []) [] [] (from 0 equal) fails
     ∷ run (empty ∷ []) [] [] (from 0 equal) (reads 0 0 Endless false)
-    -- f. a, then (b under greater, or empty), mode equal: a1 b2 reads 2, 1 to 1; a3 b2 reads 1, 3 to 3.
+    -- f. a(b^> / ε) in mode equal on a¹b² and on a³b².
     ∷ run (terminal a ∷ terminal b ∷ indent 1 greater ∷ empty ∷ choice 2 3 ∷ sequence 0 4 ∷ []) [] (a at 1 ∷ b at 2 ∷ []) (from 5 equal) (reads 2 1 (At 1) false)
     ∷ run (terminal a ∷ terminal b ∷ indent 1 greater ∷ empty ∷ choice 2 3 ∷ sequence 0 4 ∷ []) [] (a at 3 ∷ b at 2 ∷ []) (from 5 equal) (reads 1 3 (At 3) false)
-    -- g. a, then b under any, mode equal, a3 b0: 2 read, 3 to 3.
+    -- g. ab^any in mode equal on a³b⁰.
     ∷ run (terminal a ∷ terminal b ∷ indent 1 any ∷ sequence 0 2 ∷ []) [] (a at 3 ∷ b at 0 ∷ []) (from 3 equal) (reads 2 3 (At 3) false)
-    -- h. Align of empty, then a, mode greater, a5: 0 to 4.
+    -- h. |ε|a in mode > on a⁵.
     ∷ run (empty ∷ align 0 ∷ terminal a ∷ sequence 1 2 ∷ []) [] (a at 5 ∷ []) (from 3 greater) (reads 1 0 (At 4) false)
-    -- i. Align of (a under greater), mode equal, from 1 to 1, a4: 1 to 1.
+    -- i. |a^>| in mode equal from 1 to 1 on a⁴.
     ∷ run (terminal a ∷ indent 0 greater ∷ align 1 ∷ []) [] (a at 4 ∷ []) (record { node = 2; place = 0; interval = to 1 (At 1); flag = false; mode = equal }) (reads 1 1 (At 1) false)
-    -- j. Check: repeat of empty is bad; repeat of not-empty passes; rule = (a or empty) then the rule, nodes in the order
-    -- a, empty, choice, rule, sequence: bad at node 3.
+    -- j. The checks of ε*, of (!ε)* and of X = (a / ε)X.
     ∷ check (empty ∷ repeat 0 ∷ []) [] (refusedAt 7 1)
     ∷ check (empty ∷ not 0 ∷ repeat 1 ∷ []) [] (given tt)
     ∷ check (terminal a ∷ empty ∷ choice 0 1 ∷ rule 0 ∷ sequence 2 3 ∷ []) (4 ∷ []) (refusedAt 7 3)
@@ -114,15 +113,14 @@ benchCases =
 -- Cases that each slip would break.
 unfoldable pub slipCases : List Case
 slipCases =
-    -- "Leaving the flag set after an align that read nothing (case h)": then b too would have to stand on the baseline.
+    -- "Leaving the flag set ..": then b too would have to stand on the baseline.
     run (empty ∷ align 0 ∷ terminal b ∷ sequence 1 2 ∷ terminal a ∷ sequence 4 3 ∷ []) [] (a at 2 ∷ b at 5 ∷ []) (from 5 atLeast) (reads 2 0 (At 2) false)
-    -- "Ignoring indentation under a set flag, as 000 does (case i)": then a would have to stand at 1.
+    -- "Ignoring indentation under a set flag ..": then a would have to stand at 1.
     ∷ run (terminal a ∷ indent 0 greater ∷ align 1 ∷ []) [] (a at 1 ∷ []) (record { node = 2; place = 0; interval = to 1 (At 1); flag = false; mode = equal }) fails
-    -- "Trying the second alternative with the first one's narrowed interval": a at 5 then c, in mode equal, or a in mode
-    -- greater. From 5 to 5 the second would fail.
+    -- "Trying the second alternative ..": a at 5 then c, in mode equal, or a in mode greater. From 5 to 5 the second would
+    -- fail.
     ∷ run (terminal a ∷ terminal c ∷ sequence 0 1 ∷ position 2 equal ∷ choice 3 0 ∷ []) [] (a at 5 ∷ []) (from 4 greater) (reads 1 0 (At 4) false)
-    -- "Capping the lower end at 65,535: in mode any it may pass that and tokens still match." From 65,535 on, a under
-    -- greater still matches (a reader that refused to pass 65,535 would fail), and an aligned a under greater is asked for
+    -- "Capping the lower end ..": from 65,535 on, a under greater still matches (a reader that refused to pass 65,535 would fail), and an aligned a under greater is asked for
     -- past 65,535 (a reader that stopped there would read it).
     ∷ run (terminal a ∷ indent 0 greater ∷ []) [] (a at 7 ∷ []) (record { node = 1; place = 0; interval = to 65535 Endless; flag = false; mode = any }) (reads 1 65535 Endless false)
     ∷ run (terminal a ∷ align 0 ∷ indent 1 greater ∷ []) [] (a at 65535 ∷ []) (record { node = 2; place = 0; interval = to 65535 Endless; flag = false; mode = any }) fails

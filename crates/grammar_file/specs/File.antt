@@ -80,7 +80,7 @@ startMode fs = getD (startValue fs) 2 0
 abbrev pub fieldsOf : List ℕ → List Field
 fieldsOf file = Option·getD (fields file) []
 
--- 1: "a field cut short, tag missing, out of order or unknown, wrong value length .., tag 1's value not 1, over 253 keywords"
+-- 1: "a field cut short ..": no fields, tags out of order, a wrong value, or too many keywords.
 unfoldable pub unreadable : Option (List Field) → Bool
 unreadable none = true
 unreadable (some fs) = not (inOrder fs) || not (rightValues fs) || ltb mostKeywords (length (keywords fs))

@@ -6,8 +6,8 @@ use Rattle.file_fields.specs.Bytes.{classOf}
 use Rattle.file_fields.specs.declared.bytes.Class.{Class}
 use Rattle.file_fields.specs.declared.bytes.Class.the-variants.{Break, Tab, Blank, Single, Digit, Run, Refused}
 
--- The column behind a byte of a class: "Byte 10 ends a line and sets the column to 0. Byte 9 moves to the next higher
--- multiple of 8." "Each byte but 9 and 10 advances the column by one."
+-- The column behind a byte of a class: "Byte 10 ..", 0; "Byte 9 ..", the next higher multiple of 8; "Each byte but 9 and
+-- 10", one more.
 abbrev pub columnBy : Class → ℕ → ℕ
 columnBy Break c = 0
 columnBy Tab c = (c / 8 + 1) * 8

@@ -1,5 +1,4 @@
--- Tokens one by one (01, "The scanner": "One value carries the report text with the offset and column reached and
--- whether this line has had a token, and hands out tokens one by one.").
+-- Tokens one by one (01, "The scanner": "One value carries the report text ..").
 use Prim.Native.Nat.{ℕ, zero, suc, _+_}
 use mathlib.Core.Bool.{Bool, true, false, cond, _||_}
 use mathlib.Core.List.{List, [], _∷_}

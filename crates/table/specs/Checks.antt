@@ -48,7 +48,7 @@ rightWords rules n (suc (suc (suc (suc (suc (suc (suc (suc (suc (suc k))))))))))
 abbrev pub rightNode : List ℕ → List ℕ → ℕ → Bool
 rightNode nodes rules n = rightWords (length rules) n (kindOf nodes n) (aOf nodes n) (bOf nodes n) (relationOf nodes n)
 
--- 4: "kind over 9, child not lower, no such rule, terminal over 255, relation over 3, unused word not 0"
+-- 4: "kind over 9, child not lower ..": some node's words are not right.
 unfoldable pub fails4 : List ℕ → List ℕ → Bool
 fails4 nodes rules = not (every (nodeCount nodes) (rightNode nodes rules))
 

@@ -20,8 +20,7 @@ mayNothing nodes rules n = knownAfter nodes rules (nodeCount nodes * 3) nothing 
 unfoldable pub isWell : List ℕ → List ℕ → ℕ → Bool
 isWell nodes rules n = wellAfter nodes rules (mayNothing nodes rules) (nodeCount nodes) n
 
--- "The grammar passes if every node does, reachable or not; otherwise the lowest that doesn't is named": so many nodes
--- from n on, in rising order.
+-- "The grammar passes if every node does ..": so many nodes from n on, in rising order.
 unfoldable pub verdictFrom : (ℕ → Bool) → ℕ → ℕ → Answer Unit
 verdictFrom well n zero = given tt
 verdictFrom well n (suc left) = cond (well n) (verdictFrom well (suc n) left) (refusedAt 7 n)

@@ -3,7 +3,8 @@ use borrow.Author.Needs.{needs}
 use Rattle.reader_abi.proofs.report.Statement.{statement}
 use Rattle.reader_abi.proofs.report.Tie as tie
 use mathlib.Core.Path.{refl}
-use Rattle.reader_abi.specs.Reported.{of-success, of-failure, of-refused, of-refusedAt}
+use Rattle.reader_abi.specs.Reported.{of-success, of-failure}
+use Rattle.reader_abi.proofs.ReportLaws.{number-refused, words-refused, number-named, words-named}
 
 enum-known-x : tie.Need-enum-known-x
 enum-known-x c = search needs
@@ -36,10 +37,10 @@ returns-2 : tie.Need-returns-2
 returns-2 c = (λ place. rw (c .enum-told .given .1) refl, λ place. rw (c .enum-told .given .1) of-failure)
 
 returns-3 : tie.Need-returns-3
-returns-3 c = (λ place. rw (c .before .x2 .given .1) refl, λ place. rw (c .before .x2 .given .1) of-refused)
+returns-3 c = (λ place. search number-refused, λ place. search words-refused)
 
 returns-4 : tie.Need-returns-4
-returns-4 c = (λ place. rw (c .before .before .x3 .given .1) (c .seven-at .ensures), λ place. rw (c .before .before .x3 .given .1) of-refusedAt)
+returns-4 c = (λ place. search number-named, λ place. search words-named)
 
 pub report-spec : {M : Type 1} → statement M
 report-spec =
