@@ -20,7 +20,7 @@ pub same-report : {place : ℕ} {before after : List ℕ} {a b : Answer (Outcome
 same-report {place} {before} {after} e r = subst (λ (x : Answer (Outcome Interval)). RunReported place before x after) e r
 
 -- A run that was refused: its number, and the lent words as they were.
-module _ {x : Ran} {place : ℕ} where
+module _ {x : Ran} (place : ℕ) where
   pub number-refused : {n : ℕ} → x ≡ Refused n → n ≡ number (numbers place x)
   number-refused e = rw e refl
 
