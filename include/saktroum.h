@@ -5,7 +5,8 @@
  * call answers and writes is proved; what it is owed by its caller is not checked:
  *
  * - A slice is a pointer and the number of its elements. The pointer is not null, even for 0 elements, is aligned for
- *   its element type, and the elements are there and set. `result` points to as many words as its brackets say.
+ *   its element type, and the elements are there and set. `result` points to as many words as its brackets say. A bool
+ *   is 0 or 1.
  * - What a call may write (a pointer without `const`) overlaps no other argument of the call.
  * - Until the call ends nothing else reads or writes what it may write, and nothing writes what it may read.
  * - saktroum_run and saktroum_line call themselves as deep as grammar and tokens make them, and no proof speaks of the

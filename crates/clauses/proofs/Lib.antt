@@ -1,3 +1,4 @@
 pub mod Sound
 pub mod CasesHold
 pub mod HandbookHold
+pub mod DemandSays

@@ -1,10 +1,10 @@
 -- The bench cases a to j of 01 in one table, with the answers that 01 gives, and beside them cases that its slips would
--- break. A case is a run (nodes, rules, tokens, start), answered by `runAnswer`, or a check, answered by `checkAnswer`.
+-- break and runs that are turned down. A case is a run (nodes, rules, tokens, start), answered by `runAnswer`, or a check, answered by `checkAnswer`.
 -- `CasesHold`, in proofs, computes them all.
 use Prim.Native.Nat.{ℕ}
 use mathlib.Core.Bool.{Bool, true, false}
 use mathlib.Core.List.{List, [], _∷_}
-use Rattle.table.specs.Answer.{Answer, given, refusedAt}
+use Rattle.table.specs.Answer.{Answer, given, refused, refusedAt}
 use Rattle.table.specs.Words.{eachWords}
 use Rattle.table.specs.Form.{Form, empty, terminal, rule, sequence, choice, not, repeat, indent, position, align, other}
 use Rattle.columns.specs.Relations.{equal, greater, atLeast, any}
@@ -71,6 +71,10 @@ answered (check nodes rules answer) = checked (checkAnswer (eachWords fourWords 
 abbrev pub from : ℕ → ℕ → Start
 from node mode = record { node = node; place = 0; interval = to 0 Endless; flag = false; mode = mode }
 
+-- The same at a place, node 0 in mode greater.
+abbrev pub fromPlace : ℕ → Start
+fromPlace place = record { node = 0; place = place; interval = to 0 Endless; flag = false; mode = greater }
+
 -- "a, b are terminals"; c is one more.
 abbrev pub a : ℕ
 a = 1
@@ -128,4 +132,22 @@ slipCases =
     ∷ run (terminal b ∷ position 0 equal ∷ not 1 ∷ terminal a ∷ sequence 2 3 ∷ []) [] (a at 5 ∷ []) (from 4 greater) (reads 1 0 (At 4) false)
     -- "else the repeat again from where the child ended": three tokens.
     ∷ run (terminal a ∷ repeat 0 ∷ []) [] (a at 0 ∷ a at 1 ∷ a at 2 ∷ []) (from 1 atLeast) (reads 3 0 (At 0) false)
+    ∷ []
+
+-- Runs from another place than 0, and runs that a number turns down: 01's small inputs, and a terminal over 255 for 11.
+unfoldable pub answerCases : List Case
+answerCases =
+    -- From place 1 one token is read, b, to the end place 2; from place 2, behind the last token, none.
+    run (terminal b ∷ []) [] (a at 5 ∷ b at 7 ∷ []) (fromPlace 1) (given (success (2, to 0 (At 6), false)))
+    ∷ run (empty ∷ []) [] (a at 5 ∷ b at 7 ∷ []) (fromPlace 2) (given (success (2, to 0 Endless, false)))
+    ∷ run (terminal b ∷ []) [] (a at 5 ∷ b at 7 ∷ []) (fromPlace 2) fails
+    ∷ run [] [] [] (from 0 equal) (refused 3)
+    ∷ run (repeat 0 ∷ []) [] [] (from 0 equal) (refused 4)
+    ∷ run (empty ∷ []) (1 ∷ []) [] (from 0 equal) (refused 5)
+    ∷ run (rule 0 ∷ []) (0 ∷ []) [] (from 0 equal) (refusedAt 7 0)
+    ∷ run (empty ∷ []) [] (256 at 0 ∷ []) (from 0 equal) (refused 11)
+    ∷ run (empty ∷ []) [] [] (record { node = 0; place = 0; interval = to 5 (At 4); flag = false; mode = equal }) (refused 12)
+    -- "Checks run in rising number": 7 before 11, 11 before 12.
+    ∷ run (rule 0 ∷ []) (0 ∷ []) (256 at 0 ∷ []) (from 0 equal) (refusedAt 7 0)
+    ∷ run (empty ∷ []) [] (256 at 0 ∷ []) (from 1 equal) (refused 11)
     ∷ []

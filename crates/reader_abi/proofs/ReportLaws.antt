@@ -20,15 +20,15 @@ pub same-report : {place : ℕ} {before after : List ℕ} {a b : Answer (Outcome
 same-report {place} {before} {after} e r = subst (λ (x : Answer (Outcome Interval)). RunReported place before x after) e r
 
 -- A run that was refused: its number, and the lent words as they were.
-module _ {x : Ran} (place : ℕ) where
-  pub number-refused : {n : ℕ} → x ≡ Refused n → n ≡ number (numbers place x)
-  number-refused e = rw e refl
+module _ {x : Ran} {n : ℕ} where
+  pub number-refused : x ≡ Refused n → (place : ℕ) → n ≡ number (numbers place x)
+  number-refused e place = rw e refl
 
-  pub words-refused : {n : ℕ} (before : List ℕ) → x ≡ Refused n → RunReported place before (numbers place x) before
-  words-refused before e = rw e of-refused
+  pub words-refused : x ≡ Refused n → (place : ℕ) (before : List ℕ) → RunReported place before (numbers place x) before
+  words-refused e place before = rw e of-refused
 
-  pub number-named : {n r : ℕ} → x ≡ IllFormed n → r ≡ 7 + 65536 * n → r ≡ number (numbers place x)
-  number-named e q = rw e q
+  pub number-named : x ≡ IllFormed n → {r : ℕ} → r ≡ 7 + 65536 * n → (place : ℕ) → r ≡ number (numbers place x)
+  number-named e q place = rw e q
 
-  pub words-named : {n : ℕ} (before : List ℕ) → x ≡ IllFormed n → RunReported place before (numbers place x) before
-  words-named before e = rw e of-refusedAt
+  pub words-named : x ≡ IllFormed n → (place : ℕ) (before : List ℕ) → RunReported place before (numbers place x) before
+  words-named e place before = rw e of-refusedAt

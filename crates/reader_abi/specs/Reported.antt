@@ -19,21 +19,19 @@ number (given a) = 0
 number (refused n) = n
 number (refusedAt n node) = n + 65536 * node
 
--- The lent words afterwards: the value in them; a refused call leaves them as they were.
-abbrev pub reported : {A : Type 0} → (A → List ℕ → List ℕ) → Answer A → List ℕ → List ℕ
-reported value (given a) before = value a before
-reported value (refused n) before = before
-reported value (refusedAt n node) before = before
-
--- What a value puts into the lent words. A value of as many words as are lent leaves none of those that were there.
+-- The lent words afterwards: those of the value, which has as many; a refused call leaves them as they were.
+abbrev pub reported : {A : Type 0} → (A → List ℕ) → Answer A → List ℕ → List ℕ
+reported words (given a) before = words a
+reported words (refused n) before = before
+reported words (refusedAt n node) before = before
 
 -- "A read answers the counts of nodes, rules and keywords and the start", node and mode: five words.
-abbrev pub contentsIn : Contents → List ℕ → List ℕ
-contentsIn c before = c .nodes ∷ c .rules ∷ c .keywords ∷ c .start ∷ c .mode ∷ []
+abbrev pub contentsWords : Contents → List ℕ
+contentsWords c = c .nodes ∷ c .rules ∷ c .keywords ∷ c .start ∷ c .mode ∷ []
 
 -- The number of tokens of a scan: one word.
-abbrev pub countIn : ℕ → List ℕ → List ℕ
-countIn n before = n ∷ []
+abbrev pub countWords : ℕ → List ℕ
+countWords n = n ∷ []
 
 -- A truth value as a word.
 abbrev pub bit : Bool → ℕ

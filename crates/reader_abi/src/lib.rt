@@ -18,7 +18,7 @@ ghost use Rattle.well_formed.specs.Check.{checkAnswer};
 ghost use Rattle.clauses.specs.RunAnswer.{runAnswer};
 ghost use Rattle.interpreter.specs.Numbers.{numbers};
 ghost use Rattle.line.specs.Line.{lineCount, lineAfter};
-ghost use Rattle.reader_abi.specs.Reported.{number, reported, contentsIn, countIn, successWords, RunReported, upperFrom, startFrom};
+ghost use Rattle.reader_abi.specs.Reported.{number, reported, contentsWords, countWords, successWords, RunReported, upperFrom, startFrom};
 
 // Reads a grammar file. The answer is 0, with the counts of nodes, rules and keywords, the start node and its mode in
 // `result`, or the number that refused the call.
@@ -32,7 +32,7 @@ pub extern "C" fn saktroum_read(
     ensures { λ r. ⌜ r ≡ number (readAnswer (now (file .entry)) (length (now (nodes .entry))) (length (now (rules .entry)))) ⌝ }
     ensures { λ r. ⌜ now (nodes .exit) ≡ afterwards (readAnswer (now (file .entry)) (length (now (nodes .entry))) (length (now (rules .entry)))) (nodeTable (fieldsOf (now (file .entry)))) (now (nodes .entry)) ⌝ }
     ensures { λ r. ⌜ now (rules .exit) ≡ afterwards (readAnswer (now (file .entry)) (length (now (nodes .entry))) (length (now (rules .entry)))) (ruleList (fieldsOf (now (file .entry)))) (now (rules .entry)) ⌝ }
-    ensures { λ r. ⌜ now (result .exit) ≡ reported contentsIn (readAnswer (now (file .entry)) (length (now (nodes .entry))) (length (now (rules .entry)))) (now (result .entry)) ⌝ }
+    ensures { λ r. ⌜ now (result .exit) ≡ reported contentsWords (readAnswer (now (file .entry)) (length (now (nodes .entry))) (length (now (rules .entry)))) (now (result .entry)) ⌝ }
 {
     let x = grammar_file::read(file, nodes, rules);
     match x {
@@ -61,7 +61,7 @@ pub extern "C" fn saktroum_scan(
 ) -> u32
     ensures { λ r. ⌜ r ≡ number (scanAnswer (now (file .entry)) (now (report .entry)) (length (now (tokens .entry)))) ⌝ }
     ensures { λ r. ⌜ now (tokens .exit) ≡ afterwards (scanAnswer (now (file .entry)) (now (report .entry)) (length (now (tokens .entry)))) (wordsOf (scanTokens (now (file .entry)) (now (report .entry)))) (now (tokens .entry)) ⌝ }
-    ensures { λ r. ⌜ now (result .exit) ≡ reported countIn (scanAnswer (now (file .entry)) (now (report .entry)) (length (now (tokens .entry)))) (now (result .entry)) ⌝ }
+    ensures { λ r. ⌜ now (result .exit) ≡ reported countWords (scanAnswer (now (file .entry)) (now (report .entry)) (length (now (tokens .entry)))) (now (result .entry)) ⌝ }
 {
     let x = scanner::scan(file, report, tokens);
     match x {

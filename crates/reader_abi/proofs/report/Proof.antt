@@ -37,10 +37,10 @@ returns-2 : tie.Need-returns-2
 returns-2 c = (λ place. rw (c .enum-told .given .1) refl, λ place. rw (c .enum-told .given .1) of-failure)
 
 returns-3 : tie.Need-returns-3
-returns-3 c = (λ place. search (number-refused place), λ place. search (words-refused place))
+returns-3 c = (λ place. search number-refused, λ place. search words-refused)
 
 returns-4 : tie.Need-returns-4
-returns-4 c = (λ place. search (number-named place), λ place. search (words-named place))
+returns-4 c = (λ place. search number-named, λ place. search words-named)
 
 pub report-spec : {M : Type 1} → statement M
 report-spec =

@@ -1,0 +1,56 @@
+-- What demand 3 says of bench case a: every outcome of the clauses over sets is a success at place 2 with the flag clear, whose
+-- set has 0 and 1 and nothing else. A weaker statement of the demand would not give it.
+use Prim.Native.Nat.{ℕ, _≤_}
+use mathlib.Core.Path.{_≡_, refl, sym, subst, _∙_}
+use mathlib.Core.Bool.{false}
+use mathlib.Core.List.{List, [], _∷_}
+use mathlib.Core.Logic.{_↔_}
+use native.Mathlib.Omega.{arith}
+use Rattle.table.specs.Answer.{Answer, given}
+use Rattle.table.specs.Words.{eachWords}
+use Rattle.table.specs.Every.{every}
+use Rattle.table.specs.Form.{terminal, sequence, indent, align, form}
+use Rattle.table.specs.Checks.{tableAnswer, fails3, fails4, fails5, rightWords}
+use Rattle.columns.specs.Relations.{greater, atLeast}
+use Rattle.columns.specs.Sets.{ColumnSet, sets}
+use Rattle.columns.specs.Intervals.{to, ends}
+use Rattle.columns.specs.declared.Upper.the-variants.{At}
+use Rattle.columns.specs.declared.Interval.{Interval}
+use Rattle.well_formed.specs.Rounds.{gives, knownAfter, passes, wellAfter}
+use Rattle.well_formed.specs.Check.{mayNothing, isWell, verdictFrom, checkAnswer}
+use Rattle.clauses.specs.Clauses.{State, Outcome, success}
+use Rattle.clauses.specs.AlikeOutcomes.{AlikeOutcome, alike-success}
+use Rattle.clauses.specs.Limits.{fails11, fails12}
+use Rattle.clauses.specs.Evaluation.{evaluate, outcomeFor}
+use Rattle.clauses.specs.RunAnswer.{SetRun, runAnswer}
+use Rattle.clauses.specs.ThirdDemand.{ThirdDemand}
+use Rattle.clauses.specs.Cases.{fourWords, tokenWords, _at_, from, a, b}
+
+pub nodes : List ℕ
+nodes = eachWords fourWords (terminal a ∷ terminal b ∷ sequence 0 1 ∷ align 2 ∷ indent 3 greater ∷ [])
+
+pub words : List ℕ
+words = eachWords tokenWords (a at 2 ∷ b at 3 ∷ [])
+
+abbrev pub end : State Interval
+end = (2, to 0 (At 1), false)
+
+answer : runAnswer nodes [] words (from 4 atLeast) ≡ given (success end)
+unfolding nodes words eachWords runAnswer form evaluate outcomeFor fails11 fails12 every fails3 fails4 fails5 rightWords tableAnswer gives knownAfter passes wellAfter mayNothing isWell verdictFrom checkAnswer
+answer = refl
+
+pub data Says : Outcome ColumnSet → Type 1 where
+  two-read : {S : ColumnSet} → ((k : ℕ) → S k ↔ (k ≤ 1)) → Says (success (2, S, false))
+
+module _ (d : ThirdDemand nodes [] words (from 4 atLeast)) where
+  pub ours : d .ours ≡ success end
+  ours = let p = d .answered in let q = answer in cc
+
+  by-likeness : {o : Outcome ColumnSet} → AlikeOutcome ends sets (success end) o → Says o
+  by-likeness (alike-success h) = two-read (λ k. (λ m. h .members k .0 m .upto, λ l. h .members k .1 (record { from = omega arith; upto = l })))
+
+  pub says : (o : Outcome ColumnSet) → SetRun nodes [] words (from 4 atLeast) o → Says o
+  says o e = subst Says (sym (d .only o e)) (by-likeness (subst (λ (v : Outcome Interval). AlikeOutcome ends sets v (d .theirs)) ours (d .alike)))
+
+  pub says-two : d .read end ours .0 ≡ 2
+  says-two = let r = d .read end ours .1 in omega arith
