@@ -131,17 +131,9 @@ fn label(fd: i32, n: usize) -> bool {
     if !fill(fd, &mut text, 0, n) {
         return false;
     }
-    io::write_all(1, front(&text, n));
+    io::write_all(1, slices::front(&text, n));
     io::write_all(1, b": ");
     true
-}
-
-// The first n bytes, or all where there are fewer.
-fn front(bytes: &[u8], n: usize) -> &[u8] {
-    if n > bytes.len() {
-        return bytes;
-    }
-    &bytes[0..n]
 }
 
 // Reads the bytes from index `from` to before `end`, and answers whether all were there.
@@ -183,8 +175,8 @@ fn call(header: &[u8; 39], file: &[u8], report: &[u8], tokens: &mut [u32]) {
     let kind = header[0];
     let x = number(header, 3);
     let y = number(header, 6);
-    let file = front(file, number(header, 21));
-    let report = front(report, number(header, 36));
+    let file = slices::front(file, number(header, 21));
+    let report = slices::front(report, number(header, 36));
     match kind {
         b's' | b'a' => lend(kind, file, report, x, tokens),
         _ => show_next(kind, file, report, x, narrow(y), header[2] != 0),
