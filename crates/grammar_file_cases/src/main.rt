@@ -11,7 +11,8 @@
 //   t  check the table of the payload's x node words and y rule words
 use grammar_file::FileRead;
 use table::Checked;
-ghost use Prim.Native.Nat.{_<_, _≤_};
+ghost use mathlib.Core.Path.{_≡_};
+ghost use Prim.Native.Nat.{min, _<_};
 
 // What every lent word holds before a read.
 const MARKER: u16 = 60000;
@@ -104,7 +105,7 @@ fn triple(high: u8, middle: u8, low: u8) -> usize {
 }
 
 fn least(a: usize, b: usize) -> usize
-    ensures { λ r. ⌜ r ≤ b ⌝ }
+    ensures { λ r. ⌜ r ≡ min a b ⌝ }
 {
     if a < b { a } else { b }
 }

@@ -15,7 +15,8 @@
 use scanner::Handed;
 use scanner::Scanned;
 use scanner::Step;
-ghost use Prim.Native.Nat.{_<_, _≤_};
+ghost use mathlib.Core.Path.{_≡_};
+ghost use Prim.Native.Nat.{min, _<_};
 
 // What every lent word holds before a scan.
 const MARKER: u32 = 4000000000;
@@ -158,7 +159,7 @@ fn triple(high: u8, middle: u8, low: u8) -> usize
 }
 
 fn least(a: usize, b: usize) -> usize
-    ensures { λ r. ⌜ r ≤ b ⌝ }
+    ensures { λ r. ⌜ r ≡ min a b ⌝ }
 {
     if a < b { a } else { b }
 }
