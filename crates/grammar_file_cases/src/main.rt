@@ -11,7 +11,8 @@
 //   t  check the table of the payload's x node words and y rule words
 use grammar_file::FileRead;
 use table::Checked;
-ghost use Prim.Native.Nat.{_<_, _≤_};
+ghost use mathlib.Core.Path.{_≡_};
+ghost use Prim.Native.Nat.{min, _<_};
 
 // What every lent word holds before a read.
 const MARKER: u16 = 60000;
@@ -61,7 +62,7 @@ fn record(fd: i32, bytes: &mut [u8], nodes: &mut [u16], rules: &mut [u16]) -> bo
     if !fill(fd, bytes, same, size) {
         return false;
     }
-    call(kind, front(bytes, size), x, y, nodes, rules);
+    call(kind, slices::front(bytes, size), x, y, nodes, rules);
     io::write_all(1, b"\n");
     true
 }
@@ -72,17 +73,9 @@ fn label(fd: i32, n: usize) -> bool {
     if !fill(fd, &mut text, 0, n) {
         return false;
     }
-    io::write_all(1, front(&text, n));
+    io::write_all(1, slices::front(&text, n));
     io::write_all(1, b": ");
     true
-}
-
-// The first n bytes, or all where there are fewer.
-fn front(bytes: &[u8], n: usize) -> &[u8] {
-    if n > bytes.len() {
-        return bytes;
-    }
-    &bytes[0..n]
 }
 
 // Reads the bytes from index `from` to before `end`, and answers whether all were there.
@@ -112,7 +105,7 @@ fn triple(high: u8, middle: u8, low: u8) -> usize {
 }
 
 fn least(a: usize, b: usize) -> usize
-    ensures { λ r. ⌜ r ≤ b ⌝ }
+    ensures { λ r. ⌜ r ≡ min a b ⌝ }
 {
     if a < b { a } else { b }
 }

@@ -100,17 +100,9 @@ fn label(fd: i32, n: usize) -> bool {
     if !fill(fd, &mut text, 0, n) {
         return false;
     }
-    io::write_all(1, front(&text, n));
+    io::write_all(1, slices::front(&text, n));
     io::write_all(1, b": ");
     true
-}
-
-// The first n bytes, or all where there are fewer.
-fn front(bytes: &[u8], n: usize) -> &[u8] {
-    if n > bytes.len() {
-        return bytes;
-    }
-    &bytes[0..n]
 }
 
 // Reads the bytes from index `from` to before `end`, and answers whether all were there.

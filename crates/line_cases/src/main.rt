@@ -51,8 +51,8 @@ fn record(fd: i32, file: &mut [u8], report: &mut [u8]) -> bool {
         return false;
     }
     show(
-        front(file, number(&header, 13)),
-        front(report, number(&header, 28)),
+        slices::front(file, number(&header, 13)),
+        slices::front(report, number(&header, 28)),
     );
     true
 }
@@ -61,7 +61,7 @@ fn record(fd: i32, file: &mut [u8], report: &mut [u8]) -> bool {
 fn show(file: &[u8], report: &[u8]) {
     let mut out = [0u8; 64];
     let k = line::write(file, report, &mut out);
-    io::write_all(1, front(&out, k));
+    io::write_all(1, slices::front(&out, k));
 }
 
 // Puts a file or report together by the five numbers at index `at` of the header. The answer is whether
@@ -114,17 +114,9 @@ fn label(fd: i32, n: usize) -> bool {
     if !fill(fd, &mut text, 0, n) {
         return false;
     }
-    io::write_all(1, front(&text, n));
+    io::write_all(1, slices::front(&text, n));
     io::write_all(1, b": ");
     true
-}
-
-// The first n bytes, or all where there are fewer.
-fn front(bytes: &[u8], n: usize) -> &[u8] {
-    if n > bytes.len() {
-        return bytes;
-    }
-    &bytes[0..n]
 }
 
 // Reads the bytes from index `from` to before `end`, and answers whether all were there.

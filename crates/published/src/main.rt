@@ -59,9 +59,9 @@ fn record(fd: i32) -> bool {
     if !fill(fd, &mut third, 0, number(&header, 26)) {
         return false;
     }
-    let a = front(&first, number(&header, 20));
-    let b = front(&second, number(&header, 23));
-    let c = front(&third, number(&header, 26));
+    let a = slices::front(&first, number(&header, 20));
+    let b = slices::front(&second, number(&header, 23));
+    let c = slices::front(&third, number(&header, 26));
     if header[1] == 0 {
         run_table(&header, a, b, c);
     } else {
@@ -74,7 +74,7 @@ fn record(fd: i32) -> bool {
 fn show_line(file: &[u8], report: &[u8]) {
     let mut out = [0u8; 64];
     let k = line::write(file, report, &mut out);
-    io::write_all(1, front(&out, k));
+    io::write_all(1, slices::front(&out, k));
 }
 
 // Lends words for the run of a table.
@@ -165,17 +165,9 @@ fn label(fd: i32, n: usize) -> bool {
     if !fill(fd, &mut text, 0, n) {
         return false;
     }
-    io::write_all(1, front(&text, n));
+    io::write_all(1, slices::front(&text, n));
     io::write_all(1, b": ");
     true
-}
-
-// The first n bytes, or all where there are fewer.
-fn front(bytes: &[u8], n: usize) -> &[u8] {
-    if n > bytes.len() {
-        return bytes;
-    }
-    &bytes[0..n]
 }
 
 // Reads the bytes from index `from` to before `end`, and answers whether all were there.

@@ -9,15 +9,7 @@ fn main() {
     let m = io::read_full(libc::STDIN_FILENO, &mut report);
     let mut out = [0u8; 64];
     let k = line::write(&file[..n], &report[..m], &mut out);
-    io::write_all(libc::STDOUT_FILENO, front(&out, k));
-}
-
-// The first n bytes, or all where there are fewer.
-fn front(bytes: &[u8], n: usize) -> &[u8] {
-    if n > bytes.len() {
-        return bytes;
-    }
-    &bytes[0..n]
+    io::write_all(libc::STDOUT_FILENO, slices::front(&out, k));
 }
 
 // Reads `grammar.bin`, and says how many bytes it gave: none if it cannot be opened.

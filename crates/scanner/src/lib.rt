@@ -34,6 +34,11 @@ const BYTES: usize = 65535;
 
 const LAST_STEP: u32 = 524280;
 
+// The most tokens, and the last column of one.
+const TOKENS: usize = 4096;
+
+const LAST_COLUMN: u32 = 65535;
+
 // How many tokens were written, or the number of the first check that fails.
 pub enum Scanned {
     Tokens(usize),
@@ -89,7 +94,7 @@ pub fn scan(file: &[u8], report: &[u8], tokens: &mut [u32]) -> Scanned
                 return Scanned::Refused(9);
             }
             let count = m.count;
-            if count > table::TOKENS {
+            if count > TOKENS {
                 return Scanned::Refused(10);
             }
             if tokens.len() / 4 < count {
@@ -150,11 +155,7 @@ fn stay(number: u8, at: usize, column: u32, mark: bool) -> Step
 fn too_wide(f: Found) -> bool
     ensures { λ r. ⌜ r ≡ stepFails9 (moveOf f .found) ⌝ }
 {
-    if f.any {
-        table::LAST_COLUMN < f.column
-    } else {
-        false
-    }
+    if f.any { LAST_COLUMN < f.column } else { false }
 }
 
 // The step to a place that was found.
@@ -270,11 +271,7 @@ fn measure(report: &[u8]) -> Tally
 fn wider(over: bool, column: u32) -> bool
     ensures { λ r. ⌜ r ≡ (over || ltb 65535 column) ⌝ }
 {
-    if over {
-        true
-    } else {
-        table::LAST_COLUMN < column
-    }
+    if over { true } else { LAST_COLUMN < column }
 }
 
 // Writes the tokens of a report.

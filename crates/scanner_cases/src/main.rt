@@ -15,7 +15,8 @@
 use scanner::Handed;
 use scanner::Scanned;
 use scanner::Step;
-ghost use Prim.Native.Nat.{_<_, _≤_};
+ghost use mathlib.Core.Path.{_≡_};
+ghost use Prim.Native.Nat.{min, _<_};
 
 // What every lent word holds before a scan.
 const MARKER: u32 = 4000000000;
@@ -131,17 +132,9 @@ fn label(fd: i32, n: usize) -> bool {
     if !fill(fd, &mut text, 0, n) {
         return false;
     }
-    io::write_all(1, front(&text, n));
+    io::write_all(1, slices::front(&text, n));
     io::write_all(1, b": ");
     true
-}
-
-// The first n bytes, or all where there are fewer.
-fn front(bytes: &[u8], n: usize) -> &[u8] {
-    if n > bytes.len() {
-        return bytes;
-    }
-    &bytes[0..n]
 }
 
 // Reads the bytes from index `from` to before `end`, and answers whether all were there.
@@ -166,7 +159,7 @@ fn triple(high: u8, middle: u8, low: u8) -> usize
 }
 
 fn least(a: usize, b: usize) -> usize
-    ensures { λ r. ⌜ r ≤ b ⌝ }
+    ensures { λ r. ⌜ r ≡ min a b ⌝ }
 {
     if a < b { a } else { b }
 }
@@ -183,8 +176,8 @@ fn call(header: &[u8; 39], file: &[u8], report: &[u8], tokens: &mut [u32]) {
     let kind = header[0];
     let x = number(header, 3);
     let y = number(header, 6);
-    let file = front(file, number(header, 21));
-    let report = front(report, number(header, 36));
+    let file = slices::front(file, number(header, 21));
+    let report = slices::front(report, number(header, 36));
     match kind {
         b's' | b'a' => lend(kind, file, report, x, tokens),
         _ => show_next(kind, file, report, x, narrow(y), header[2] != 0),

@@ -2,6 +2,7 @@
 ghost use mathlib.Core.Path.{_≡_};
 ghost use mathlib.Core.Bool.{false};
 ghost use Rattle.scanner.specs.Steps.{position, numbers, stepAnswer, standing};
+ghost use Rattle.scanner_value.specs.Nth.{nthAnswer};
 use scanner::Handed;
 
 pub struct Scanner<'a> {
@@ -38,10 +39,17 @@ impl<'a> Scanner<'a> {
     }
 }
 
-// The first token of a report: plain parameters, so that a caller needs no walk.
-pub fn first(file: &[u8], report: &[u8]) -> Handed
-    ensures { λ r. ⌜ numbers r ≡ stepAnswer (now (file .entry)) (now (report .entry)) (position 0 0 false) ⌝ }
+// What step n of a new value hands out, counted from 0: plain parameters, so that a caller needs no walk.
+pub fn nth(file: &[u8], report: &[u8], n: usize) -> Handed
+    ensures { λ r. ⌜ numbers r ≡ nthAnswer (now (file .entry)) (now (report .entry)) n (position 0 0 false) ⌝ }
 {
     let mut s = Scanner::new(report);
-    s.next(file)
+    let mut left = n;
+    loop {
+        let handed = s.next(file);
+        if left == 0 {
+            return handed;
+        }
+        left -= 1;
+    }
 }

@@ -14,11 +14,6 @@ pub const LAST_TERMINAL: u16 = 255;
 // How many relations, and token modes, there are.
 pub const RELATIONS: u16 = 4;
 
-// The most tokens, and the last column of one.
-pub const TOKENS: usize = 4096;
-
-pub const LAST_COLUMN: u32 = 65535;
-
 // Whether a table and its rules pass 3, 4 and 5, or the number of the first that fails.
 pub enum Checked {
     Passes,
