@@ -161,7 +161,9 @@ fn show_read(file: &[u8], nodes: &mut [u16], rules: &mut [u16], words: bool) {
         io::write_all(1, b" | rules");
         show_words(rules, written_rules);
     }
-    if marked(nodes, written_nodes) && marked(rules, written_rules) {
+    if slices::filled_16(nodes, written_nodes, MARKER)
+        && slices::filled_16(rules, written_rules, MARKER)
+    {
         io::write_all(1, b" | kept | check ");
     } else {
         io::write_all(1, b" | changed | check ");
@@ -242,18 +244,6 @@ fn mark(words: &mut [u16]) {
         words[i] = MARKER;
         i += 1;
     }
-}
-
-// Whether every word from index `from` on is the marker.
-fn marked(words: &[u16], from: usize) -> bool {
-    let mut i = from;
-    while i < words.len() {
-        if words[i] != MARKER {
-            return false;
-        }
-        i += 1;
-    }
-    true
 }
 
 // Sets the words to those of the payload, from its word `from` on.

@@ -222,7 +222,7 @@ fn show_scan(file: &[u8], report: &[u8], tokens: &mut [u32]) -> usize {
             show_number(number as u64);
         }
     }
-    if marked(tokens, least(count, MOST_HANDED) * 4) {
+    if slices::filled_32(tokens, least(count, MOST_HANDED) * 4, MARKER) {
         io::write_all(1, b" | kept");
     } else {
         io::write_all(1, b" | changed");
@@ -405,16 +405,4 @@ fn fill_in(words: &mut [u32]) {
         words[i] = MARKER;
         i += 1;
     }
-}
-
-// Whether every word from index `from` on is the marker.
-fn marked(words: &[u32], from: usize) -> bool {
-    let mut i = from;
-    while i < words.len() {
-        if words[i] != MARKER {
-            return false;
-        }
-        i += 1;
-    }
-    true
 }

@@ -1,6 +1,7 @@
-// Parts of slices that programs print or hand on.
+// What programs ask of slices: the first bytes, and whether words are still the marker that they were set to.
 ghost use mathlib.Core.Path.{_≡_};
-ghost use lib.ListN.{take};
+ghost use lib.ListN.{take, drop};
+ghost use Rattle.slices.specs.Filled.{filled};
 
 // The first n bytes, or all where there are fewer.
 pub fn front(bytes: &[u8], n: usize) -> &[u8]
@@ -10,4 +11,32 @@ pub fn front(bytes: &[u8], n: usize) -> &[u8]
         return bytes;
     }
     &bytes[0..n]
+}
+
+// Whether every word from an index on is a value.
+pub fn filled_16(words: &[u16], from: usize, value: u16) -> bool
+    ensures { λ r. ⌜ r ≡ filled value (drop from (now (words .entry))) ⌝ }
+{
+    let mut i = from;
+    while i < words.len() {
+        if words[i] != value {
+            return false;
+        }
+        i += 1;
+    }
+    true
+}
+
+// The same for the words of tokens.
+pub fn filled_32(tokens: &[u32], from: usize, value: u32) -> bool
+    ensures { λ r. ⌜ r ≡ filled value (drop from (now (tokens .entry))) ⌝ }
+{
+    let mut i = from;
+    while i < tokens.len() {
+        if tokens[i] != value {
+            return false;
+        }
+        i += 1;
+    }
+    true
 }

@@ -1,18 +1,19 @@
--- `scanner_cases::marked` is safe and ends: what is left of the words falls. Assumes nothing.
+-- `slices::filled_32` meets its contract.
 use Prim.Native.Nat.{_-_}
 use lib.ListN.{length}
 use borrow.Author.Needs.{needs}
-use Rattle.scanner_cases.proofs.marked.Statement.{statement}
-use Rattle.scanner_cases.proofs.marked.Tie as tie
+use Rattle.slices.proofs.FilledLaws.{From, starts, goes-on, stops, ends}
+use Rattle.slices.proofs.filled_32.Statement.{statement}
+use Rattle.slices.proofs.filled_32.Tie as tie
 
 abbrev Inv-loop : tie.InvT-loop
-Inv-loop words from i₀ i = Unit
+Inv-loop tokens from value i₀ i = From tokens value from i
 
 abbrev μ-loop : tie.MeasureT-loop
-μ-loop words from i₀ i = length words - i
+μ-loop tokens from value i₀ i = length tokens - i
 
 loop-holds : tie.Need-loop-holds Inv-loop μ-loop
-loop-holds c = search needs
+loop-holds c = starts _ _ _
 
 mul-if1 : tie.Need-mul-if1 Inv-loop μ-loop
 mul-if1 c = search needs
@@ -21,7 +22,7 @@ shared-slice-read-if1 : tie.Need-shared-slice-read-if1 Inv-loop μ-loop
 shared-slice-read-if1 c = search needs
 
 returns : tie.Need-returns Inv-loop μ-loop
-returns c = search needs
+returns c = stops _ _ (c .before .before .before .loop .inv) (search needs) (c .if1 .taken)
 
 add-i : tie.Need-add-i Inv-loop μ-loop
 add-i c = search needs
@@ -30,13 +31,13 @@ loop-less : tie.Need-loop-less Inv-loop μ-loop
 loop-less c = search needs
 
 loop-again : tie.Need-loop-again Inv-loop μ-loop
-loop-again c = search needs
+loop-again c = goes-on _ _ (c .before .before .before .loop .inv) (search needs) (c .if1 .left)
 
 returns-2 : tie.Need-returns-2 Inv-loop μ-loop
-returns-2 c = search needs
+returns-2 c = ends _ _ (c .before .loop .inv) (search needs)
 
-pub marked-spec : {M : Type 1} → statement M
-marked-spec =
+pub filled-32-spec : {M : Type 1} → statement M
+filled-32-spec =
     tie.close
     (tie.spec
     Inv-loop
