@@ -30,6 +30,10 @@ static size_t load(const char *path, uint8_t *bytes)
         exit(2);
     }
     size_t n = fread(bytes, 1, MOST, in);
+    if (ferror(in)) {
+        perror(path);
+        exit(2);
+    }
     fclose(in);
     return n;
 }

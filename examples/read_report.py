@@ -22,7 +22,7 @@ def loaded(library):
     """The library, whose answers have 32 bits and no sign."""
     reader = ctypes.CDLL(str(pathlib.Path(library).resolve()))
     for part in PARTS:
-        reader[part].restype = c_uint32
+        getattr(reader, part).restype = c_uint32
     return reader
 
 

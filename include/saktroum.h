@@ -12,7 +12,7 @@
  * - saktroum_run and saktroum_line call themselves as deep as grammar and tokens make them, and no proof speaks of the
  *   stack: where it is too small, the system ends the program. By measurement 1 GiB is enough for every grammar and
  *   4,096 tokens, and the usual 8 MiB are not (docs/BENCHMARKS.md). saktroum_stack.h has a function that runs the
- *   caller's work on a thread with 1 GiB. The other calls do not nest; 64 KiB are enough for each.
+ *   caller's work on a thread with 1 GiB. The other calls do not nest and need little.
  *
  * The answer of the first four is 0 if the call passed every check, or else the number of the first check it failed, for 7
  * with the node: 7 + 65,536 * node. saktroum_number and saktroum_node take it apart. The numbers:

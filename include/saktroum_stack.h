@@ -27,7 +27,7 @@ static inline void *saktroum_begin(void *given)
 }
 
 /* Calls work(argument) on a thread of its own with 1 GiB of stack and waits until it returns. The answer is 0, or the
- * error number if the thread could not be made: then work is not called. work must return, by no exception either. */
+ * error number if the thread could not be made: then work is not called. work must return, and not by an exception. */
 static inline int saktroum_with_stack(void (*work)(void *), void *argument)
 {
     struct saktroum_work given = {work, argument};

@@ -62,17 +62,22 @@ static int read_list(const char *path)
     if (!in)
         return 0;
     file_bytes = fread(file, 1, sizeof file, in);
+    int whole = !ferror(in);
     fclose(in);
     for (size_t i = 0; i < sizeof report; i++)
         report[i] = i % 2 ? ' ' : 'a';
-    return 1;
+    return whole;
 }
 
 int main(int argc, char **argv)
 {
     struct rlimit own;
-    if (argc != 2 || !read_list(argv[1]) || getrlimit(RLIMIT_STACK, &own)) {
+    if (argc != 2) {
         fprintf(stderr, "usage: deepest LIST\n");
+        return 2;
+    }
+    if (!read_list(argv[1]) || getrlimit(RLIMIT_STACK, &own)) {
+        perror(argv[1]);
         return 2;
     }
     printf("main thread: %lu KiB of stack\n", (unsigned long)(own.rlim_cur / 1024));

@@ -1,6 +1,6 @@
 -- The bench cases a to j of 01 in one table, with the answers that 01 gives, and beside them cases that its slips would
--- break and runs that are turned down. A case is a run (nodes, rules, tokens, start), answered by `runAnswer`, or a check, answered by `checkAnswer`.
--- `CasesHold`, in proofs, computes them all.
+-- break and runs that are turned down. A case is a run (nodes, rules, tokens, start), answered by `runAnswer`, or a check,
+-- answered by `checkAnswer`. `CasesHold`, in proofs, computes them all.
 use Prim.Native.Nat.{ℕ}
 use mathlib.Core.Bool.{Bool, true, false}
 use mathlib.Core.List.{List, [], _∷_}
@@ -124,8 +124,8 @@ slipCases =
     -- "Trying the second alternative ..": a at 5 then c, in mode equal, or a in mode greater. From 5 to 5 the second would
     -- fail.
     ∷ run (terminal a ∷ terminal c ∷ sequence 0 1 ∷ position 2 equal ∷ choice 3 0 ∷ []) [] (a at 5 ∷ []) (from 4 greater) (reads 1 0 (At 4) false)
-    -- "Capping the lower end ..": from 65,535 on, a under greater still matches (a reader that refused to pass 65,535 would fail), and an aligned a under greater is asked for
-    -- past 65,535 (a reader that stopped there would read it).
+    -- "Capping the lower end ..": from 65,535 on, a under greater still matches (a reader that refused to pass 65,535 would
+    -- fail), and an aligned a under greater is asked for past 65,535 (a reader that stopped there would read it).
     ∷ run (terminal a ∷ indent 0 greater ∷ []) [] (a at 7 ∷ []) (record { node = 1; place = 0; interval = to 65535 Endless; flag = false; mode = any }) (reads 1 65535 Endless false)
     ∷ run (terminal a ∷ align 0 ∷ indent 1 greater ∷ []) [] (a at 65535 ∷ []) (record { node = 2; place = 0; interval = to 65535 Endless; flag = false; mode = any }) fails
     -- "Not and failure hand the old state on": not of a b in mode equal, then a in mode greater.

@@ -1,6 +1,6 @@
 -- The meaning of a grammar: the ten clauses of 001, section 2.1, over any column domain. Above each constructor stands its
--- clause as a rule in 001's notation, premises ⟹ conclusion, and the clause's number. In e, τ ⊢ (w, I, b) → o an expression e
--- is the form of a node, the rest w of the input is a place in the token list, and relations ρ, σ, τ are numbers.
+-- clause as a rule in 001's notation: its number, premises ⟹ conclusion. In e, τ ⊢ (w, I, b) → o an expression e is the form
+-- of a node, w is a place in the token list, and relations ρ, σ, τ are numbers.
 use Prim.Native.Nat.{ℕ, _+_, _<_}
 use mathlib.Core.Path.{_≡_}
 use mathlib.Core.Bool.{Bool, true, false, _&&_}

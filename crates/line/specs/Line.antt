@@ -72,7 +72,8 @@ abbrev pub flagWord : Bool → List ℕ
 flagWord true = 115 ∷ 101 ∷ 116 ∷ []
 flagWord false = 99 ∷ 108 ∷ 101 ∷ 97 ∷ 114 ∷ []
 
--- "it prints `success 4 0 1 clear` ..": tokens read, lower end, upper end, flag; "Otherwise `failure`, or `refused` ..". The run begins at place 0, so its end place is the number of tokens read.
+-- "it prints `success 4 0 1 clear` ..": tokens read, lower end, upper end, flag; "Otherwise `failure`, or `refused` ..". The
+-- run begins at place 0, so its end place is the number of tokens read.
 abbrev pub lineBytes : Answer (Outcome Interval) → List ℕ
 lineBytes (given (success s)) =
     successWord ++ space ++ decimal (s .0) ++ space ++ decimal (s .1 .lower) ++ space ++ upperWord (s .1 .upper) ++ (space ++ flagWord (s .2) ++ break)

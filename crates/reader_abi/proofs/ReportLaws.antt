@@ -1,6 +1,7 @@
 -- A truth value as a byte and as a word, and what is reported of answers that are the same.
 use Prim.Native.Nat.{ℕ, _+_, _*_}
-use mathlib.Core.Path.{_≡_, refl, subst}
+use mathlib.Core.Path.{_≡_, refl, ap, subst}
+use native.Mathlib.Omega.{arith}
 use mathlib.Core.Bool.{Bool, true, false}
 use mathlib.Core.List.{List}
 use mir.Val.{boolByte}
@@ -10,7 +11,7 @@ use Rattle.clauses.specs.Clauses.{Outcome}
 use Rattle.interpreter.specs.Numbers.{numbers}
 use Rattle.interpreter.specs.declared.Ran.{Ran}
 use Rattle.interpreter.specs.declared.Ran.the-variants.{Refused, IllFormed}
-use Rattle.reader_abi.specs.Reported.{bit, number, RunReported, of-refused, of-refusedAt}
+use Rattle.reader_abi.specs.Reported.{bit, number, successWords, RunReported, of-success, of-failure, of-refused, of-refusedAt}
 
 pub bytes-bit : (b : Bool) → boolByte b ≡ bit b
 bytes-bit true = refl
@@ -32,3 +33,10 @@ module _ {x : Ran} {n : ℕ} where
 
   pub words-named : x ≡ IllFormed n → (place : ℕ) (before : List ℕ) → RunReported place before (numbers place x) before
   words-named e place before = rw e of-refusedAt
+
+-- The relation fixes every word: from the same words before, an answer is reported in one way.
+pub one-report : {place : ℕ} {before after after' : List ℕ} {a : Answer (Outcome Interval)} → RunReported place before a after → RunReported place before a after' → after ≡ after'
+one-report (of-success {read = read} {c = c} {flag = flag} e) (of-success {read = read'} e') = ap (λ (n : ℕ). successWords n c flag) (let q : read ≡ read' = omega arith in q)
+one-report of-failure of-failure = refl
+one-report of-refused of-refused = refl
+one-report of-refusedAt of-refusedAt = refl

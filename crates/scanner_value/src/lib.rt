@@ -1,4 +1,5 @@
-// The scanner value: a report with the offset and column reached and whether this line has had a token, and thin functions over it.
+// The scanner value: a report with the offset and column reached and whether this line has had a token, and thin functions
+// over it.
 ghost use mathlib.Core.Path.{_≡_};
 ghost use mathlib.Core.Bool.{false};
 ghost use Rattle.scanner.specs.Steps.{position, numbers, stepAnswer, standing};
