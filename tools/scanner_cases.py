@@ -190,7 +190,7 @@ reads("`a` and 8 words", PLAIN, b"a", A, 1, 8)
 # "A tab then `a`: column 8, offset 1."
 reads("tab then `a`", PLAIN, b"\ta", [(1, 8, 1, 1), (2, 9, 2, 0)], 9)
 
-# "With keywords `loss` and `:` .. and the text `  loss: 0.03` without a break".
+# "With keywords `loss` and `:` .. the text `  loss: 0.03` without a break".
 BENCH = with_keywords(b"loss", b":")
 walk(
     "bench",
@@ -240,7 +240,7 @@ LINES_FILE = with_keywords(b"splice", b"loss", b"note", b":")
 reads("lines of a report", LINES_FILE, LINES, LINES_TOKENS, 0)
 # The same without the last two bytes: byte 13 and the break.
 reads("lines without the last", LINES_FILE, LINES[:-2], LINES_TOKENS[:-1] + [(2, 23, 40, 0)], 23)
-# "Terminal: 3 + k where the spelling equals keyword k .. else 0 for a number .. else 1": no keywords.
+# "3 + k where the spelling equals keyword k .. else 0 .. else 1": no keywords.
 reads(
     "lines and no keywords",
     PLAIN,
@@ -273,7 +273,7 @@ for byte in range(256):
         reads(between, PLAIN, b"a\tc", [(1, 0, 0, 1), (1, 8, 2, 1), (2, 9, 3, 0)], 9)
         reads(behind, LOSS, b"loss\t", [(3, 0, 0, 4), (2, 8, 5, 0)], 8)
     elif byte in (13, 32):
-        # "Bytes 13 and 32 are blanks. Each byte but 9 and 10 advances .."
+        # "Bytes 13 and 32 are blanks. Each byte .."
         reads(alone, PLAIN, text, [], 1)
         reads(between, PLAIN, b"a" + text + b"c", [(1, 0, 0, 1), (1, 2, 2, 1), (2, 3, 3, 0)], 3)
         reads(behind, LOSS, b"loss" + text, [(3, 0, 0, 4), (2, 5, 5, 0)], 5)
@@ -310,7 +310,7 @@ for byte in (0, 8, 11, 12, 14, 31, 127):
 
 # --- Blanks, tabs and columns --------------------------------------------------------------------
 
-# "Bytes 13 and 32 are blanks. Each byte but 9 and 10 advances .."
+# "Bytes 13 and 32 are blanks. Each byte .."
 for n in range(10):
     reads(f"{n} blanks then `a`", PLAIN, b" " * n + b"a", [(1, n, n, 1), (2, n + 1, n + 1, 0)], n + 1)
     reads(f"`a` then {n} blanks", PLAIN, b"a" + b" " * n, [(1, 0, 0, 1), (2, n + 1, n + 1, 0)], n + 1)
@@ -897,7 +897,7 @@ for taken in itertools.product((False, True), repeat=8):
 
 # --- Single steps --------------------------------------------------------------------------------
 
-# "After a token the value stands right behind it .. After a line end .. After the last token .."
+# "After a token the value stands right behind it .." and the two sentences after it.
 walk("steps, empty", PLAIN, b"", [(None, (0, 0, False))])
 walk("steps, blanks", PLAIN, b"  ", [(None, (2, 2, False))])
 walk("steps, empty lines", PLAIN, b"\n \n\t", [(None, (4, 8, False))])
@@ -1117,7 +1117,7 @@ step("step, over length, at the end", PLAIN, b" " * 65536, (65536, 0, False), 8)
 step("step, over length, at 65535", PLAIN, b" " * 65536, (65535, 0, True), 8)
 step("step, the last byte of 65535 refused", PLAIN, b"a " * 32767 + b"\0", (0, 0, False), 8)
 
-# "Its calls check the file by 1 to 5 .. a refused call leaves the value unchanged."
+# "Its calls check the file by 1 to 5 .. a refused call .."
 for number, said, file in BAD_FILES:
     step(f"step, file, {said}", file, b"a b", (0, 0, False), number)
     step(f"step, file, {said}, inside", file, b"a b", (1, 5, True), number)

@@ -16,8 +16,8 @@ GRAMMAR = with_keywords(b"loss", b":")
 KEYWORD = with_keywords(b"a b")
 
 # Offsets: `loss` 2, `:` 6, `0.03` 8, breaks 12 and 13, a tab 14, `x` 15, `-1` 17, `,` 19, the end 20.
-# "Byte 9 moves to the next higher multiple of 8": `x` is at column 8. "A line with a token ends in a token of
-# terminal 2, also at the end of the text": the second line has none. "else 0 for a number (an optional `-` ..); else 1".
+# "Byte 9 moves to the next higher multiple of 8": `x` is at column 8. "A line with a token ends .. also at the
+# end ..": the second line has none. "else 0 for a number (an optional `-` ..); else 1".
 REPORT = b"  loss: 0.03\n\n\tx -1,"
 REPORT_STEPS = """\
 token 3 2 2 4
@@ -33,8 +33,8 @@ none
 none
 """
 
-# 8,192 tabs lead to column 65,536: "the token handed out by 9; a refused call leaves the value unchanged". A value that
-# moved on would hand out `c` after two refusals, at the break behind `b` the second.
+# 8,192 tabs lead to column 65,536, which is 9: "a refused call leaves the value unchanged". A value that moved on would
+# hand out `c` after two refusals, at the break behind `b` the second.
 WIDE = b"a\n" + b"\t" * 8192 + b"b\nc"
 WIDE_STEPS = """\
 token 1 0 0 1

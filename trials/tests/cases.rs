@@ -281,8 +281,7 @@ fn align_keeps_a_flag_set_before_and_at_the_end() {
     }
 }
 
-/// "Capping the lower end at 65,535: in mode any it may pass that and tokens still
-/// match."
+/// "Capping the lower end at 65,535: in mode any .."
 #[test]
 fn lower_end_past_the_columns() {
     let nodes = [

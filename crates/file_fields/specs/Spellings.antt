@@ -15,7 +15,7 @@ visible b = not (leb b 32 || eqb b 127)
 unfoldable pub spelled : List ℕ → Bool
 spelled s = leb 1 (length s) && leb (length s) 32 && every (length s) (λ i. visible (getD s i 0))
 
--- "A keyword that holds one of the nine single bytes below has length 1": none is a single byte, or the length is 1.
+-- "A keyword that holds one of the nine single bytes ..": none is a single byte, or the length is 1.
 unfoldable pub singleAlone : List ℕ → Bool
 singleAlone s = every (length s) (λ i. not (isSingle (getD s i 0))) || eqb (length s) 1
 

@@ -19,7 +19,7 @@ use Rattle.scanner.specs.declared.Step.{Step}
 use Rattle.scanner.specs.declared.Handed.{Handed}
 use Rattle.scanner.specs.declared.Handed.the-variants.{Token as HandedToken, Nothing, Refused}
 
--- Where a value stands: the offset and column reached and whether this line has had a token.
+-- Where a value stands: the offset and column reached, and whether the line there has had a token.
 pub record Position : Type 0 where
   pub offset : ℕ
   pub column : ℕ
@@ -48,7 +48,7 @@ moveBy Run m o c next n after rest = move false c o n (position (o + n) after tr
 moveBy RefusedByte m o c next n after rest = rest
 
 -- The next place in the bytes from an offset on. At the end of the text a line that has had a token ends, its column
--- kept; "after the last token the answer is none, with the offset at the end".
+-- kept; "after the last token the answer is none ..", and the offset is the end's.
 unfoldable pub nextPlace : List ℕ → ℕ → ℕ → Bool → Move
 nextPlace [] o c true = move true c o 0 (position o c false)
 nextPlace [] o c false = record { found = none; reached = position o c false }
@@ -64,7 +64,7 @@ nextIn text p = nextPlace (drop (p .offset) text) (p .offset) (p .column) (p .ma
 abbrev pub lastStepColumn : ℕ
 lastStepColumn = 524280
 
--- 8, for a step: the whole text, and "an offset past the text or a column over 524,280 is 8 too".
+-- 8, for a step: the whole text, and "an offset past the text or a column over 524,280 ..".
 unfoldable pub stepFails8 : List ℕ → Position → Bool
 stepFails8 text p = fails8 text || ltb (length text) (p .offset) || ltb lastStepColumn (p .column)
 

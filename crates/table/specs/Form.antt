@@ -50,6 +50,6 @@ form nodes n = decode (kindOf nodes n) (aOf nodes n) (bOf nodes n) (relationOf n
 abbrev pub nodeCount : List ℕ → ℕ
 nodeCount nodes = length nodes / 4
 
--- "A second u16 slice holds for each rule the node that it stands for."
+-- "A second u16 slice holds for each rule the node .."
 abbrev pub standsFor : List ℕ → ℕ → ℕ
 standsFor rules r = getD rules r 0

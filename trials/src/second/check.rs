@@ -25,7 +25,7 @@ pub fn check(nodes: &[u16], rules: &[u16]) -> Verdict {
 
 /// Checks 3, 4 and 5 of a table and its rules.
 pub(super) fn table(nodes: &[u16], rules: &[u16]) -> Result<(), u8> {
-    // Check 3: "node words no multiple of 4, node or rule count outside the limits".
+    // Check 3: "node words no multiple of 4, node or rule count ..".
     let (table, over) = nodes.as_chunks::<4>();
     if !over.is_empty() || !(1..=MOST_NODES).contains(&table.len()) || rules.len() > MOST_RULES {
         return Err(3);
@@ -36,15 +36,14 @@ pub(super) fn table(nodes: &[u16], rules: &[u16]) -> Result<(), u8> {
             return Err(4);
         }
     }
-    // Check 5: "a rule's node [...] not in the table".
+    // Check 5: "a rule's node .. not in the table".
     if rules.iter().any(|&node| usize::from(node) >= table.len()) {
         return Err(5);
     }
     Ok(())
 }
 
-/// Check 4 for one node: "kind over 9, child not lower, no such rule, terminal over
-/// 255, relation over 3, unused word not 0".
+/// Check 4 for one node: "kind over 9, child not lower .. unused word not 0".
 fn node_stands(number: usize, [kind, a, b, relation]: [u16; 4], rules: usize) -> bool {
     let lower = |child: u16| usize::from(child) < number;
     match kind {
@@ -119,7 +118,7 @@ fn facts_of([kind, a, b, _]: [u16; 4], rules: &[u16], facts: &[u8; MOST_NODES]) 
             if a & SUCCEEDS != 0 && b & SUCCEEDS != 0 && (a | b) & SOMETHING != 0 {
                 facts |= SOMETHING;
             }
-            // "fails if a may fail, or a may succeed and b fail"
+            // "fails if a may fail, or a may succeed .."
             if a & FAILS != 0 || (a & SUCCEEDS != 0 && b & FAILS != 0) {
                 facts |= FAILS;
             }
@@ -152,7 +151,7 @@ fn well_formed(
     match kind {
         kind::EMPTY | kind::TERMINAL => true,
         kind::RULE => of(rules[usize::from(a)]),
-        // "a sequence whose a is, and b too if a may read nothing"
+        // "a sequence whose a is, and b too if .."
         kind::SEQUENCE => of(a) && (!reads_nothing(a) || of(b)),
         kind::CHOICE => of(a) && of(b),
         // "a repeat whose child is and may not succeed reading nothing"

@@ -129,8 +129,7 @@ fn fields(file: &[u8]) -> Result<(Grammar<'_>, Vec<&[u8]>), u8> {
     Ok((grammar, names))
 }
 
-/// "1 to 32 bytes, none of them at or below 32 or equal to 127, and are distinct
-/// within their tag".
+/// "1 to 32 bytes, none of them .. distinct within their tag".
 fn spelled_and_distinct(words: &[&[u8]]) -> bool {
     let spelled = |word: &&[u8]| {
         (1..=32).contains(&word.len()) && word.iter().all(|&byte| byte > 32 && byte != 127)

@@ -28,8 +28,8 @@ pub fn line_within(file: &[u8], report: &[u8], steps: u64) -> Option<Vec<u8>> {
     }
 }
 
-/// "`refused` with the lowest number that any of the four parts gives and for 7 the
-/// node". The reader and the scanner share 1 to 5, and where these refuse there is no
+/// Refused is "the lowest number that any of the four parts gives", and 7 with its
+/// node. The reader and the scanner share 1 to 5, and where these refuse there is no
 /// table to feed to the others; the check's 7 lies below the scanner's 8 to 10.
 fn parts(file: &[u8], report: &[u8]) -> Result<(FileRead, Vec<u32>), Ran> {
     let grammar = read(file, 4 * MOST_NODES, MOST_RULES).map_err(Ran::Refused)?;

@@ -4,7 +4,7 @@
 use super::{check, kind, relation, Verdict, MOST_COLUMN, MOST_TOKENS};
 use std::convert::Infallible;
 
-/// "A start gives a node, a token place, an interval, a flag and a mode."
+/// "A start gives a node, a token place, an interval .."
 #[derive(Debug, Clone, Copy, PartialEq, Eq)]
 pub struct Start {
     pub node: u16,
@@ -79,8 +79,7 @@ pub(super) fn refusal(
         Verdict::Refused(number) => return Err(Ran::Refused(number)),
         Verdict::IllFormed(node) => return Err(Ran::IllFormed(node)),
     }
-    // Check 11: "token words no multiple of 4, over 4,096 tokens, terminal over 255,
-    // column over 65,535".
+    // Check 11: "token words no multiple of 4, over 4,096 tokens ..".
     let (list, over) = tokens.as_chunks::<4>();
     if !over.is_empty()
         || list.len() > MOST_TOKENS
@@ -169,9 +168,9 @@ impl Meter for Steps {
     }
 }
 
-/// "An interval is a lower column and an upper end that is either a column or
-/// without end." It is never empty (001, theorem 2.1). The lower end grows by one an
-/// indent, so it stays below 65,536 + 512 * 4,097.
+/// "a lower column and an upper end ..", `None` if without end. It is never empty
+/// (001, theorem 2.1). The lower end grows by one an indent, so it stays below
+/// 65,536 + 512 * 4,097.
 #[derive(Debug, Clone, Copy, PartialEq, Eq)]
 pub(crate) struct Interval {
     pub lower: u32,
@@ -225,7 +224,7 @@ impl Interval {
     }
 }
 
-/// "A state is the place in the token list, the interval and the alignment flag."
+/// "A state is the place in the token list, the interval .."
 #[derive(Debug, Clone, Copy, PartialEq, Eq)]
 pub(crate) struct State {
     pub interval: Interval,
@@ -238,14 +237,13 @@ impl State {
     #[inline]
     pub(crate) fn read(self, column: u32, mode: u16) -> Option<State> {
         let interval = if self.flag {
-            // "with the flag set, i must lie in the interval, which becomes i to i"
+            // "with the flag set, i must lie in the interval .."
             if !self.interval.holds(column) {
                 return None;
             }
             Interval::only(column)
         } else {
-            // "else i must lie in the mode's inner set, and the interval is met with
-            // the mode's outer set of i to i"
+            // "else i must lie in the mode's inner set .."
             if !self.interval.inner(mode).holds(column) {
                 return None;
             }
@@ -343,8 +341,7 @@ impl<M: Meter> Reader<'_, M> {
                     mode = relation;
                     node = a;
                 }
-                // Clause 10: "set exactly if it was set both before and at the inner
-                // end".
+                // Clause 10: "set exactly if .. both before and at the inner end".
                 _ => {
                     let old = self.state.flag;
                     self.state.flag = true;

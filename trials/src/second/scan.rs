@@ -2,7 +2,7 @@
 
 use super::{file, MOST_BYTES, MOST_COLUMN, MOST_TOKENS};
 
-/// The offset and column reached and whether this line has had a token.
+/// The offset and column reached, and whether the line there has had a token.
 #[derive(Debug, Clone, Copy, PartialEq, Eq)]
 pub struct Value {
     pub offset: usize,
@@ -56,9 +56,8 @@ pub fn scan(file: &[u8], report: &[u8], room: usize) -> Result<Vec<u32>, u8> {
     Ok(words)
 }
 
-/// Hands out the next token, with the value behind it. "Its calls check the file by
-/// 1 to 5, the whole text by 8, [...] and the token handed out by 9; a refused call
-/// leaves the value unchanged."
+/// Hands out the next token, with the value behind it. The file is checked by 1 to 5,
+/// all the text by 8, this token by 9; "a refused call leaves the value unchanged".
 pub fn next_token(file: &[u8], report: &[u8], v: Value) -> (Handed, Value) {
     let grammar = match file::parse(file) {
         Ok(grammar) => grammar,
@@ -134,8 +133,7 @@ fn line_end(at: &Value) -> [u32; 4] {
 /// The token of `length` bytes where the value stands; moves right behind it.
 fn token(text: &[u8], length: usize, keywords: &Keywords, at: &mut Value) -> [u32; 4] {
     let spelling = &text[at.offset..at.offset + length];
-    // "3 + k where the spelling equals keyword k (from 0); else 0 for a number [...];
-    // else 1"
+    // "3 + k where the spelling equals keyword k .. else 0 .. else 1"
     let terminal = match keywords.find(spelling) {
         Some(keyword) => 3 + u32::from(keyword),
         None if is_number(spelling) => 0,

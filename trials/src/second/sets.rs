@@ -71,14 +71,14 @@ impl ColumnSet {
         Self::told(points, |n| self.contains(n) && other.contains(n))
     }
 
-    /// "The inner set of S is every i that stands in the relation to some k in S".
+    /// The inner set: "every i that stands in the relation to some k ..".
     fn inner(&self, relation: u16) -> Self {
         Self::told(self.near_changes(), |i| {
             self.some(i, |k| stands(relation, i, k))
         })
     }
 
-    /// "the outer set of T, every k to which some i in T so stands".
+    /// The outer set: "every k to which some i in T so stands".
     fn outer(&self, relation: u16) -> Self {
         Self::told(self.near_changes(), |k| {
             self.some(k, |i| stands(relation, i, k))
@@ -121,7 +121,7 @@ fn stands(relation: u16, i: u64, k: u64) -> bool {
     }
 }
 
-/// "Their state is a place, a set S of natural numbers and the flag".
+/// The clauses' state: "a place, a set S of natural numbers and the flag".
 #[derive(Clone)]
 struct State {
     place: usize,
@@ -166,7 +166,7 @@ pub fn run_within(
         tokens,
         steps_left: steps,
     };
-    // "at first the start's place and flag, and every natural number in its interval"
+    // "at first the start's place and flag, and every natural number .."
     let mut changes = vec![u64::from(start.lower)];
     changes.extend(start.upper.map(|upper| u64::from(upper) + 1));
     let begin = State {
@@ -215,8 +215,7 @@ impl Clauses<'_> {
                 Some(_) => Ok(None),
                 None => Ok(Some(state)),
             },
-            // "success in the old state if the child fails, else the repeat again from
-            // where the child ended"
+            // "success in the old state .. else the repeat again .."
             kind::REPEAT => {
                 let mut old = state;
                 while let Some(end) = self.expression(a, mode, old.clone())? {
@@ -231,8 +230,7 @@ impl Clauses<'_> {
         }
     }
 
-    /// "A terminal also fails at the token count and at another terminal; success
-    /// moves one place on."
+    /// "A terminal also fails at the token count .."
     fn terminal(&self, terminal: u16, mode: u16, state: State) -> Option<State> {
         let words = self.tokens.get(4 * state.place..4 * state.place + 4)?;
         if words[0] != u32::from(terminal) {
@@ -244,8 +242,7 @@ impl Clauses<'_> {
             // "i must lie in [S], which becomes [i alone]"
             state.set.contains(column).then_some(alone)?
         } else {
-            // "i must lie in the mode's inner set, and [S] is met with the mode's
-            // outer set of [i alone]"
+            // "i must lie in the mode's inner set, and [S] is met .."
             state.set.inner(mode).contains(column).then_some(())?;
             state.set.meet(&alone.outer(mode))
         };
@@ -256,8 +253,7 @@ impl Clauses<'_> {
         })
     }
 
-    /// "the child gets the inner set of S; after its success S is met with the outer
-    /// set of its set, the rest as it left it"
+    /// "the child gets the inner set of S; after its success .."
     fn indent(&mut self, child: u16, relation: u16, mode: u16, state: State) -> Outcome {
         let inside = State {
             set: state.set.inner(relation),
@@ -270,8 +266,7 @@ impl Clauses<'_> {
         }))
     }
 
-    /// "Align sets the flag inside; after success it is set exactly if it was set both
-    /// before and at the inner end."
+    /// "Align sets the flag inside; after success it is set .."
     fn align(&mut self, child: u16, mode: u16, state: State) -> Outcome {
         let before = state.flag;
         let inside = State {
