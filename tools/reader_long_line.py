@@ -11,7 +11,7 @@ from table_nodes import choice, position, repeat, seq
 ROOT = pathlib.Path(__file__).resolve().parent.parent
 EQUAL, ANY = 0, 3
 
-# "Terminal: 3 + k where the spelling equals keyword k (from 0); else 0 for a number ..; else 1"; a line's end is 2.
+# "Terminal: 3 + k where the spelling equals keyword k ..", else 0 for a number, else 1; a line's end is 2.
 NODES = (
     (1, 3, 0, 0),  # 0: the keyword `a`
     (1, 2, 0, 0),  # 1: a line's end

@@ -109,8 +109,8 @@ pub fn run_once(input: &RunInput) -> Result<Option<Ran>, String> {
     }
 }
 
-/// The run over sets and ours are alike: "the same success or failure, tokens read and flag, and a number is in their set
-/// exactly when it lies between our ends". Few steps are known to do for the run.
+/// The run over sets and ours are alike: both succeed or both fail, with the same tokens read and flag, and the set has the
+/// numbers between our ends. Few steps are known to do for the run.
 pub fn sets_once(input: &RunInput) -> Result<(), String> {
     let (nodes, rules, tokens, start) = input.parts();
     let over = sets::run(nodes, rules, tokens, start);

@@ -96,7 +96,7 @@ fails2 fs =
     && every (length (keywords fs)) (λ k. singleAlone (getD (keywords fs) k []))
     && rightSpellings (ruleNames fs))
 
--- 5: "a rule's node, or a file's start node, not in the table; file's mode over 3"
+-- 5: "a rule's node, or a file's start node, not in the table .."
 unfoldable pub fails5ByFile : List Field → Bool
 fails5ByFile fs =
     fails5 (nodeTable fs) (ruleList fs)

@@ -10,7 +10,7 @@ use Rattle.interpreter.specs.declared.Ran.{Ran}
 use Rattle.interpreter.specs.declared.Ran.the-variants.{Success, Failure, Refused, IllFormed}
 
 -- 01's number and values for each case of `Ran`, for a run that began at a place: "the number of tokens read from that place
--- on, the interval and the flag".
+-- on ..".
 abbrev pub numbers : ℕ → Ran → Answer (Outcome Interval)
 numbers place (Success read s) = given (success (place + read, s .interval, s .flag))
 numbers place Failure = given failure

@@ -57,7 +57,7 @@ unfoldable pub hadToken : List ℕ → ℕ → Bool
 hadToken text zero = false
 hadToken text (suc i) = markAfter (getD text i 0) (hadToken text i)
 
--- "A line with a token ends in a token .. at the column and offset of the break or the end, length 0."
+-- "A line with a token ends in a token ..": where the break or the end is, with length 0.
 abbrev pub lineEnd : Bool → ℕ → ℕ → List Place
 lineEnd had c o = cond had (record { ends = true; column = c; offset = o; length = 0 } ∷ []) []
 

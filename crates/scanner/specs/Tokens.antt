@@ -51,7 +51,7 @@ unsigned (b ∷ bytes) = cond (eqb b 45) bytes (b ∷ bytes)
 unfoldable pub isNumber : List ℕ → Bool
 isNumber s = digitFirst (unsigned s) && fraction (afterDigits (unsigned s))
 
--- "Terminal: 3 + k where the spelling equals keyword k (from 0); else 0 for a number ..; else 1": the keywords from k on.
+-- "Terminal: 3 + k where the spelling equals keyword k ..", else 0 for a number, else 1: the keywords from k on.
 unfoldable pub terminalFrom : ℕ → List (List ℕ) → List ℕ → ℕ
 terminalFrom k [] s = cond (isNumber s) 0 1
 terminalFrom k (w ∷ keywords) s = cond (sameBytes w s) (3 + k) (terminalFrom (suc k) keywords s)
