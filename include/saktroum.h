@@ -1,4 +1,4 @@
-/* Saktroum: a reader for indentation grammars. The C interface of the archive libreader_abi.a (x86-64 Linux).
+/* Saktroum: a reader for indentation grammars. The C interface of the archive libsaktroum.a (x86-64 Linux).
  *
  * Four parts: a grammar file reader, a report scanner, a well-formedness check and an interpreter; and the line of the
  * program over them. Every call ends and keeps no state between calls; calls from several threads at once are fine. What a

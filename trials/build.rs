@@ -1,4 +1,4 @@
-//! Links the proved reader: the archive that `rt staticlib reader_abi` writes.
+//! Links the proved reader: the archive that `rt staticlib saktroum` writes.
 
 use std::path::Path;
 
@@ -6,8 +6,8 @@ fn main() {
     let folder = Path::new(env!("CARGO_MANIFEST_DIR")).join("../target/staticlib");
     println!(
         "cargo:rerun-if-changed={}",
-        folder.join("libreader_abi.a").display()
+        folder.join("libsaktroum.a").display()
     );
     println!("cargo:rustc-link-search=native={}", folder.display());
-    println!("cargo:rustc-link-lib=static=reader_abi");
+    println!("cargo:rustc-link-lib=static=saktroum");
 }

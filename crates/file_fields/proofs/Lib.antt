@@ -1,5 +1,3 @@
 pub mod Lists
 pub mod FieldLaws
 pub mod Offsets
-pub mod SpellingLaws
-pub mod KeyLaws

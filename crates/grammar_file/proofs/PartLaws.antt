@@ -16,7 +16,7 @@ use Rattle.table.specs.Limits.{relationCount}
 use Rattle.table.specs.Form.{nodeCount}
 use Rattle.table.specs.Checks.{tableAnswer, fails3, fails4, fails5}
 use Rattle.file_fields.specs.Fields.{fields, inOrder, Field, twoBytes}
-use Rattle.file_fields.specs.Spellings.{singleAlone, rightSpellings}
+use Rattle.spellings.specs.Spellings.{singleAlone, rightSpellings}
 use Rattle.grammar_file.specs.File.{mostBytes, mostKeywords, rightValues, unreadable, fails1, Contents, keywords, ruleNames, ruleNode, ruleList, wordsOf, nodeTable, startValue, startNode, startMode, fieldsOf, fails2, fails5ByFile, contents, fileAnswer, numbers}
 use Rattle.file_fields.specs.Offsets.{keywordsFrom, valueAt, fieldsFrom, spellingsFrom}
 use Rattle.grammar_file.specs.InternalShape.{Parts}

@@ -14,7 +14,7 @@ use Rattle.table.specs.Form.{nodeCount}
 use Rattle.table.specs.Checks.{fails3, fails4, fails5}
 use Rattle.file_fields.specs.Fields.{Field, twoBytes, fields, inOrder, tagged, rightLength}
 use Rattle.file_fields.specs.Offsets.{keywordsFrom}
-use Rattle.file_fields.specs.Spellings.{singleAlone, rightSpellings}
+use Rattle.spellings.specs.Spellings.{singleAlone, rightSpellings}
 use Rattle.grammar_file.specs.declared.FileRead.{FileRead}
 use Rattle.grammar_file.specs.declared.FileRead.the-variants.{Read, Refused}
 

@@ -1,8 +1,8 @@
 // The shape of a file: its fields in order, by count and offset (number 1).
 ghost use mathlib.Core.Path.{_≡_};
 ghost use Rattle.grammar_file.specs.InternalShape.{LongestRun, framedBy, Shaped};
-use file_fields::fields::next_at;
-use file_fields::fields::right_at;
+use file_fields::next_at;
+use file_fields::right_at;
 
 // How many fields of one tag stand in a row, and where they end.
 pub(crate) struct Run {

@@ -8,9 +8,9 @@ ghost use Rattle.table.specs.Checks.{numbers as checkedNumbers};
 ghost use Rattle.grammar_file.specs.File.{ruleNode, wordsOf};
 ghost use Rattle.file_fields.specs.Fields.{twoBytes};
 ghost use Rattle.file_fields.specs.Offsets.{fieldsFrom};
-use file_fields::fields::byte_in;
-use file_fields::fields::next_at;
-use file_fields::fields::value_at;
+use file_fields::byte_in;
+use file_fields::next_at;
+use file_fields::value_at;
 use table::Checked;
 
 // The two-byte number at an index of a value, high byte first.

@@ -1,5 +1,5 @@
 // Makes the calls that the file `cases` lists and prints a line for each: a label and the answer.
-// `tools/grammar_file_cases.py` writes that file and the lines that are expected.
+// `cases/grammar_file_cases.py` writes that file and the lines that are expected.
 //
 // A record is a header of twelve bytes, a label and the end of a payload. The header has the kind of the
 // call, the label's length, two numbers x and y of two bytes each, how many bytes the payload has in

@@ -18,9 +18,9 @@ use Rattle.well_formed.proofs.VerdictLaws.{check-means}
 use Rattle.clauses.specs.Clauses as clauses
 use Rattle.clauses.specs.Limits.{tokensOf, fails11, fails12, WithinLimits}
 use Rattle.clauses.specs.RunAnswer.{EndsRun, ourOutcome, runAnswer, Reads}
-use Rattle.agreement.proofs.Narrows.{onward}
-use Rattle.agreement.proofs.Agreement.{outcome-only}
-use Rattle.agreement.proofs.LimitLaws.{begins}
+use Rattle.theorems.proofs.Narrows.{onward}
+use Rattle.theorems.proofs.Agreement.{outcome-only}
+use Rattle.theorems.proofs.LimitLaws.{begins}
 use Rattle.interpreter.specs.InternalWalk.{outcomeOf, Checked, Ready, Gives}
 use Rattle.interpreter.proofs.WalkLaws.{weight-most}
 

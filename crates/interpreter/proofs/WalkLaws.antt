@@ -25,10 +25,10 @@ use Rattle.clauses.specs.Clauses.{Run}
 use Rattle.clauses.specs.Evaluation.{reads}
 use Rattle.clauses.specs.Limits.{tokensOf}
 use Rattle.clauses.proofs.Sound.{terminal-read, terminal-unread}
-use Rattle.agreement.proofs.Narrows.{onward, within}
-use Rattle.agreement.proofs.ShownFacts.{shown, at-once}
-use Rattle.agreement.proofs.Existence.{weighs-less}
-use Rattle.agreement.proofs.LimitLaws.{in-limits}
+use Rattle.theorems.proofs.Narrows.{onward, within}
+use Rattle.theorems.proofs.ShownFacts.{shown, at-once}
+use Rattle.theorems.proofs.Existence.{weighs-less}
+use Rattle.theorems.proofs.LimitLaws.{in-limits}
 use Rattle.interpreter.specs.InternalWalk.{stateOf, outcomeOf, childState, leftState, alignedState, tokenOutcome, ReadyToken, weight, Checked, Ready, ReadyRule, Gives}
 use Rattle.interpreter.proofs.LowLaws.{lower-end}
 

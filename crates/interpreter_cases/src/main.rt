@@ -1,5 +1,5 @@
 // Makes the calls that the file `cases` lists and prints a line for each: a label and the answer.
-// `tools/interpreter_cases.py` writes that file and the lines that are expected.
+// `cases/interpreter_cases.py` writes that file and the lines that are expected.
 //
 // A record is a header of 40 bytes, a label, the end of a table and tokens. High bytes come first. The
 // header has the label's length, the start's flag (0 is clear) and whether its upper end is a column (0

@@ -1,5 +1,5 @@
 // Writes the line of each pair of a grammar file and a report that the file `cases` lists, behind a label.
-// `tools/line_cases.py` writes that file and the lines that are expected.
+// `cases/line_cases.py` writes that file and the lines that are expected.
 //
 // A record is a header of 31 bytes, a label, a grammar file and a report. The header has the label's length
 // and ten numbers of three bytes each, high byte first: five that tell how the file is stored, then the

@@ -1,5 +1,5 @@
 // Makes the runs of the file `cases`, which come from published papers, and prints a line for each: a label and what the
-// run ends in. `tools/published.py` writes that file and the lines that are expected, with the source of each.
+// run ends in. `cases/published.py` writes that file and the lines that are expected, with the source of each.
 //
 // A record is a header of 29 bytes, a label and three parts. High bytes come first. The header has the label's length, the
 // kind, the start's flag (0 is clear) and whether its upper end is a column (0 is without end) in one byte each; the

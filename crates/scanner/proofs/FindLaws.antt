@@ -8,9 +8,9 @@ use mathlib.Core.Option.{some}
 use lib.ListN.{length, getD, take, drop, drop-of-length-le}
 use native.Mathlib.Nat.{le-of-eq}
 use native.Mathlib.Omega.{arith}
-use Rattle.file_fields.specs.Bytes.{classOf}
-use Rattle.file_fields.specs.declared.bytes.Class.{Class}
-use Rattle.file_fields.specs.declared.bytes.Class.the-variants.{Break, Tab, Blank, Single, Digit, Run, Refused}
+use Rattle.byte_class.specs.Bytes.{classOf}
+use Rattle.byte_class.specs.declared.Class.{Class}
+use Rattle.byte_class.specs.declared.Class.the-variants.{Break, Tab, Blank, Single, Digit, Run, Refused}
 use Rattle.file_fields.proofs.FieldLaws.{from-one}
 use Rattle.scanner.specs.Columns.{columnBy, columnAfter, columnOver}
 use Rattle.scanner.specs.Places.{runClass, inRun, runLength}

@@ -11,10 +11,10 @@ use borrow.Author.Tests.{eqb-true, eqb-false}
 use lib.ListN.{length, getD, drop, set, replicate, length-set, length-replicate, getD-replicate, drop-of-length-le}
 use lib.Seq.{drop-cons, getD-set-same, getD-set-other}
 use lib.Dec.{eqb}
-use Rattle.file_fields.specs.Spellings.{sameBytes}
+use Rattle.spellings.specs.Spellings.{sameBytes}
 use Rattle.file_fields.specs.Offsets.{valueAt, offsetOf, keywordsFrom}
-use Rattle.file_fields.specs.InternalKeys.{keyOf}
-use Rattle.file_fields.proofs.SpellingLaws.{same-exactly}
+use Rattle.spellings.specs.InternalKeys.{keyOf}
+use Rattle.spellings.proofs.SpellingLaws.{same-exactly}
 use Rattle.scanner.specs.Tokens.{terminalFrom}
 use Rattle.scanner.specs.InternalIndex.{firstOf, Starts, Linked, Indexed}
 use Rattle.scanner.proofs.KeywordLaws.{length-keywords, keyword-at, decides, ended, step}

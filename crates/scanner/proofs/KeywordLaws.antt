@@ -6,7 +6,7 @@ use mathlib.Core.List.{List, []}
 use native.Mathlib.Numerals.{add-one}
 use lib.ListN.{length, getD, drop, length-map, drop-of-length-le}
 use lib.Seq.{drop-cons}
-use Rattle.file_fields.specs.Spellings.{sameBytes}
+use Rattle.spellings.specs.Spellings.{sameBytes}
 use Rattle.file_fields.specs.Offsets.{valueAt, offsetOf, fieldsFrom, keywordsFrom}
 use Rattle.file_fields.proofs.Offsets.{length-from, map-at}
 use Rattle.scanner.specs.Tokens.{isNumber, terminalFrom}

@@ -9,9 +9,9 @@ use lib.Seq.{drop-drop}
 use native.Mathlib.Nat.{le-of-eq, add-zero}
 use native.Mathlib.Numerals.{add-one}
 use native.Mathlib.Omega.{arith}
-use Rattle.file_fields.specs.Bytes.{classOf}
-use Rattle.file_fields.specs.declared.bytes.Class.{Class}
-use Rattle.file_fields.specs.declared.bytes.Class.the-variants.{Break, Tab, Blank, Single, Digit, Run, Refused}
+use Rattle.byte_class.specs.Bytes.{classOf}
+use Rattle.byte_class.specs.declared.Class.{Class}
+use Rattle.byte_class.specs.declared.Class.the-variants.{Break, Tab, Blank, Single, Digit, Run, Refused}
 use Rattle.file_fields.proofs.FieldLaws.{from-one}
 use Rattle.scanner.specs.Columns.{columnBy, columnAfter, columnAt, columnOver}
 use Rattle.scanner.specs.Places.{Place, runClass, inRun, runLength, midRun, markBy, markAfter, hadToken, lineEnd, spelling, placeBy, placeAt, placesAt, places}

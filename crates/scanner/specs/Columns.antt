@@ -2,9 +2,9 @@
 use Prim.Native.Nat.{ℕ, zero, suc, _+_, _*_, _/_}
 use mathlib.Core.List.{List, [], _∷_}
 use lib.ListN.{getD}
-use Rattle.file_fields.specs.Bytes.{classOf}
-use Rattle.file_fields.specs.declared.bytes.Class.{Class}
-use Rattle.file_fields.specs.declared.bytes.Class.the-variants.{Break, Tab, Blank, Single, Digit, Run, Refused}
+use Rattle.byte_class.specs.Bytes.{classOf}
+use Rattle.byte_class.specs.declared.Class.{Class}
+use Rattle.byte_class.specs.declared.Class.the-variants.{Break, Tab, Blank, Single, Digit, Run, Refused}
 
 -- The column behind a byte of a class: "Byte 10 ..", 0; "Byte 9 ..", the next higher multiple of 8; "Each byte but 9 and
 -- 10", one more.

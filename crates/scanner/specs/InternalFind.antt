@@ -6,9 +6,9 @@ use mathlib.Core.List.{List}
 use mathlib.Core.Option.{some, none, Option·map}
 use lib.ListN.{length, getD, take, drop}
 use Rattle.table.specs.Answer.{given}
-use Rattle.file_fields.specs.Bytes.{classOf}
-use Rattle.file_fields.specs.declared.bytes.Class.{Class}
-use Rattle.file_fields.specs.declared.bytes.Class.the-variants.{Break, Tab, Blank, Single, Digit, Run, Refused}
+use Rattle.byte_class.specs.Bytes.{classOf}
+use Rattle.byte_class.specs.declared.Class.{Class}
+use Rattle.byte_class.specs.declared.Class.the-variants.{Break, Tab, Blank, Single, Digit, Run, Refused}
 use Rattle.scanner.specs.Columns.{columnOver}
 use Rattle.scanner.specs.Places.{runLength, places}
 use Rattle.scanner.specs.Tokens.{tokenOf}

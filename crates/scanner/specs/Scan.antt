@@ -7,10 +7,10 @@ use lib.Dec.{ltb}
 use Rattle.table.specs.Limits.{mostTokens, mostColumn}
 use Rattle.table.specs.Answer.{Answer, given, refused, refuseIf, andThen}
 use Rattle.table.specs.Every.{every}
-use Rattle.file_fields.specs.Bytes.{classOf}
+use Rattle.byte_class.specs.Bytes.{classOf}
 use Rattle.grammar_file.specs.File.{keywords, fieldsOf, fileAnswer}
-use Rattle.file_fields.specs.declared.bytes.Class.{Class}
-use Rattle.file_fields.specs.declared.bytes.Class.the-variants.{Break, Tab, Blank, Single, Digit, Run, Refused as RefusedByte}
+use Rattle.byte_class.specs.declared.Class.{Class}
+use Rattle.byte_class.specs.declared.Class.the-variants.{Break, Tab, Blank, Single, Digit, Run, Refused as RefusedByte}
 use Rattle.scanner.specs.Places.{Place, places}
 use Rattle.scanner.specs.Tokens.{Token, tokens}
 use Rattle.scanner.specs.declared.Scanned.{Scanned}

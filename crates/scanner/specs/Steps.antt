@@ -7,10 +7,10 @@ use lib.ListN.{length, take, drop}
 use lib.Dec.{ltb}
 use Rattle.table.specs.Limits.{mostColumn}
 use Rattle.table.specs.Answer.{Answer, given, refused, refusedAt, refuseIf, andThen}
-use Rattle.file_fields.specs.Bytes.{classOf}
+use Rattle.byte_class.specs.Bytes.{classOf}
 use Rattle.grammar_file.specs.File.{keywords, fieldsOf, fileAnswer}
-use Rattle.file_fields.specs.declared.bytes.Class.{Class}
-use Rattle.file_fields.specs.declared.bytes.Class.the-variants.{Refused as RefusedByte, Break, Tab, Blank, Single, Digit, Run}
+use Rattle.byte_class.specs.declared.Class.{Class}
+use Rattle.byte_class.specs.declared.Class.the-variants.{Refused as RefusedByte, Break, Tab, Blank, Single, Digit, Run}
 use Rattle.scanner.specs.Columns.{columnAfter, columnOver}
 use Rattle.scanner.specs.Places.{Place, runLength}
 use Rattle.scanner.specs.Tokens.{Token, tokenOf}

@@ -5,10 +5,10 @@ use mathlib.Core.List.{List, [], _∷_, map}
 use lib.ListN.{take, drop}
 use lib.Dec.{eqb}
 use Rattle.table.specs.Words.{eachWords}
-use Rattle.file_fields.specs.Bytes.{classOf}
-use Rattle.file_fields.specs.Spellings.{sameBytes}
-use Rattle.file_fields.specs.declared.bytes.Class.{Class}
-use Rattle.file_fields.specs.declared.bytes.Class.the-variants.{Break, Tab, Blank, Single, Digit, Run, Refused}
+use Rattle.byte_class.specs.Bytes.{classOf}
+use Rattle.spellings.specs.Spellings.{sameBytes}
+use Rattle.byte_class.specs.declared.Class.{Class}
+use Rattle.byte_class.specs.declared.Class.the-variants.{Break, Tab, Blank, Single, Digit, Run, Refused}
 use Rattle.scanner.specs.Places.{Place, places}
 
 abbrev pub digitClass : Class → Bool

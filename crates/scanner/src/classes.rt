@@ -1,14 +1,14 @@
-// What the class of a byte means to the scanner. `file_fields::bytes::class_of` alone decides the class.
+// What the class of a byte means to the scanner. `byte_class::class_of` alone decides the class.
 ghost use mathlib.Core.Path.{_≡_};
 ghost use Prim.Native.Nat.{_+_, _≤_, _<_, _^_};
-ghost use Rattle.file_fields.specs.Bytes.{classOf};
+ghost use Rattle.byte_class.specs.Bytes.{classOf};
 ghost use Rattle.scanner.specs.Columns.{columnAfter};
 ghost use Rattle.scanner.specs.Places.{inRun};
 ghost use Rattle.scanner.specs.Tokens.{isDigit};
 ghost use Rattle.scanner.specs.Scan.{refusedClass};
 ghost use Rattle.scanner.specs.InternalFind.{passedOver, isBreak};
-use file_fields::bytes::Class;
-use file_fields::bytes::class_of;
+use byte_class::Class;
+use byte_class::class_of;
 
 // The column behind a byte.
 pub(crate) fn column_after(b: u8, column: u32) -> u32

@@ -4,9 +4,9 @@ ghost use Prim.Native.Nat.{_≤_};
 ghost use lib.ListN.{length, replicate};
 ghost use Rattle.file_fields.specs.Offsets.{keywordsFrom};
 ghost use Rattle.scanner.specs.InternalIndex.{Starts, Linked};
-use file_fields::fields::next_at;
-use file_fields::fields::value_at;
-use file_fields::spellings::key;
+use file_fields::next_at;
+use file_fields::value_at;
+use spellings::key;
 
 // Where each of count keywords stands.
 pub(crate) fn starts(file: &[u8], count: usize, offsets: &mut [usize])

@@ -7,10 +7,10 @@ ghost use Rattle.file_fields.specs.Offsets.{keywordsFrom};
 ghost use Rattle.scanner.specs.Tokens.{isNumber, unsigned, terminalFrom, afterDigits};
 ghost use Rattle.scanner.specs.InternalIndex.{Indexed};
 use crate::classes::is_digit;
-use file_fields::fields::next_at;
-use file_fields::fields::value_at;
-use file_fields::spellings::key;
-use file_fields::spellings::same;
+use file_fields::next_at;
+use file_fields::value_at;
+use spellings::key;
+use spellings::same;
 
 // 3 + k where a spelling equals keyword k of count, else 0 for a number, else 1.
 pub(crate) fn terminal(file: &[u8], count: usize, s: &[u8]) -> u32

@@ -1,5 +1,5 @@
 // Makes the calls that the file `cases` lists and prints a line for each: a label and the answer.
-// `tools/scanner_cases.py` writes that file and the lines that are expected.
+// `cases/scanner_cases.py` writes that file and the lines that are expected.
 //
 // A record is a header of 39 bytes, a label, a grammar file and a report. The header has the kind of the
 // call, the label's length, the mark (0 is clear) and twelve numbers of three bytes each, high byte

@@ -1,5 +1,5 @@
 // Steps through reports with a scanner value and prints a line for each step. The files in `data` and the lines that are
-// expected are written by `tools/scanner_value_cases.py`.
+// expected are written by `cases/scanner_value_cases.py`.
 ghost use Rattle.io.specs.Counts.{Counts};
 use scanner::Handed;
 

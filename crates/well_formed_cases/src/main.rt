@@ -1,5 +1,5 @@
 // Makes the calls that the file `cases` lists and prints a line for each: a label and the answer.
-// `tools/well_formed_cases.py` writes that file and the lines that are expected.
+// `cases/well_formed_cases.py` writes that file and the lines that are expected.
 //
 // A record is a header of nine bytes, a label and the end of a payload. The header has the label's
 // length in one byte and four numbers of two bytes each: how often the call is made again, the node

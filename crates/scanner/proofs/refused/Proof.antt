@@ -7,7 +7,7 @@ use borrow.Author.Tests.{lt-ltb, le-ltb}
 use lib.ListN.{length, getD}
 use Rattle.table.specs.Every.{every}
 use Rattle.table.proofs.Every.{every-more, every-fails}
-use Rattle.file_fields.specs.Bytes.{classOf}
+use Rattle.byte_class.specs.Bytes.{classOf}
 use Rattle.scanner.specs.Scan.{refusedClass, fails8}
 use Rattle.scanner.proofs.refused.Statement.{statement}
 use Rattle.scanner.proofs.refused.Tie as tie

@@ -2,8 +2,8 @@
 use Prim.Native.Nat.{ℕ}
 use mathlib.Core.Path.{_≡_, sym, ap, _∙_}
 use borrow.Author.Needs.{needs}
-use Rattle.file_fields.specs.Bytes.{classOf}
-use Rattle.file_fields.specs.declared.bytes.Class.{Class}
+use Rattle.byte_class.specs.Bytes.{classOf}
+use Rattle.byte_class.specs.declared.Class.{Class}
 use Rattle.scanner.specs.Tokens.{digitClass, isDigit}
 use Rattle.scanner.proofs.classes.is_digit.Statement.{statement}
 use Rattle.scanner.proofs.classes.is_digit.Tie as tie

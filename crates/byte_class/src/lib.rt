@@ -1,0 +1,27 @@
+// The class of a byte: the one place that decides break, tab, blank, single, digit, run byte or refusal.
+ghost use mathlib.Core.Path.{_≡_};
+ghost use Rattle.byte_class.specs.Bytes.{classOf};
+
+pub enum Class {
+    Break,
+    Tab,
+    Blank,
+    Single,
+    Digit,
+    Run,
+    Refused,
+}
+
+pub fn class_of(b: u8) -> Class
+    ensures { λ r. ⌜ r ≡ classOf b ⌝ }
+{
+    match b {
+        b'\n' => Class::Break,
+        b'\t' => Class::Tab,
+        13 | 32 => Class::Blank,
+        0..=31 | 127 => Class::Refused,
+        b':' | b',' | b'(' | b')' | b'[' | b']' | b'=' | b';' | b'%' => Class::Single,
+        b'0'..=b'9' => Class::Digit,
+        _ => Class::Run,
+    }
+}

@@ -1,0 +1,39 @@
+-- `file_fields::offset_of` meets its contract.
+use Rattle.file_fields.proofs.offset_of.Statement.{statement}
+use Rattle.file_fields.proofs.offset_of.Tie as tie
+use native.Mathlib.Omega.{arith}
+use mathlib.Core.Path.{_≡_, refl, _∙_}
+use Prim.Native.Nat.{_≤_, _-_}
+use native.Mathlib.Numerals.{add-one}
+use Rattle.file_fields.specs.Offsets.{offsetOf}
+
+abbrev Inv-loop : tie.InvT-loop
+Inv-loop file first k at₀ i₀ at i = (i ≤ k) × (at ≡ offsetOf file first i)
+
+abbrev μ-loop : tie.MeasureT-loop
+μ-loop file first k at₀ i₀ at i = k - i
+
+loop-holds : tie.Need-loop-holds Inv-loop μ-loop
+unfolding offsetOf
+loop-holds c = (omega arith, refl)
+
+next-at-requires : tie.Need-next-at-requires Inv-loop μ-loop
+next-at-requires c κs = tt
+
+add-i : tie.Need-add-i Inv-loop μ-loop
+add-i c = omega arith
+
+loop-less : tie.Need-loop-less Inv-loop μ-loop
+loop-less c = omega arith
+
+loop-again : tie.Need-loop-again Inv-loop μ-loop
+unfolding offsetOf
+loop-again c = (omega arith, c .next-at .ensures ∙ rw (add-one, c .before .before .loop .inv .1) refl)
+
+returns : tie.Need-returns Inv-loop μ-loop
+returns c = let e : c .before .loop .i ≡ c .before .before .before .args .k = omega arith in c .before .loop .inv .1 ∙ rw e refl
+
+pub offset-of-spec : {M : Type 1} → statement M
+offset-of-spec =
+    tie.close
+    (tie.spec Inv-loop μ-loop loop-holds next-at-requires add-i loop-less loop-again returns)

@@ -1,0 +1,42 @@
+-- `file_fields::spelling_at` meets its contract.
+use borrow.Author.Needs.{needs}
+use Rattle.file_fields.proofs.spelling_at.Statement.{statement}
+use Rattle.file_fields.proofs.spelling_at.Tie as tie
+use native.Mathlib.Omega.{arith}
+use mathlib.Core.Path.{sym, ap, _∙_}
+use Prim.Native.Nat.{_-_, _≤_}
+use lib.ListN.{length, drop, drop-of-length-le}
+use Rattle.file_fields.proofs.Lists.{take-rest}
+
+value-at-requires : tie.Need-value-at-requires
+value-at-requires c κs = tt
+
+sub-result : tie.Need-sub-result
+sub-result c = omega arith
+
+part-result-start : tie.Need-part-result-start
+part-result-start c = omega arith
+
+part-result-end : tie.Need-part-result-end
+part-result-end c = omega arith
+
+slice-aggregate-result : tie.Need-slice-aggregate-result
+slice-aggregate-result c = search needs
+
+returns : tie.Need-returns
+returns c = take-rest (length (c .before .before .value-at .result .now) - c .before .before .before .before .args .skip) (c .before .before .before .before .args .skip) (c .before .before .value-at .result .now) (omega arith) ∙ ap (drop (c .before .before .before .before .args .skip)) (c .before .before .value-at .ensures)
+
+returns-2 : tie.Need-returns-2
+returns-2 c = let h : length (c .before .before .value-at .result .now) ≤ c .before .before .before .before .args .skip = omega arith in sym (drop-of-length-le (c .before .before .value-at .result .now) h) ∙ ap (drop (c .before .before .before .before .args .skip)) (c .before .before .value-at .ensures)
+
+pub spelling-at-spec : {M : Type 1} → statement M
+spelling-at-spec =
+    tie.close
+    (tie.spec
+    value-at-requires
+    sub-result
+    part-result-start
+    part-result-end
+    slice-aggregate-result
+    returns
+    returns-2)

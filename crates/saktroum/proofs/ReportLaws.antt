@@ -1,0 +1,42 @@
+-- A truth value as a byte and as a word, and what is reported of answers that are the same.
+use Prim.Native.Nat.{ℕ, _+_, _*_}
+use mathlib.Core.Path.{_≡_, refl, ap, subst}
+use native.Mathlib.Omega.{arith}
+use mathlib.Core.Bool.{Bool, true, false}
+use mathlib.Core.List.{List}
+use mir.Val.{boolByte}
+use Rattle.table.specs.Answer.{Answer}
+use Rattle.columns.specs.declared.Interval.{Interval}
+use Rattle.clauses.specs.Clauses.{Outcome}
+use Rattle.interpreter.specs.Numbers.{numbers}
+use Rattle.interpreter.specs.declared.Ran.{Ran}
+use Rattle.interpreter.specs.declared.Ran.the-variants.{Refused, IllFormed}
+use Rattle.saktroum.specs.Reported.{bit, number, successWords, RunReported, of-success, of-failure, of-refused, of-refusedAt}
+
+pub bytes-bit : (b : Bool) → boolByte b ≡ bit b
+bytes-bit true = refl
+bytes-bit false = refl
+
+pub same-report : {place : ℕ} {before after : List ℕ} {a b : Answer (Outcome Interval)} → a ≡ b → RunReported place before a after → RunReported place before b after
+same-report {place} {before} {after} e r = subst (λ (x : Answer (Outcome Interval)). RunReported place before x after) e r
+
+-- A run that was refused: its number, and the lent words as they were.
+module _ {x : Ran} {n : ℕ} where
+  pub number-refused : x ≡ Refused n → (place : ℕ) → n ≡ number (numbers place x)
+  number-refused e place = rw e refl
+
+  pub words-refused : x ≡ Refused n → (place : ℕ) (before : List ℕ) → RunReported place before (numbers place x) before
+  words-refused e place before = rw e of-refused
+
+  pub number-named : x ≡ IllFormed n → {r : ℕ} → r ≡ 7 + 65536 * n → (place : ℕ) → r ≡ number (numbers place x)
+  number-named e q place = rw e q
+
+  pub words-named : x ≡ IllFormed n → (place : ℕ) (before : List ℕ) → RunReported place before (numbers place x) before
+  words-named e place before = rw e of-refusedAt
+
+-- The relation fixes every word: from the same words before, an answer is reported in one way.
+pub one-report : {place : ℕ} {before after after' : List ℕ} {a : Answer (Outcome Interval)} → RunReported place before a after → RunReported place before a after' → after ≡ after'
+one-report (of-success {read = read} {c = c} {flag = flag} e) (of-success {read = read'} e') = ap (λ (n : ℕ). successWords n c flag) (let q : read ≡ read' = omega arith in q)
+one-report of-failure of-failure = refl
+one-report of-refused of-refused = refl
+one-report of-refusedAt of-refusedAt = refl

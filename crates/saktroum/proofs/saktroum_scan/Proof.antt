@@ -1,0 +1,45 @@
+-- `saktroum::saktroum_scan` meets its contract.
+use borrow.Author.Needs.{needs}
+use Rattle.saktroum.proofs.saktroum_scan.Statement.{statement}
+use Rattle.saktroum.proofs.saktroum_scan.Tie as tie
+use mathlib.Core.Path.{refl, sym, ap, _∙_}
+use Rattle.table.specs.Answer.{afterwards}
+use Rattle.scanner.specs.Tokens.{wordsOf}
+use Rattle.scanner.specs.Scan.{scanTokens, numbers}
+
+scan-requires : tie.Need-scan-requires
+scan-requires c κs = search needs
+
+enum-known-x : tie.Need-enum-known-x
+enum-known-x c = search needs
+
+cast-result : tie.Need-cast-result
+cast-result c = search needs
+
+enum-known-x-2 : tie.Need-enum-known-x-2
+enum-known-x-2 c = search needs
+
+same-length : tie.Need-same-length
+same-length c = search needs
+
+returns : tie.Need-returns
+returns c = (rw (← (sym (ap numbers (c .before .x .given .1)) ∙ c .before .before .before .before .before .scan .ensures .0)) refl, (c .before .before .before .before .before .scan .ensures .1 ∙ ap (λ (a : _). afterwards a (wordsOf (scanTokens (c .before .before .before .before .before .before .before .before .before .before .args .file .now) (c .before .before .before .before .before .before .before .before .before .before .args .report .now))) (c .before .before .before .before .before .before .before .before .before .before .args .tokens .now)) (c .before .before .before .before .before .scan .ensures .0), rw (← (sym (ap numbers (c .before .x .given .1)) ∙ c .before .before .before .before .before .scan .ensures .0)) refl))
+
+same-length-2 : tie.Need-same-length-2
+same-length-2 c = search needs
+
+returns-2 : tie.Need-returns-2
+returns-2 c = (rw (← (sym (ap numbers (c .before .before .x2 .given .1)) ∙ c .before .before .before .before .before .before .scan .ensures .0)) refl, (c .before .before .before .before .before .before .scan .ensures .1 ∙ ap (λ (a : _). afterwards a (wordsOf (scanTokens (c .before .before .before .before .before .before .before .before .before .before .before .args .file .now) (c .before .before .before .before .before .before .before .before .before .before .before .args .report .now))) (c .before .before .before .before .before .before .before .before .before .before .before .args .tokens .now)) (c .before .before .before .before .before .before .scan .ensures .0), rw (← (sym (ap numbers (c .before .before .x2 .given .1)) ∙ c .before .before .before .before .before .before .scan .ensures .0)) refl))
+
+pub saktroum-scan-spec : {M : Type 1} → statement M
+saktroum-scan-spec =
+    tie.close
+    (tie.spec
+    scan-requires
+    enum-known-x
+    cast-result
+    enum-known-x-2
+    same-length
+    returns
+    same-length-2
+    returns-2)

@@ -1,0 +1,60 @@
+-- `spellings::all_spelled` meets its contract. The loop's invariant: `at` is the offset of field `i`, and
+-- the spellings before it are right.
+use Prim.Native.Nat.{_-_}
+use mathlib.Core.Path.{sym, _∙_}
+use native.Mathlib.Omega.{arith}
+use borrow.Author.Tests.{not-true, not-false}
+use Rattle.spellings.specs.Spellings.{spelled}
+use Rattle.file_fields.proofs.Offsets.{length-spellings}
+use Rattle.spellings.proofs.SpellingLaws.{Passed, passed-none, passed-more, passed-fails, passed-all}
+use Rattle.spellings.proofs.all_spelled.Statement.{statement}
+use Rattle.spellings.proofs.all_spelled.Tie as tie
+
+abbrev Inv-loop : tie.InvT-loop
+Inv-loop file first count skip at₀ i₀ at i = Passed file first count skip (λ k s. spelled s) i at
+
+abbrev μ-loop : tie.MeasureT-loop
+μ-loop file first count skip at₀ i₀ at i = count - i
+
+loop-holds : tie.Need-loop-holds Inv-loop μ-loop
+loop-holds c = passed-none
+
+spelling-at-requires : tie.Need-spelling-at-requires Inv-loop μ-loop
+spelling-at-requires c κs = tt
+
+spelled-requires : tie.Need-spelled-requires Inv-loop μ-loop
+spelled-requires c κs = tt
+
+returns : tie.Need-returns Inv-loop μ-loop
+returns c = rw length-spellings (passed-fails (c .before .before .before .before .loop .inv) (c .before .before .before .loop-test .taken) (c .before .before .spelling-at .ensures) (sym (c .before .spelled .ensures) ∙ not-true _ (c .if1 .taken)))
+
+next-at-requires : tie.Need-next-at-requires Inv-loop μ-loop
+next-at-requires c κs = tt
+
+add-i : tie.Need-add-i Inv-loop μ-loop
+add-i c = omega arith
+
+loop-less : tie.Need-loop-less Inv-loop μ-loop
+loop-less c = omega arith
+
+loop-again : tie.Need-loop-again Inv-loop μ-loop
+loop-again c = passed-more (c .before .before .before .before .before .loop .inv) (c .before .before .before .before .loop-test .taken) (c .before .before .before .spelling-at .ensures) (sym (c .before .before .spelled .ensures) ∙ not-false _ (c .before .if1 .left)) (c .next-at .ensures)
+
+returns-2 : tie.Need-returns-2 Inv-loop μ-loop
+returns-2 c = rw length-spellings (passed-all (c .before .loop .inv) (c .loop-test .left))
+
+pub all-spelled-spec : {M : Type 1} → statement M
+all-spelled-spec =
+    tie.close
+    (tie.spec
+    Inv-loop
+    μ-loop
+    loop-holds
+    spelling-at-requires
+    spelled-requires
+    returns
+    next-at-requires
+    add-i
+    loop-less
+    loop-again
+    returns-2)

@@ -1,0 +1,60 @@
+-- `spellings::singles_alone` meets its contract. The loop's invariant: `at` is the offset of field `i`,
+-- and the keywords before it hold no single byte or are one byte.
+use Prim.Native.Nat.{_-_}
+use mathlib.Core.Path.{sym, _∙_}
+use native.Mathlib.Omega.{arith}
+use borrow.Author.Tests.{not-true, not-false}
+use Rattle.spellings.specs.Spellings.{singleAlone}
+use Rattle.file_fields.proofs.Offsets.{length-spellings}
+use Rattle.spellings.proofs.SpellingLaws.{Passed, passed-none, passed-more, passed-fails, passed-all}
+use Rattle.spellings.proofs.singles_alone.Statement.{statement}
+use Rattle.spellings.proofs.singles_alone.Tie as tie
+
+abbrev Inv-loop : tie.InvT-loop
+Inv-loop file first count at₀ i₀ at i = Passed file first count 0 (λ k s. singleAlone s) i at
+
+abbrev μ-loop : tie.MeasureT-loop
+μ-loop file first count at₀ i₀ at i = count - i
+
+loop-holds : tie.Need-loop-holds Inv-loop μ-loop
+loop-holds c = passed-none
+
+spelling-at-requires : tie.Need-spelling-at-requires Inv-loop μ-loop
+spelling-at-requires c κs = tt
+
+single-alone-requires : tie.Need-single-alone-requires Inv-loop μ-loop
+single-alone-requires c κs = tt
+
+returns : tie.Need-returns Inv-loop μ-loop
+returns c = rw length-spellings (passed-fails (c .before .before .before .before .loop .inv) (c .before .before .before .loop-test .taken) (c .before .before .spelling-at .ensures) (sym (c .before .single-alone .ensures) ∙ not-true _ (c .if1 .taken)))
+
+next-at-requires : tie.Need-next-at-requires Inv-loop μ-loop
+next-at-requires c κs = tt
+
+add-i : tie.Need-add-i Inv-loop μ-loop
+add-i c = omega arith
+
+loop-less : tie.Need-loop-less Inv-loop μ-loop
+loop-less c = omega arith
+
+loop-again : tie.Need-loop-again Inv-loop μ-loop
+loop-again c = passed-more (c .before .before .before .before .before .loop .inv) (c .before .before .before .before .loop-test .taken) (c .before .before .before .spelling-at .ensures) (sym (c .before .before .single-alone .ensures) ∙ not-false _ (c .before .if1 .left)) (c .next-at .ensures)
+
+returns-2 : tie.Need-returns-2 Inv-loop μ-loop
+returns-2 c = rw length-spellings (passed-all (c .before .loop .inv) (c .loop-test .left))
+
+pub singles-alone-spec : {M : Type 1} → statement M
+singles-alone-spec =
+    tie.close
+    (tie.spec
+    Inv-loop
+    μ-loop
+    loop-holds
+    spelling-at-requires
+    single-alone-requires
+    returns
+    next-at-requires
+    add-i
+    loop-less
+    loop-again
+    returns-2)

@@ -1,0 +1,75 @@
+-- `spellings::spelled` meets its contract. The loop's invariant: the bytes before `i` are visible.
+use Prim.Native.Nat.{_-_, _≤_}
+use mathlib.Core.Path.{_≡_, refl, sym}
+use mathlib.Core.Bool.{true}
+use native.Mathlib.Omega.{arith}
+use borrow.Author.Tests.{le-leb, lt-leb, eq-eqb, ne-eqb}
+use lib.ListN.{length, getD}
+use Rattle.table.specs.Every.{every}
+use Rattle.table.proofs.Every.{every-more, every-fails}
+use Rattle.spellings.specs.Spellings.{visible, spelled}
+use Rattle.spellings.proofs.spelled.Statement.{statement}
+use Rattle.spellings.proofs.spelled.Tie as tie
+
+abbrev Inv-loop : tie.InvT-loop
+Inv-loop s i₀ i = (i ≤ length s) × (every i (λ k. visible (getD s k 0)) ≡ true)
+
+abbrev μ-loop : tie.MeasureT-loop
+μ-loop s i₀ i = length s - i
+
+returns : tie.Need-returns Inv-loop μ-loop
+unfolding spelled
+returns c = rw (lt-leb _ _ (c .if1 .taken))
+
+returns-2 : tie.Need-returns-2 Inv-loop μ-loop
+unfolding spelled
+returns-2 c = rw (le-leb _ _ (c .before .if1 .left), lt-leb _ _ (c .if2 .taken))
+
+loop-holds : tie.Need-loop-holds Inv-loop μ-loop
+unfolding every
+loop-holds c = (omega arith, refl)
+
+shared-slice-read-if3 : tie.Need-shared-slice-read-if3 Inv-loop μ-loop
+shared-slice-read-if3 c = omega arith
+
+returns-3 : tie.Need-returns-3 Inv-loop μ-loop
+unfolding spelled
+returns-3 c = rw (le-leb _ _ (c .before .before .before .before .before .if1 .left), le-leb _ _ (c .before .before .before .before .if2 .left)) (sym (every-fails _ _ (c .before .before .before .loop .i) (c .before .before .loop-test .taken) (rw (le-leb _ _ (c .if3 .taken)))))
+
+shared-slice-read-if4 : tie.Need-shared-slice-read-if4 Inv-loop μ-loop
+shared-slice-read-if4 c = omega arith
+
+returns-4 : tie.Need-returns-4 Inv-loop μ-loop
+unfolding spelled
+returns-4 c = rw (le-leb _ _ (c .before .before .before .before .before .before .before .if1 .left), le-leb _ _ (c .before .before .before .before .before .before .if2 .left)) (sym (every-fails _ _ (c .before .before .before .before .before .loop .i) (c .before .before .before .before .loop-test .taken) (rw (lt-leb _ _ (c .before .before .if3 .left), eq-eqb _ _ (c .if4 .taken)))))
+
+add-i : tie.Need-add-i Inv-loop μ-loop
+add-i c = omega arith
+
+loop-less : tie.Need-loop-less Inv-loop μ-loop
+loop-less c = omega arith
+
+loop-again : tie.Need-loop-again Inv-loop μ-loop
+loop-again c = (omega arith, every-more _ _ (c .before .before .before .before .before .loop .inv .1) (rw (lt-leb _ _ (c .before .before .if3 .left), ne-eqb _ _ (c .if4 .left))))
+
+returns-5 : tie.Need-returns-5 Inv-loop μ-loop
+unfolding spelled
+returns-5 c = let e : c .before .loop .i ≡ length (c .before .before .before .before .args .s .now) = omega arith in rw (le-leb _ _ (c .before .before .before .if1 .left), le-leb _ _ (c .before .before .if2 .left), ← e) (sym (c .before .loop .inv .1))
+
+pub spelled-spec : {M : Type 1} → statement M
+spelled-spec =
+    tie.close
+    (tie.spec
+    Inv-loop
+    μ-loop
+    returns
+    returns-2
+    loop-holds
+    shared-slice-read-if3
+    returns-3
+    shared-slice-read-if4
+    returns-4
+    add-i
+    loop-less
+    loop-again
+    returns-5)

@@ -1,0 +1,59 @@
+-- `spellings::unlike` meets its contract. The loop's invariant: `at` is the offset of field `i`, and `s`
+-- is none of the spellings before it.
+use Prim.Native.Nat.{_-_}
+use mathlib.Core.Path.{sym, ap, _∙_}
+use mathlib.Core.Bool.{not}
+use native.Mathlib.Omega.{arith}
+use Rattle.spellings.specs.Spellings.{sameBytes}
+use Rattle.spellings.proofs.SpellingLaws.{Passed, passed-none, passed-more, passed-fails, passed-all}
+use Rattle.spellings.proofs.unlike.Statement.{statement}
+use Rattle.spellings.proofs.unlike.Tie as tie
+
+abbrev Inv-loop : tie.InvT-loop
+Inv-loop file first count skip s at₀ i₀ at i = Passed file first count skip (λ k t. not (sameBytes t s)) i at
+
+abbrev μ-loop : tie.MeasureT-loop
+μ-loop file first count skip s at₀ i₀ at i = count - i
+
+loop-holds : tie.Need-loop-holds Inv-loop μ-loop
+loop-holds c = passed-none
+
+spelling-at-requires : tie.Need-spelling-at-requires Inv-loop μ-loop
+spelling-at-requires c κs = tt
+
+same-requires : tie.Need-same-requires Inv-loop μ-loop
+same-requires c κs = tt
+
+returns : tie.Need-returns Inv-loop μ-loop
+returns c = passed-fails (c .before .before .before .before .loop .inv) (c .before .before .before .loop-test .taken) (c .before .before .spelling-at .ensures) (ap not (sym (c .before .same .ensures) ∙ c .if1 .taken))
+
+next-at-requires : tie.Need-next-at-requires Inv-loop μ-loop
+next-at-requires c κs = tt
+
+add-i : tie.Need-add-i Inv-loop μ-loop
+add-i c = omega arith
+
+loop-less : tie.Need-loop-less Inv-loop μ-loop
+loop-less c = omega arith
+
+loop-again : tie.Need-loop-again Inv-loop μ-loop
+loop-again c = passed-more (c .before .before .before .before .before .loop .inv) (c .before .before .before .before .loop-test .taken) (c .before .before .before .spelling-at .ensures) (ap not (sym (c .before .before .same .ensures) ∙ c .before .if1 .left)) (c .next-at .ensures)
+
+returns-2 : tie.Need-returns-2 Inv-loop μ-loop
+returns-2 c = passed-all (c .before .loop .inv) (c .loop-test .left)
+
+pub unlike-spec : {M : Type 1} → statement M
+unlike-spec =
+    tie.close
+    (tie.spec
+    Inv-loop
+    μ-loop
+    loop-holds
+    spelling-at-requires
+    same-requires
+    returns
+    next-at-requires
+    add-i
+    loop-less
+    loop-again
+    returns-2)

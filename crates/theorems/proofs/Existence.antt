@@ -1,0 +1,130 @@
+-- An outcome exists for every grammar that passes the check, token list and start: the evaluation ends within its bound on
+-- depth. By tokens left, then by rank.
+use Prim.Native.Nat.{ℕ, zero, suc, _+_, _*_, _-_, _≤_, _<_}
+use mathlib.Core.Path.{_≡_, refl, sym}
+use mathlib.Core.Bool.{Bool, true, false, cond}
+use mathlib.Core.List.{List}
+use mathlib.Core.Logic.{⊎-elim}
+use native.Mathlib.Nat.{eq-or-lt-of-le, mul-le-mul-right, suc-mul}
+use native.Mathlib.Omega.{arith}
+use Rattle.table.specs.Answer.{given}
+use Rattle.table.specs.Checks.{tableAnswer}
+use Rattle.table.specs.Form as table
+use Rattle.table.specs.Form.{Form, form, nodeCount, standsFor}
+use Rattle.table.specs.InternalInside.{Inside}
+use Rattle.table.proofs.Inside.{inside-table}
+use Rattle.columns.specs.Intervals.{ends, innerEnds}
+use Rattle.columns.specs.declared.Interval.{Interval}
+use Rattle.well_formed.specs.Facts.{nothing}
+use Rattle.well_formed.specs.WellFormed.{Passes}
+use Rattle.well_formed.specs.InternalRank.{Enters, enters-rule, enters-first, enters-second, enters-choice, enters-other, enters-not, enters-repeat, enters-indent, enters-position, enters-align, rank}
+use Rattle.well_formed.proofs.RankLaws.{rank-falls, rank-most, repeat-reads}
+use Rattle.clauses.specs.Clauses.{Tokens, State, Outcome, success, failure, Run}
+use Rattle.clauses.specs.Evaluation.{Result, ended, unfinished, after, reads, step, evaluate, enough, outcomeFor}
+use Rattle.theorems.proofs.Narrows.{onward, within}
+use Rattle.theorems.proofs.ShownFacts.{shown, at-once}
+use Rattle.clauses.proofs.Sound.{evaluate-sound}
+
+-- A result that is an outcome.
+record Ended (r : Result) : Type 0 where
+  pub outcome : Outcome Interval
+  pub is : r ≡ ended outcome
+
+this : (o : Outcome Interval) → Ended (ended o)
+this o = record { outcome = o; is = refl }
+
+one-of : (t : Bool) (o p : Outcome Interval) → Ended (cond t (ended o) (ended p))
+one-of true o p = this o
+one-of false o p = this p
+
+-- After a result that is an outcome.
+after-ended : (r : Result) (next : State Interval → Result) (otherwise : Result) → Ended r → ((s : State Interval) → r ≡ ended (success s) → Ended (next s)) → (r ≡ ended failure → Ended otherwise) → Ended (after r next otherwise)
+after-ended (ended (success s)) next otherwise e k l = k s refl
+after-ended (ended failure) next otherwise e k l = l refl
+after-ended unfinished next otherwise e k l = absurd (let q = e .is in let z : _≡_ {A = ℕ} 0 1 = cc in omega arith)
+
+-- Fewer tokens weigh more than any rank.
+pub weighs-less : (left left' most r r' : ℕ) → left' < left → r' ≤ most → left' * (most + 1) + r' < left * (most + 1) + r
+weighs-less left left' most r r' h k =
+    let x : suc left' * (most + 1) ≤ left * (most + 1) = mul-le-mul-right (most + 1) h in
+    let y = suc-mul left' (most + 1) in
+    omega arith
+
+module _ (nodes rules : List ℕ) (tokens : Tokens) (passing : tableAnswer nodes rules ≡ given tt) (every-well : Passes nodes rules) where
+  -- Tokens left, then rank.
+  abbrev weight : ℕ → ℕ → ℕ
+  weight w n = (tokens .count - w) * (nodeCount nodes + 1) + rank nodes rules n
+
+  abbrev call : ℕ → ℕ → Form → State Interval → Result
+  call depth τ f s = evaluate nodes rules tokens depth τ f s
+
+  -- Node n at depth k + 1, where every call that weighs less ends at depth k.
+  module _ (k n : ℕ) (h : n < nodeCount nodes)
+      (ends-at : (m τ : ℕ) (s : State Interval) → m < nodeCount nodes → s .0 ≤ tokens .count → weight (s .0) m < k → Ended (call k τ (form nodes m) s))
+      (τ : ℕ) (s : State Interval) (b : s .0 ≤ tokens .count) (heavy : weight (s .0) n < suc k) where
+    inside : (f : Form) → form nodes n ≡ f → Inside rules (nodeCount nodes) f
+    inside f e = rw e at (inside-table nodes rules passing n h)
+
+    -- A child that is entered at this place.
+    child : (f : Form) → form nodes n ≡ f → (c σ : ℕ) (t : State Interval) → t .0 ≡ s .0 → c < nodeCount nodes → Enters nodes rules f c → Ended (call k σ (form nodes c) t)
+    child f e c σ t q l enter = ends-at c σ t l (omega arith) (let r = rank-falls nodes rules passing every-well n c h (rw e enter) in (rw q (omega arith)))
+
+    -- A child that is entered after a token was read.
+    later : (c : ℕ) (t : State Interval) → c < nodeCount nodes → t .0 ≤ tokens .count → s .0 < t .0 → Ended (call k τ (form nodes c) t)
+    later c t l i e =
+        ends-at c τ t l i
+        (let x = weighs-less (tokens .count - s .0) (tokens .count - t .0) (nodeCount nodes) (rank nodes rules n) (rank nodes rules c) (omega arith) (rank-most nodes rules passing every-well c l) in omega arith)
+
+    -- What a first child derived.
+    derived : (σ : ℕ) (f : Form) (t t' : State Interval) → call k σ f t ≡ ended (success t') → Run ends nodes rules tokens σ f t (success t')
+    derived σ f t t' e = evaluate-sound nodes rules tokens k σ f t (success t') e
+
+    by-form : (f : Form) → form nodes n ≡ f → Ended (step nodes rules tokens (λ τ' f' s'. call k τ' f' s') τ f s)
+    by-form table.empty e = this (success s)
+    by-form (table.terminal a) e = one-of (reads tokens τ a s) _ failure
+    by-form (table.rule x) e = child _ e (standsFor rules x) τ s refl (inside _ e) enters-rule
+    by-form (table.sequence p q) e =
+        after-ended (call k τ (form nodes p) s) _ _ (child _ e p τ s refl (inside _ e .0) enters-first)
+        (λ t r.
+        let d = derived τ (form nodes p) s t r in
+        ⊎-elim
+        (λ i. child _ e q τ t (sym i) (inside _ e .1) (enters-second (shown ends nodes rules tokens d nothing (at-once (sym i)))))
+        (λ l. later q t (inside _ e .1) (within ends nodes rules tokens b d) l)
+        (eq-or-lt-of-le (onward ends nodes rules tokens d)))
+        (λ r. this failure)
+    by-form (table.choice p q) e =
+        after-ended (call k τ (form nodes p) s) _ _ (child _ e p τ s refl (inside _ e .0) enters-choice) (λ t r. this (success t)) (λ r. child _ e q τ s refl (inside _ e .1) enters-other)
+    by-form (table.not p) e = after-ended (call k τ (form nodes p) s) _ _ (child _ e p τ s refl (inside _ e) enters-not) (λ t r. this failure) (λ r. this (success s))
+    by-form (table.repeat p) e =
+        after-ended (call k τ (form nodes p) s) _ _ (child _ e p τ s refl (inside _ e) enters-repeat)
+        (λ t r.
+        let d = derived τ (form nodes p) s t r in
+        ⊎-elim
+        (λ i. absurd (repeat-reads nodes rules passing every-well n p h e (shown ends nodes rules tokens d nothing (at-once (sym i)))))
+        (λ l. rw (← e) (later n t h (within ends nodes rules tokens b d) l))
+        (eq-or-lt-of-le (onward ends nodes rules tokens d)))
+        (λ r. this (success s))
+    by-form (table.indent p ρ) e =
+        after-ended (call k τ (form nodes p) (s .0, innerEnds ρ (s .1), s .2)) _ _ (child _ e p τ (s .0, innerEnds ρ (s .1), s .2) refl (inside _ e) enters-indent) (λ t r. this _) (λ r. this failure)
+    by-form (table.position p σ) e = child _ e p σ s refl (inside _ e) enters-position
+    by-form (table.align p) e =
+        after-ended (call k τ (form nodes p) (s .0, s .1, true)) _ _ (child _ e p τ (s .0, s .1, true) refl (inside _ e) enters-align) (λ t r. this _) (λ r. this failure)
+    by-form table.other e = absurd (inside _ e)
+
+  evaluates : (k n τ : ℕ) (s : State Interval) → n < nodeCount nodes → s .0 ≤ tokens .count → weight (s .0) n < k → Ended (call k τ (form nodes n) s)
+  unfolding evaluate
+  evaluates zero n τ s h b heavy = absurd (omega arith)
+  evaluates (suc k) n τ s h b heavy = by-form k n h (λ m σ t. evaluates k m σ t) τ s b heavy (form nodes n) refl
+
+  -- Nothing weighs more than the bound.
+  light : (n w : ℕ) → n < nodeCount nodes → weight w n < enough nodes rules tokens
+  light n w h =
+      let x = weighs-less (tokens .count + 1) (tokens .count - w) (nodeCount nodes) 0 (rank nodes rules n) (omega arith) (rank-most nodes rules passing every-well n h) in
+      omega arith
+
+  -- The outcome that is computed is one that the clauses give: an outcome exists.
+  pub outcome-derived : (τ n : ℕ) (s : State Interval) → n < nodeCount nodes → s .0 ≤ tokens .count → Run ends nodes rules tokens τ (form nodes n) s (outcomeFor nodes rules tokens τ n s)
+  unfolding outcomeFor
+  outcome-derived τ n s h b =
+      let r = evaluates (enough nodes rules tokens) n τ s h b (light n (s .0) h) in
+      evaluate-sound nodes rules tokens (enough nodes rules tokens) τ (form nodes n) s (outcomeFor nodes rules tokens τ n s) (rw (r .is) refl)
