@@ -1,4 +1,4 @@
-/* Reads a report by the four parts and prints the outcome.
+/* Reads a report by the four parts and prints the names that the grammar has and the outcome.
  *
  *     read_report GRAMMAR REPORT
  */
@@ -38,13 +38,41 @@ static size_t load(const char *path, uint8_t *bytes)
     return n;
 }
 
+/* What to do about a refusal. */
+static const char *const advice[] = {
+    [SAKTROUM_REFUSED_FIELDS] = "this is no grammar file: build it anew",
+    [SAKTROUM_REFUSED_SPELLING] = "look at the keywords and rule names: 1 to 32 bytes, no blanks, none there twice",
+    [SAKTROUM_REFUSED_COUNTS] = "make the grammar smaller: it may have 512 nodes and 128 rules, and needs a node",
+    [SAKTROUM_REFUSED_NODE] = "mend the tool that wrote the nodes",
+    [SAKTROUM_REFUSED_RULE] = "mend the tool that wrote the rules and the start",
+    [SAKTROUM_REFUSED_ROOM] = "lend more words for the nodes and the rules",
+    [SAKTROUM_REFUSED_ILL_FORMED] = "there a rule comes back to itself, or a repeat goes on, without reading a token",
+    [SAKTROUM_REFUSED_REPORT] = "split the report, or look how it was recorded: it is too long, or has a byte that is no text",
+    [SAKTROUM_REFUSED_COLUMN] = "look for a very long line in the report",
+    [SAKTROUM_REFUSED_TOKEN_ROOM] = "split the report: it may have 4,096 tokens",
+    [SAKTROUM_REFUSED_TOKENS] = "lend the tokens as a scan wrote them",
+    [SAKTROUM_REFUSED_START] = "look at the start: its node, place, interval and mode"};
+
 static int refused(const char *part, uint32_t answer)
 {
-    printf("%s: refused %u", part, saktroum_number(answer));
-    if (saktroum_number(answer) == 7)
+    uint32_t number = saktroum_number(answer);
+    printf("%s: refused %u", part, number);
+    if (number == SAKTROUM_REFUSED_ILL_FORMED)
         printf(", node %u", saktroum_node(answer));
-    putchar('\n');
+    printf(": %s\n", advice[number]);
     return 1;
+}
+
+/* Prints the names that a call gives for 0, 1 and so on, up to the first of no bytes. */
+static void print_names(const char *what, size_t file_bytes,
+                        size_t name(const uint8_t *, size_t, size_t, uint8_t *, size_t))
+{
+    uint8_t out[SAKTROUM_NAME_BYTES];
+    size_t bytes;
+    printf("%s:", what);
+    for (size_t i = 0; (bytes = name(file, file_bytes, i, out, sizeof out)); i++)
+        printf(" %.*s", (int)bytes, (const char *)out);
+    putchar('\n');
 }
 
 static int read_report(size_t file_bytes, size_t report_bytes)
@@ -54,6 +82,8 @@ static int read_report(size_t file_bytes, size_t report_bytes)
     if ((answer = saktroum_read(file, file_bytes, nodes, SAKTROUM_NODE_WORDS, rules, SAKTROUM_RULE_WORDS, read)))
         return refused("read", answer);
     printf("read: %zu nodes, %zu rules, %zu keywords\n", read[0], read[1], read[2]);
+    print_names("rules", file_bytes, saktroum_rule_name);
+    print_names("keywords", file_bytes, saktroum_keyword);
     if ((answer = saktroum_check(nodes, read[0] * 4, rules, read[1])))
         return refused("check", answer);
     if ((answer = saktroum_scan(file, file_bytes, report, report_bytes, tokens, SAKTROUM_TOKEN_WORDS, count)))

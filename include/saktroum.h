@@ -1,8 +1,9 @@
 /* Saktroum: a reader for indentation grammars. The C interface of the archive libsaktroum.a (x86-64 Linux).
  *
- * Four parts: a grammar file reader, a report scanner, a well-formedness check and an interpreter; and the line of the
- * program over them. Every call ends and keeps no state between calls; calls from several threads at once are fine. What a
- * call answers and writes is proved; what it is owed by its caller is not checked:
+ * Four parts: a grammar file reader, a report scanner, a well-formedness check and an interpreter; the line of the program
+ * over them; and the keywords and rule names of a grammar file (docs/FORMAT.md says what such a file is). Every call ends
+ * and keeps no state between calls; calls from several threads at once are fine. What a call answers and writes is proved;
+ * what it is owed by its caller is not checked:
  *
  * - A slice is a pointer and the number of its elements. The pointer is not null, even for 0 elements, is aligned for
  *   its element type, and the elements are there and set. `result` points to as many words as its brackets say. A bool
@@ -15,28 +16,14 @@
  *   caller's work on a thread with 1 GiB. The other calls do not nest and need little.
  *
  * The answer of the first four is 0 if the call passed every check, or else the number of the first check it failed, for 7
- * with the node: 7 + 65,536 * node. saktroum_number and saktroum_node take it apart. The numbers:
- *
- *    1  file over 65,535 bytes; a field cut short, missing, out of order, unknown or of a wrong length; tag 1's value
- *       not 1; over 253 keywords
- *    2  a keyword or name breaks its rules
- *    3  node words no multiple of 4, node or rule count outside the limits (1 to 512 nodes, 0 to 128 rules)
- *    4  kind over 9, child not lower, no such rule, terminal over 255, relation over 3, unused word not 0
- *    5  a rule's node or the file's start node not in the table, the file's mode over 3
- *    6  a lent slice too short for the table or the rules
- *    7  not well formed; the node is the lowest such one
- *    8  report over 65,535 bytes, or a refused byte
- *    9  a token's column over 65,535
- *   10  over 4,096 tokens, or too few words lent
- *   11  token words no multiple of 4, over 4,096 tokens, terminal over 255, column over 65,535
- *   12  start node past the table, place past the tokens (right behind the last is allowed), lower end over the upper or
- *       over 65,535, upper end over 65,535, mode over 3
- *
- * If one of the first four answers anything but 0, it has written nothing. After success, words past those written are as
- * before.
+ * with the node: 7 + 65,536 * node. saktroum_number and saktroum_node take it apart; enum saktroum_refusal has a name for
+ * each number. If one of the first four answers anything but 0, it has written nothing. After success, words past those
+ * written are as before.
  */
 #ifndef SAKTROUM_H
 #define SAKTROUM_H
+
+#define SAKTROUM_VERSION "0.1.0"
 
 #include <stdbool.h>
 #include <stddef.h>
@@ -51,7 +38,31 @@ enum {
     SAKTROUM_NODE_WORDS = 2048,
     SAKTROUM_RULE_WORDS = 128,
     SAKTROUM_TOKEN_WORDS = 16384,
-    SAKTROUM_LINE_BYTES = 64
+    SAKTROUM_LINE_BYTES = 64,
+    SAKTROUM_NAME_BYTES = 32
+};
+
+/* The number in an answer, by the check that the call failed. */
+enum saktroum_refusal {
+    SAKTROUM_PASSED = 0,
+    SAKTROUM_REFUSED_FIELDS = 1,      /* file over 65,535 bytes; a field cut short, missing, out of order, unknown or of a
+                                         wrong length; tag 1's value not 1; over 253 keywords */
+    SAKTROUM_REFUSED_SPELLING = 2,    /* a keyword or name breaks its rules */
+    SAKTROUM_REFUSED_COUNTS = 3,      /* node words no multiple of 4, node or rule count outside the limits (1 to 512
+                                         nodes, 0 to 128 rules) */
+    SAKTROUM_REFUSED_NODE = 4,        /* kind over 9, child not lower, no such rule, terminal over 255, relation over 3,
+                                         unused word not 0 */
+    SAKTROUM_REFUSED_RULE = 5,        /* a rule's node or the file's start node not in the table, the file's mode over 3 */
+    SAKTROUM_REFUSED_ROOM = 6,        /* a lent slice too short for the table or the rules */
+    SAKTROUM_REFUSED_ILL_FORMED = 7,  /* not well formed; the node is the lowest such one */
+    SAKTROUM_REFUSED_REPORT = 8,      /* report over 65,535 bytes, or a refused byte */
+    SAKTROUM_REFUSED_COLUMN = 9,      /* a token's column over 65,535 */
+    SAKTROUM_REFUSED_TOKEN_ROOM = 10, /* over 4,096 tokens, or too few words lent */
+    SAKTROUM_REFUSED_TOKENS = 11,     /* token words no multiple of 4, over 4,096 tokens, terminal over 255, column over
+                                         65,535 */
+    SAKTROUM_REFUSED_START = 12       /* start node past the table, place past the tokens (right behind the last is
+                                         allowed), lower end over the upper or over 65,535, upper end over 65,535, mode
+                                         over 3 */
 };
 
 /* The kinds of nodes; a, b and relation are words 1 to 3 of a node, 0 where they are not used. */
@@ -93,8 +104,8 @@ uint32_t saktroum_scan(const uint8_t *file, size_t file_bytes,
 uint32_t saktroum_check(const uint16_t *nodes, size_t node_words,
                         const uint16_t *rules, size_t rule_words);
 
-/* Runs a grammar on tokens (3, 4, 5, 7, 11, 12; mind the stack, above) from a start: its node, the token place, the interval from `lower` to
- * `upper`, or without end (then `upper` is not looked at), the alignment flag and the token mode.
+/* Runs a grammar on tokens (3, 4, 5, 7, 11, 12; mind the stack, above) from a start: its node, the token place, the
+ * interval from `lower` to `upper`, or without end (then `upper` is not looked at), the alignment flag and the token mode.
  * result, on success: 1, the number of tokens read, the lower end, the upper end (0 if there is none), whether the
  * interval is without end (1 or 0), whether the flag is set (1 or 0). On failure: result[0] is 0, the others are as before. */
 uint32_t saktroum_run(const uint16_t *nodes, size_t node_words,
@@ -109,6 +120,15 @@ uint32_t saktroum_run(const uint16_t *nodes, size_t node_words,
 size_t saktroum_line(const uint8_t *file, size_t file_bytes,
                      const uint8_t *report, size_t report_bytes,
                      uint8_t *out, size_t out_bytes);
+
+/* Copies keyword `index` of a grammar file, or the name of rule `index`, to `out` and answers how many bytes it has; both
+ * count from 0. No byte 0 is put behind it. If `out` is too short, nothing is written and the answer is the same; 32 bytes
+ * are always enough. The answer is 0 where there is no such keyword or rule, and where saktroum_read would refuse the file
+ * by 1 to 5. Each call checks the whole file. */
+size_t saktroum_keyword(const uint8_t *file, size_t file_bytes, size_t index,
+                        uint8_t *out, size_t out_bytes);
+size_t saktroum_rule_name(const uint8_t *file, size_t file_bytes, size_t index,
+                          uint8_t *out, size_t out_bytes);
 
 #ifdef __cplusplus
 }

@@ -154,6 +154,7 @@ fn file_once(input: &FileInput) -> Result<Result<second::FileRead, u8>, String> 
         rule_room,
     } = input;
     let bytes = || format!("{node_room} and {rule_room} words lent\nfile {file:?}");
+    names_once(file)?;
     let read = second::read(file, *node_room, *rule_room);
     same(
         "the read",
@@ -161,6 +162,49 @@ fn file_once(input: &FileInput) -> Result<Result<second::FileRead, u8>, String> 
         read,
         bytes,
     )
+}
+
+/// Every keyword and rule name of a file that the second reader reads, and none behind the last one. Any other file has
+/// none.
+fn names_once(file: &[u8]) -> Result<(), String> {
+    let read = second::read(file, usize::MAX, usize::MAX);
+    let (keywords, names) = read.map_or((vec![], vec![]), |_| spellings(file));
+    let bytes = || format!("file {file:?}");
+    for (k, word) in listed(&keywords) {
+        same("a keyword", ours::keyword(file, k), word.to_vec(), bytes)?;
+        // By itself the keyword is a token whose terminal is 3 and its number.
+        if !word.is_empty() {
+            let token = second::scan(file, word, 8).map(|words| words[0]);
+            same("a keyword's number", Ok(Ok(3 + k as u32)), token, bytes)?;
+        }
+    }
+    for (r, word) in listed(&names) {
+        same("a rule name", ours::rule_name(file, r), word.to_vec(), bytes)?;
+    }
+    Ok(())
+}
+
+/// Words with their numbers, and numbers behind the last one with no bytes.
+fn listed<'f>(words: &[&'f [u8]]) -> impl Iterator<Item = (usize, &'f [u8])> {
+    let past = [words.len(), words.len() + 1, usize::MAX].map(|i| (i, &[][..]));
+    let list: Vec<_> = words.iter().copied().enumerate().chain(past).collect();
+    list.into_iter()
+}
+
+/// The keywords and rule names of a file whose fields are right: the values of tag 2, and of tag 3 behind two bytes.
+fn spellings(file: &[u8]) -> (Vec<&[u8]>, Vec<&[u8]>) {
+    let (mut keywords, mut names) = (Vec::new(), Vec::new());
+    let mut rest = file;
+    while let [tag, high, low, after @ ..] = rest {
+        let (value, behind) = after.split_at(usize::from(u16::from_be_bytes([*high, *low])));
+        match tag {
+            2 => keywords.push(value),
+            3 => names.push(&value[2..]),
+            _ => {}
+        }
+        rest = behind;
+    }
+    (keywords, names)
 }
 
 /// The scanner, and the program's line where its run takes few steps: whether it does.

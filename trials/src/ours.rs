@@ -55,6 +55,20 @@ mod c {
             out: *mut u8,
             out_bytes: usize,
         ) -> usize;
+        pub fn saktroum_keyword(
+            file: *const u8,
+            file_bytes: usize,
+            index: usize,
+            out: *mut u8,
+            out_bytes: usize,
+        ) -> usize;
+        pub fn saktroum_rule_name(
+            file: *const u8,
+            file_bytes: usize,
+            index: usize,
+            out: *mut u8,
+            out_bytes: usize,
+        ) -> usize;
     }
 }
 
@@ -136,6 +150,14 @@ pub mod plain {
                 out.len(),
             )
         }
+    }
+
+    pub fn keyword(file: &[u8], index: usize, out: &mut [u8]) -> usize {
+        unsafe { c::saktroum_keyword(file.as_ptr(), file.len(), index, out.as_mut_ptr(), out.len()) }
+    }
+
+    pub fn rule_name(file: &[u8], index: usize, out: &mut [u8]) -> usize {
+        unsafe { c::saktroum_rule_name(file.as_ptr(), file.len(), index, out.as_mut_ptr(), out.len()) }
     }
 }
 
@@ -306,4 +328,38 @@ pub fn line(file: &[u8], report: &[u8]) -> Result<Vec<u8>, Odd> {
         return Err(Odd("63 bytes did for a line".into()));
     }
     Ok(line)
+}
+
+/// The two calls that copy a name.
+type Name = fn(&[u8], usize, &mut [u8]) -> usize;
+
+/// A name, copied to a slice of so many bytes: how many bytes it has, and those that were written.
+fn name_in(call: Name, file: &[u8], index: usize, room: usize) -> Result<(usize, Vec<u8>), Odd> {
+    let mut out = Lent::new(room, BYTE);
+    let count = call(file, index, out.slice());
+    let written = if count <= room { count } else { 0 };
+    Ok((count, out.reported(written, "out")?))
+}
+
+/// A name. A slice of one byte less must be left alone, with the same answer, and one of a byte more must do as well.
+fn name(call: Name, file: &[u8], index: usize) -> Result<Vec<u8>, Odd> {
+    let (count, bytes) = name_in(call, file, index, 32)?;
+    let short = count.saturating_sub(1);
+    for room in [short, count, count + 1] {
+        let written = if room < count { &[][..] } else { &bytes };
+        if name_in(call, file, index, room)? != (count, written.to_vec()) {
+            return Err(Odd(format!("a name of {count} bytes in {room}")));
+        }
+    }
+    Ok(bytes)
+}
+
+/// A keyword of a file, empty where there is none.
+pub fn keyword(file: &[u8], index: usize) -> Result<Vec<u8>, Odd> {
+    name(plain::keyword, file, index)
+}
+
+/// The name of a rule, empty where there is none.
+pub fn rule_name(file: &[u8], index: usize) -> Result<Vec<u8>, Odd> {
+    name(plain::rule_name, file, index)
 }

@@ -1,24 +1,20 @@
-// The C interface: the four parts and the program's line over plain slices. `include/saktroum.h` declares it for C.
+// The C interface: the four parts, the program's line and the names of a file over plain slices. `include/saktroum.h`
+// declares it for C.
 use columns::Interval;
 use columns::Start;
-use columns::State;
-use columns::Upper;
 use grammar_file::FileRead;
-use interpreter::Ran;
 use scanner::Scanned;
 use well_formed::Verdict;
 ghost use mathlib.Core.Path.{_≡_};
-ghost use Prim.Native.Nat.{ℕ, _+_, _*_};
 ghost use lib.ListN.{length};
 ghost use Rattle.table.specs.Answer.{afterwards};
-ghost use Rattle.grammar_file.specs.File.{fieldsOf, nodeTable, ruleList, readAnswer};
+ghost use Rattle.grammar_file.specs.File.{fieldsOf, nodeTable, ruleList, readAnswer, keywordBytes, nameBytes};
 ghost use Rattle.scanner.specs.Tokens.{wordsOf};
 ghost use Rattle.scanner.specs.Scan.{scanTokens, scanAnswer};
 ghost use Rattle.well_formed.specs.Check.{checkAnswer};
 ghost use Rattle.clauses.specs.RunAnswer.{runAnswer};
-ghost use Rattle.interpreter.specs.Numbers.{numbers};
 ghost use Rattle.line.specs.Line.{lineCount, lineAfter};
-ghost use Rattle.saktroum.specs.Reported.{number, reported, contentsWords, countWords, successWords, RunReported, upperFrom, startFrom};
+ghost use Rattle.reported.specs.Reported.{number, reported, contentsWords, countWords, RunReported, startFrom, copied};
 
 // Reads a grammar file. The answer is 0, with the counts of nodes, rules and keywords, the start node and its mode in
 // `result`, or the number that refused the call.
@@ -29,10 +25,17 @@ pub extern "C" fn saktroum_read(
     rules: &mut [u16],
     result: &mut [usize; 5],
 ) -> u32
-    ensures { λ r. ⌜ r ≡ number (readAnswer (now (file .entry)) (length (now (nodes .entry))) (length (now (rules .entry)))) ⌝ }
-    ensures { λ r. ⌜ now (nodes .exit) ≡ afterwards (readAnswer (now (file .entry)) (length (now (nodes .entry))) (length (now (rules .entry)))) (nodeTable (fieldsOf (now (file .entry)))) (now (nodes .entry)) ⌝ }
-    ensures { λ r. ⌜ now (rules .exit) ≡ afterwards (readAnswer (now (file .entry)) (length (now (nodes .entry))) (length (now (rules .entry)))) (ruleList (fieldsOf (now (file .entry)))) (now (rules .entry)) ⌝ }
-    ensures { λ r. ⌜ now (result .exit) ≡ reported contentsWords (readAnswer (now (file .entry)) (length (now (nodes .entry))) (length (now (rules .entry)))) (now (result .entry)) ⌝ }
+    ensures { λ r. ⌜ r
+        ≡ number (readAnswer (now (file .entry)) (length (now (nodes .entry))) (length (now (rules .entry)))) ⌝ }
+    ensures { λ r. ⌜ now (nodes .exit)
+        ≡ afterwards (readAnswer (now (file .entry)) (length (now (nodes .entry))) (length (now (rules .entry))))
+        (nodeTable (fieldsOf (now (file .entry)))) (now (nodes .entry)) ⌝ }
+    ensures { λ r. ⌜ now (rules .exit)
+        ≡ afterwards (readAnswer (now (file .entry)) (length (now (nodes .entry))) (length (now (rules .entry))))
+        (ruleList (fieldsOf (now (file .entry)))) (now (rules .entry)) ⌝ }
+    ensures { λ r. ⌜ now (result .exit)
+        ≡ reported contentsWords
+        (readAnswer (now (file .entry)) (length (now (nodes .entry))) (length (now (rules .entry)))) (now (result .entry)) ⌝ }
 {
     let x = grammar_file::read(file, nodes, rules);
     match x {
@@ -60,8 +63,12 @@ pub extern "C" fn saktroum_scan(
     result: &mut [usize; 1],
 ) -> u32
     ensures { λ r. ⌜ r ≡ number (scanAnswer (now (file .entry)) (now (report .entry)) (length (now (tokens .entry)))) ⌝ }
-    ensures { λ r. ⌜ now (tokens .exit) ≡ afterwards (scanAnswer (now (file .entry)) (now (report .entry)) (length (now (tokens .entry)))) (wordsOf (scanTokens (now (file .entry)) (now (report .entry)))) (now (tokens .entry)) ⌝ }
-    ensures { λ r. ⌜ now (result .exit) ≡ reported countWords (scanAnswer (now (file .entry)) (now (report .entry)) (length (now (tokens .entry)))) (now (result .entry)) ⌝ }
+    ensures { λ r. ⌜ now (tokens .exit)
+        ≡ afterwards (scanAnswer (now (file .entry)) (now (report .entry)) (length (now (tokens .entry))))
+        (wordsOf (scanTokens (now (file .entry)) (now (report .entry)))) (now (tokens .entry)) ⌝ }
+    ensures { λ r. ⌜ now (result .exit)
+        ≡ reported countWords (scanAnswer (now (file .entry)) (now (report .entry)) (length (now (tokens .entry))))
+        (now (result .entry)) ⌝ }
 {
     let x = scanner::scan(file, report, tokens);
     match x {
@@ -81,16 +88,9 @@ pub extern "C" fn saktroum_check(nodes: &[u16], rules: &[u16]) -> u32
     let x = well_formed::check(nodes, rules);
     match x {
         Verdict::Refused(n) => n as u32,
-        Verdict::IllFormed(node) => seven_at(node),
+        Verdict::IllFormed(node) => reported::seven_at(node),
         Verdict::Passes => 0,
     }
-}
-
-// 7 with its node.
-fn seven_at(node: u16) -> u32
-    ensures { λ r. ⌜ r ≡ 7 + 65536 * node ⌝ }
-{
-    7 + 65536 * (node as u32)
 }
 
 // Runs a grammar on tokens from a start. The answer is 0, with success or failure in `result`, or the number that
@@ -109,12 +109,17 @@ pub extern "C" fn saktroum_run(
     mode: u16,
     result: &mut [usize; 6],
 ) -> u32
-    ensures { λ r. ⌜ r ≡ number (runAnswer (now (nodes .entry)) (now (rules .entry)) (now (tokens .entry)) (startFrom node place lower upper endless flag mode)) ⌝ }
-    ensures { λ r. ⌜ RunReported place (now (result .entry)) (runAnswer (now (nodes .entry)) (now (rules .entry)) (now (tokens .entry)) (startFrom node place lower upper endless flag mode)) (now (result .exit)) ⌝ }
+    ensures { λ r. ⌜ r
+        ≡ number (runAnswer (now (nodes .entry)) (now (rules .entry)) (now (tokens .entry))
+        (startFrom node place lower upper endless flag mode)) ⌝ }
+    ensures { λ r. ⌜ RunReported place (now (result .entry))
+        (runAnswer (now (nodes .entry)) (now (rules .entry)) (now (tokens .entry))
+        (startFrom node place lower upper endless flag mode))
+        (now (result .exit)) ⌝ }
 {
     let interval = Interval {
         lower,
-        upper: upper_from(upper, endless),
+        upper: reported::upper_from(upper, endless),
     };
     let start = Start {
         node,
@@ -124,57 +129,7 @@ pub extern "C" fn saktroum_run(
         mode,
     };
     let x = interpreter::run(nodes, rules, tokens, start);
-    report(x, result)
-}
-
-// Reports what a run answered, wherever it began.
-fn report(x: Ran, result: &mut [usize; 6]) -> u32
-    ensures { λ r. ⌜ ((place : ℕ) → r ≡ number (numbers place x)) ⌝ }
-    ensures { λ r. ⌜ ((place : ℕ) → RunReported place (now (result .entry)) (numbers place x) (now (result .exit))) ⌝ }
-{
-    match x {
-        Ran::Success(read, s) => {
-            *result = success_words(read, s);
-            0
-        }
-        Ran::Failure => {
-            result[0] = 0;
-            0
-        }
-        Ran::Refused(n) => n as u32,
-        Ran::IllFormed(node) => seven_at(node),
-    }
-}
-
-// The words of a success.
-fn success_words(read: u32, s: State) -> [usize; 6]
-    ensures { λ r. ⌜ r ≡ successWords read (s .interval) (s .flag) ⌝ }
-{
-    let interval = s.interval;
-    let upper = interval.upper;
-    let flag = s.flag as usize;
-    match upper {
-        Upper::At(h) => [
-            1,
-            read as usize,
-            interval.lower as usize,
-            h as usize,
-            0,
-            flag,
-        ],
-        Upper::Endless => [1, read as usize, interval.lower as usize, 0, 1, flag],
-    }
-}
-
-// The upper end of a start.
-fn upper_from(upper: u32, endless: bool) -> Upper
-    ensures { λ r. ⌜ r ≡ upperFrom upper endless ⌝ }
-{
-    if endless {
-        Upper::Endless
-    } else {
-        Upper::At(upper)
-    }
+    reported::report(x, result)
 }
 
 // Writes the program's line, and says how many bytes it has. A slice of fewer than 64 bytes is left as it is, and the
@@ -185,4 +140,25 @@ pub extern "C" fn saktroum_line(file: &[u8], report: &[u8], out: &mut [u8]) -> u
     ensures { λ r. ⌜ now (out .exit) ≡ lineAfter (now (file .entry)) (now (report .entry)) (now (out .entry)) ⌝ }
 {
     line::write(file, report, out)
+}
+
+// Copies the bytes of a keyword of a grammar file, and says how many there are: 0 where the file is refused or has no
+// such keyword. A slice that is too short is left as it is.
+#[no_mangle]
+pub extern "C" fn saktroum_keyword(file: &[u8], index: usize, out: &mut [u8]) -> usize
+    ensures { λ r. ⌜ r ≡ length (keywordBytes (now (file .entry)) index) ⌝ }
+    ensures { λ r. ⌜ now (out .exit) ≡ copied (keywordBytes (now (file .entry)) index) (now (out .entry)) ⌝ }
+{
+    let keyword = grammar_file::keyword(file, index);
+    reported::copy(keyword, out)
+}
+
+// Copies the bytes of a rule's name, in the same way.
+#[no_mangle]
+pub extern "C" fn saktroum_rule_name(file: &[u8], index: usize, out: &mut [u8]) -> usize
+    ensures { λ r. ⌜ r ≡ length (nameBytes (now (file .entry)) index) ⌝ }
+    ensures { λ r. ⌜ now (out .exit) ≡ copied (nameBytes (now (file .entry)) index) (now (out .entry)) ⌝ }
+{
+    let name = grammar_file::rule_name(file, index);
+    reported::copy(name, out)
 }

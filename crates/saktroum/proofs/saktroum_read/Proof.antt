@@ -31,7 +31,15 @@ same-length-2 : tie.Need-same-length-2
 same-length-2 c = search needs
 
 returns : tie.Need-returns
-returns c = (rw (← (sym (ap numbers (c .before .x .given .1)) ∙ c .before .before .before .before .before .before .before .read .ensures .0)) refl, (c .before .before .before .before .before .before .before .read .ensures .1 .0 ∙ ap (λ (a : _). afterwards a (nodeTable (fieldsOf (c .before .before .before .before .before .before .before .before .before .before .before .before .before .args .file .now))) (c .before .before .before .before .before .before .before .before .before .before .before .before .before .args .nodes .now)) (c .before .before .before .before .before .before .before .read .ensures .0), (c .before .before .before .before .before .before .before .read .ensures .1 .1 ∙ ap (λ (a : _). afterwards a (ruleList (fieldsOf (c .before .before .before .before .before .before .before .before .before .before .before .before .before .args .file .now))) (c .before .before .before .before .before .before .before .before .before .before .before .before .before .args .rules .now)) (c .before .before .before .before .before .before .before .read .ensures .0), rw (← (sym (ap numbers (c .before .x .given .1)) ∙ c .before .before .before .before .before .before .before .read .ensures .0)) refl)))
+returns c =
+    let at-read = c .before .before .before .before .before .before .before in
+    let start = at-read .before .before .before .before .before .before in
+    let answered = at-read .read .ensures .0 in
+    let known = sym (ap numbers (c .before .x .given .1)) ∙ answered in
+    let fields = fieldsOf (start .args .file .now) in
+    let nodes = at-read .read .ensures .1 .0 ∙ ap (λ (a : _). afterwards a (nodeTable fields) (start .args .nodes .now)) answered in
+    let rules = at-read .read .ensures .1 .1 ∙ ap (λ (a : _). afterwards a (ruleList fields) (start .args .rules .now)) answered in
+    (rw (← known) refl, (nodes, (rules, rw (← known) refl)))
 
 same-length-3 : tie.Need-same-length-3
 same-length-3 c = search needs
@@ -40,7 +48,15 @@ same-length-4 : tie.Need-same-length-4
 same-length-4 c = search needs
 
 returns-2 : tie.Need-returns-2
-returns-2 c = (rw (← (sym (ap numbers (c .before .before .x2 .given .1)) ∙ c .before .before .before .before .before .before .before .before .read .ensures .0)) refl, (c .before .before .before .before .before .before .before .before .read .ensures .1 .0 ∙ ap (λ (a : _). afterwards a (nodeTable (fieldsOf (c .before .before .before .before .before .before .before .before .before .before .before .before .before .before .args .file .now))) (c .before .before .before .before .before .before .before .before .before .before .before .before .before .before .args .nodes .now)) (c .before .before .before .before .before .before .before .before .read .ensures .0), (c .before .before .before .before .before .before .before .before .read .ensures .1 .1 ∙ ap (λ (a : _). afterwards a (ruleList (fieldsOf (c .before .before .before .before .before .before .before .before .before .before .before .before .before .before .args .file .now))) (c .before .before .before .before .before .before .before .before .before .before .before .before .before .before .args .rules .now)) (c .before .before .before .before .before .before .before .before .read .ensures .0), rw (← (sym (ap numbers (c .before .before .x2 .given .1)) ∙ c .before .before .before .before .before .before .before .before .read .ensures .0)) refl)))
+returns-2 c =
+    let at-read = c .before .before .before .before .before .before .before .before in
+    let start = at-read .before .before .before .before .before .before in
+    let answered = at-read .read .ensures .0 in
+    let known = sym (ap numbers (c .before .before .x2 .given .1)) ∙ answered in
+    let fields = fieldsOf (start .args .file .now) in
+    let nodes = at-read .read .ensures .1 .0 ∙ ap (λ (a : _). afterwards a (nodeTable fields) (start .args .nodes .now)) answered in
+    let rules = at-read .read .ensures .1 .1 ∙ ap (λ (a : _). afterwards a (ruleList fields) (start .args .rules .now)) answered in
+    (rw (← known) refl, (nodes, (rules, rw (← known) refl)))
 
 pub saktroum-read-spec : {M : Type 1} → statement M
 saktroum-read-spec =

@@ -3,10 +3,11 @@ use borrow.Author.Needs.{needs}
 use Rattle.saktroum.proofs.saktroum_run.Statement.{statement}
 use Rattle.saktroum.proofs.saktroum_run.Tie as tie
 use mathlib.Core.Path.{ap, _∙_}
-use Rattle.saktroum.proofs.ReportLaws.{same-report}
-use Rattle.saktroum.specs.Reported.{number}
+use Rattle.reported.proofs.ReportLaws.{same-report}
+use Rattle.reported.specs.Reported.{number}
 use Rattle.clauses.specs.RunAnswer.{runAnswer}
 use Rattle.columns.specs.Intervals.{to}
+use Rattle.columns.specs.declared.Upper.{Upper}
 
 upper-from-requires : tie.Need-upper-from-requires
 upper-from-requires c κs = search needs
@@ -19,8 +20,14 @@ report-requires c κs = search needs
 
 returns : tie.Need-returns
 returns c =
-    let answered = c .before .before .run .ensures .0 ∙ ap (λ (h : _). runAnswer (c .before .before .before .before .before .before .before .args .nodes .now) (c .before .before .before .before .before .before .before .args .rules .now) (c .before .before .before .before .before .before .before .args .tokens .now) (record { node = c .before .before .before .before .before .before .before .args .node; place = c .before .before .before .before .before .before .before .args .place; interval = to (c .before .before .before .before .before .before .before .args .lower) h; flag = c .before .before .before .before .before .before .before .args .flag; mode = c .before .before .before .before .before .before .before .args .mode })) (c .before .before .before .upper-from .ensures) in
-    (c .report .ensures .0 (c .before .before .before .before .before .before .before .args .place) ∙ ap number answered, same-report answered (c .report .ensures .1 (c .before .before .before .before .before .before .before .args .place)))
+    let at-run = c .before .before in
+    let given = at-run .before .before .before .before .before .args in
+    let from-upper = at-run .before .upper-from .ensures in
+    let answered =
+    at-run .run .ensures .0
+    ∙ ap (λ (h : Upper). runAnswer (given .nodes .now) (given .rules .now) (given .tokens .now)
+    (record { node = given .node; place = given .place; interval = to (given .lower) h; flag = given .flag; mode = given .mode })) from-upper in
+    (c .report .ensures .0 (given .place) ∙ ap number answered, same-report answered (c .report .ensures .1 (given .place)))
 
 pub saktroum-run-spec : {M : Type 1} → statement M
 saktroum-run-spec = tie.close (tie.spec upper-from-requires run-requires report-requires returns)

@@ -23,13 +23,27 @@ same-length : tie.Need-same-length
 same-length c = search needs
 
 returns : tie.Need-returns
-returns c = (rw (← (sym (ap numbers (c .before .x .given .1)) ∙ c .before .before .before .before .before .scan .ensures .0)) refl, (c .before .before .before .before .before .scan .ensures .1 ∙ ap (λ (a : _). afterwards a (wordsOf (scanTokens (c .before .before .before .before .before .before .before .before .before .before .args .file .now) (c .before .before .before .before .before .before .before .before .before .before .args .report .now))) (c .before .before .before .before .before .before .before .before .before .before .args .tokens .now)) (c .before .before .before .before .before .scan .ensures .0), rw (← (sym (ap numbers (c .before .x .given .1)) ∙ c .before .before .before .before .before .scan .ensures .0)) refl))
+returns c =
+    let at-scan = c .before .before .before .before .before in
+    let start = at-scan .before .before .before .before .before in
+    let answered = at-scan .scan .ensures .0 in
+    let known = sym (ap numbers (c .before .x .given .1)) ∙ answered in
+    let words = wordsOf (scanTokens (start .args .file .now) (start .args .report .now)) in
+    let tokens = at-scan .scan .ensures .1 ∙ ap (λ (a : _). afterwards a words (start .args .tokens .now)) answered in
+    (rw (← known) refl, (tokens, rw (← known) refl))
 
 same-length-2 : tie.Need-same-length-2
 same-length-2 c = search needs
 
 returns-2 : tie.Need-returns-2
-returns-2 c = (rw (← (sym (ap numbers (c .before .before .x2 .given .1)) ∙ c .before .before .before .before .before .before .scan .ensures .0)) refl, (c .before .before .before .before .before .before .scan .ensures .1 ∙ ap (λ (a : _). afterwards a (wordsOf (scanTokens (c .before .before .before .before .before .before .before .before .before .before .before .args .file .now) (c .before .before .before .before .before .before .before .before .before .before .before .args .report .now))) (c .before .before .before .before .before .before .before .before .before .before .before .args .tokens .now)) (c .before .before .before .before .before .before .scan .ensures .0), rw (← (sym (ap numbers (c .before .before .x2 .given .1)) ∙ c .before .before .before .before .before .before .scan .ensures .0)) refl))
+returns-2 c =
+    let at-scan = c .before .before .before .before .before .before in
+    let start = at-scan .before .before .before .before .before in
+    let answered = at-scan .scan .ensures .0 in
+    let known = sym (ap numbers (c .before .before .x2 .given .1)) ∙ answered in
+    let words = wordsOf (scanTokens (start .args .file .now) (start .args .report .now)) in
+    let tokens = at-scan .scan .ensures .1 ∙ ap (λ (a : _). afterwards a words (start .args .tokens .now)) answered in
+    (rw (← known) refl, (tokens, rw (← known) refl))
 
 pub saktroum-scan-spec : {M : Type 1} → statement M
 saktroum-scan-spec =

@@ -1,7 +1,7 @@
--- `saktroum::seven_at` meets its contract: a node is below 65,536, so the sum fits.
+-- `reported::seven_at` meets its contract: a node is below 65,536, so the sum fits.
 use native.Mathlib.Omega.{arith}
-use Rattle.saktroum.proofs.seven_at.Statement.{statement}
-use Rattle.saktroum.proofs.seven_at.Tie as tie
+use Rattle.reported.proofs.seven_at.Statement.{statement}
+use Rattle.reported.proofs.seven_at.Tie as tie
 
 mul-result : tie.Need-mul-result
 mul-result c = omega arith

@@ -1,10 +1,10 @@
--- `saktroum::report` meets its contract.
+-- `reported::report` meets its contract.
 use borrow.Author.Needs.{needs}
-use Rattle.saktroum.proofs.report.Statement.{statement}
-use Rattle.saktroum.proofs.report.Tie as tie
+use Rattle.reported.proofs.report.Statement.{statement}
+use Rattle.reported.proofs.report.Tie as tie
 use mathlib.Core.Path.{refl}
-use Rattle.saktroum.specs.Reported.{of-success, of-failure}
-use Rattle.saktroum.proofs.ReportLaws.{number-refused, words-refused, number-named, words-named}
+use Rattle.reported.specs.Reported.{of-success, of-failure}
+use Rattle.reported.proofs.ReportLaws.{number-refused, words-refused, number-named, words-named}
 
 enum-known-x : tie.Need-enum-known-x
 enum-known-x c = search needs

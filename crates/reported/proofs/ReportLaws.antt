@@ -11,7 +11,7 @@ use Rattle.clauses.specs.Clauses.{Outcome}
 use Rattle.interpreter.specs.Numbers.{numbers}
 use Rattle.interpreter.specs.declared.Ran.{Ran}
 use Rattle.interpreter.specs.declared.Ran.the-variants.{Refused, IllFormed}
-use Rattle.saktroum.specs.Reported.{bit, number, successWords, RunReported, of-success, of-failure, of-refused, of-refusedAt}
+use Rattle.reported.specs.Reported.{bit, number, successWords, RunReported, of-success, of-failure, of-refused, of-refusedAt}
 
 pub bytes-bit : (b : Bool) → boolByte b ≡ bit b
 bytes-bit true = refl
@@ -36,7 +36,8 @@ module _ {x : Ran} {n : ℕ} where
 
 -- The relation fixes every word: from the same words before, an answer is reported in one way.
 pub one-report : {place : ℕ} {before after after' : List ℕ} {a : Answer (Outcome Interval)} → RunReported place before a after → RunReported place before a after' → after ≡ after'
-one-report (of-success {read = read} {c = c} {flag = flag} e) (of-success {read = read'} e') = ap (λ (n : ℕ). successWords n c flag) (let q : read ≡ read' = omega arith in q)
+one-report (of-success {read = read} {c = c} {flag = flag} e) (of-success {read = read'} e') =
+    ap (λ (n : ℕ). successWords n c flag) (let q : read ≡ read' = omega arith in q)
 one-report of-failure of-failure = refl
 one-report of-refused of-refused = refl
 one-report of-refusedAt of-refusedAt = refl

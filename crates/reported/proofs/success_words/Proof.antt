@@ -1,9 +1,9 @@
--- `saktroum::success_words` meets its contract.
+-- `reported::success_words` meets its contract.
 use borrow.Author.Needs.{needs}
-use Rattle.saktroum.proofs.success_words.Statement.{statement}
-use Rattle.saktroum.proofs.success_words.Tie as tie
+use Rattle.reported.proofs.success_words.Statement.{statement}
+use Rattle.reported.proofs.success_words.Tie as tie
 use mathlib.Core.Path.{refl}
-use Rattle.saktroum.proofs.ReportLaws.{bytes-bit}
+use Rattle.reported.proofs.ReportLaws.{bytes-bit}
 
 cast-flag : tie.Need-cast-flag
 cast-flag c = search needs

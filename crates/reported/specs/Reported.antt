@@ -1,8 +1,9 @@
--- What the C interface reports: a number, and words in a lent array.
+-- What the C interface reports: a number, words in a lent array, bytes in a lent slice.
 use Prim.Native.Nat.{ℕ, _+_, _*_}
 use mathlib.Core.Bool.{Bool, cond}
 use mathlib.Core.List.{List, [], _∷_, _++_}
-use lib.ListN.{set}
+use lib.Dec.{ltb}
+use lib.ListN.{length, drop, set}
 use Rattle.table.specs.Answer.{Answer, given, refused, refusedAt}
 use Rattle.columns.specs.Intervals.{to}
 use Rattle.columns.specs.declared.Upper.{Upper}
@@ -49,7 +50,8 @@ successWords read c flag = 1 ∷ read ∷ c .lower ∷ (upperWords (c .upper) ++
 -- The lent words before and after a run from a place: those of a success, which has read from the place on to its end place;
 -- 0 in the first for failure; as they were for a refused call.
 pub data RunReported (place : ℕ) (before : List ℕ) : Answer (Outcome Interval) → List ℕ → Type 0 where
-  of-success : {read end : ℕ} {c : Interval} {flag : Bool} → Reads place read end → RunReported place before (given (success (end, c, flag))) (successWords read c flag)
+  of-success : {read end : ℕ} {c : Interval} {flag : Bool} → Reads place read end
+      → RunReported place before (given (success (end, c, flag))) (successWords read c flag)
   of-failure : RunReported place before (given failure) (set before 0 0)
   of-refused : {n : ℕ} → RunReported place before (refused n) before
   of-refusedAt : {n node : ℕ} → RunReported place before (refusedAt n node) before
@@ -62,3 +64,7 @@ upperFrom upper endless = cond endless Endless (At upper)
 abbrev pub startFrom : (node place lower upper : ℕ) (endless flag : Bool) (mode : ℕ) → Start
 startFrom node place lower upper endless flag mode =
     record { node = node; place = place; interval = to lower (upperFrom upper endless); flag = flag; mode = mode }
+
+-- A lent slice after bytes were copied to it: the bytes, and behind them what was there; as it was where it is too short.
+abbrev pub copied : List ℕ → List ℕ → List ℕ
+copied bytes before = cond (ltb (length before) (length bytes)) before (bytes ++ drop (length bytes) before)
