@@ -153,11 +153,27 @@ pub mod plain {
     }
 
     pub fn keyword(file: &[u8], index: usize, out: &mut [u8]) -> usize {
-        unsafe { c::saktroum_keyword(file.as_ptr(), file.len(), index, out.as_mut_ptr(), out.len()) }
+        unsafe {
+            c::saktroum_keyword(
+                file.as_ptr(),
+                file.len(),
+                index,
+                out.as_mut_ptr(),
+                out.len(),
+            )
+        }
     }
 
     pub fn rule_name(file: &[u8], index: usize, out: &mut [u8]) -> usize {
-        unsafe { c::saktroum_rule_name(file.as_ptr(), file.len(), index, out.as_mut_ptr(), out.len()) }
+        unsafe {
+            c::saktroum_rule_name(
+                file.as_ptr(),
+                file.len(),
+                index,
+                out.as_mut_ptr(),
+                out.len(),
+            )
+        }
     }
 }
 
@@ -341,14 +357,13 @@ fn name_in(call: Name, file: &[u8], index: usize, room: usize) -> Result<(usize,
     Ok((count, out.reported(written, "out")?))
 }
 
-/// A name. A slice of one byte less must be left alone, with the same answer, and one of a byte more must do as well.
+/// A name. A slice of as many bytes must do, and one of a byte less must be left alone, with the same answer.
 fn name(call: Name, file: &[u8], index: usize) -> Result<Vec<u8>, Odd> {
     let (count, bytes) = name_in(call, file, index, 32)?;
-    let short = count.saturating_sub(1);
-    for room in [short, count, count + 1] {
-        let written = if room < count { &[][..] } else { &bytes };
+    let rooms = [(count, &bytes[..]), (count.wrapping_sub(1), &[])];
+    for (room, written) in rooms.into_iter().filter(|(room, _)| *room <= count) {
         if name_in(call, file, index, room)? != (count, written.to_vec()) {
-            return Err(Odd(format!("a name of {count} bytes in {room}")));
+            return Err(Odd(format!("a name of {count} bytes, lent {room}")));
         }
     }
     Ok(bytes)
