@@ -1,6 +1,6 @@
--- A truth value as a byte and as a word, and what is reported of answers that are the same.
+-- A truth value as a byte and as a word; what is reported of a refused run; and that a run is reported in one way.
 use Prim.Native.Nat.{ℕ, _+_, _*_}
-use mathlib.Core.Path.{_≡_, refl, ap, subst}
+use mathlib.Core.Path.{_≡_, refl, ap}
 use native.Mathlib.Omega.{arith}
 use mathlib.Core.Bool.{Bool, true, false}
 use mathlib.Core.List.{List}
@@ -16,9 +16,6 @@ use Rattle.reported.specs.Reported.{bit, number, successWords, RunReport
 pub bytes-bit : (b : Bool) → boolByte b ≡ bit b
 bytes-bit true = refl
 bytes-bit false = refl
-
-pub same-report : {place : ℕ} {before after : List ℕ} {a b : Answer (Outcome Interval)} → a ≡ b → RunReported place before a after → RunReported place before b after
-same-report {place} {before} {after} e r = subst (λ (x : Answer (Outcome Interval)). RunReported place before x after) e r
 
 -- A run that was refused: its number, and the lent words as they were.
 module _ {x : Ran} {n : ℕ} where

@@ -7,7 +7,7 @@ ghost use mathlib.Core.Path.{_≡_};
 ghost use Prim.Native.Nat.{ℕ, _+_, _*_};
 ghost use lib.ListN.{length};
 ghost use Rattle.interpreter.specs.Numbers.{numbers};
-ghost use Rattle.reported.specs.Reported.{number, successWords, RunReported, upperFrom, copied};
+ghost use Rattle.reported.specs.Reported.{number, successWords, RunReported, copied};
 
 // 7 with its node.
 pub fn seven_at(node: u16) -> u32
@@ -52,17 +52,6 @@ fn success_words(read: u32, s: State) -> [usize; 6]
             flag,
         ],
         Upper::Endless => [1, read as usize, interval.lower as usize, 0, 1, flag],
-    }
-}
-
-// The upper end of a start.
-pub fn upper_from(upper: u32, endless: bool) -> Upper
-    ensures { λ r. ⌜ r ≡ upperFrom upper endless ⌝ }
-{
-    if endless {
-        Upper::Endless
-    } else {
-        Upper::At(upper)
     }
 }
 

@@ -2,6 +2,7 @@
 // declares it for C.
 use columns::Interval;
 use columns::Start;
+use columns::Upper;
 use grammar_file::FileRead;
 use scanner::Scanned;
 use well_formed::Verdict;
@@ -14,7 +15,8 @@ ghost use Rattle.scanner.specs.Scan.{scanTokens, scanAnswer};
 ghost use Rattle.well_formed.specs.Check.{checkAnswer};
 ghost use Rattle.clauses.specs.RunAnswer.{runAnswer};
 ghost use Rattle.line.specs.Line.{lineCount, lineAfter};
-ghost use Rattle.reported.specs.Reported.{number, reported, contentsWords, countWords, RunReported, startFrom, copied};
+ghost use Rattle.reported.specs.Reported.{number, reported, contentsWords, countWords, RunReported, copied};
+ghost use Rattle.reported.specs.Reported.{upperFrom, startFrom};
 
 // Reads a grammar file. The answer is 0, with the counts of nodes, rules and keywords, the start node and its mode in
 // `result`, or the number that refused the call.
@@ -119,7 +121,7 @@ pub extern "C" fn saktroum_run(
 {
     let interval = Interval {
         lower,
-        upper: reported::upper_from(upper, endless),
+        upper: upper_from(upper, endless),
     };
     let start = Start {
         node,
@@ -130,6 +132,17 @@ pub extern "C" fn saktroum_run(
     };
     let x = interpreter::run(nodes, rules, tokens, start);
     reported::report(x, result)
+}
+
+// The upper end of a start.
+fn upper_from(upper: u32, endless: bool) -> Upper
+    ensures { λ r. ⌜ r ≡ upperFrom upper endless ⌝ }
+{
+    if endless {
+        Upper::Endless
+    } else {
+        Upper::At(upper)
+    }
 }
 
 // Writes the program's line, and says how many bytes it has. A slice of fewer than 64 bytes is left as it is, and the

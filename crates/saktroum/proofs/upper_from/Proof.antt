@@ -1,7 +1,7 @@
--- `reported::upper_from` meets its contract.
+-- `saktroum::upper_from` meets its contract.
 use borrow.Author.Needs.{needs}
-use Rattle.reported.proofs.upper_from.Statement.{statement}
-use Rattle.reported.proofs.upper_from.Tie as tie
+use Rattle.saktroum.proofs.upper_from.Statement.{statement}
+use Rattle.saktroum.proofs.upper_from.Tie as tie
 use mathlib.Core.Path.{refl}
 
 returns : tie.Need-returns
