@@ -10,7 +10,7 @@ same-length : tie.Need-same-length
 same-length c = search needs
 
 returns : tie.Need-returns
-returns c = c .before .before .write .ensures
+returns c = (c .before .before .write .ensures .0, c .before .before .write .ensures .1)
 
 pub saktroum-line-spec : {M : Type 1} → statement M
 saktroum-line-spec = tie.close (tie.spec write-requires same-length returns)
