@@ -5,7 +5,8 @@ mod tables;
 ghost use mathlib.Core.Path.{_≡_};
 ghost use lib.ListN.{length};
 ghost use Rattle.table.specs.Answer.{given, afterwards};
-ghost use Rattle.grammar_file.specs.File.{numbers, contents, fieldsOf, fails2, fileAnswer, KeywordsStand, readAnswer, nodeTable, ruleList, keywordBytes, nameBytes};
+ghost use Rattle.grammar_file.specs.File.{numbers, contents, fieldsOf, fails2, fileAnswer, KeywordsStand};
+ghost use Rattle.grammar_file.specs.File.{readAnswer, nodeTable, ruleList, keywordBytes, nameBytes};
 ghost use Rattle.grammar_file.specs.InternalShape.{Parts, Inspects};
 use file_fields::byte_in;
 use file_fields::offset_of;
@@ -45,9 +46,17 @@ pub const FIRST_KEYWORD: usize = 4;
 
 // Writes the table and the rule list of a file that passes 1 to 6, and answers its counts and its start.
 pub fn read(file: &[u8], nodes: &mut [u16], rules: &mut [u16]) -> FileRead
-    ensures { λ r. ⌜ numbers r ≡ readAnswer (now (file .entry)) (length (now (nodes .entry))) (length (now (rules .entry))) ⌝ }
-    ensures { λ r. ⌜ now (nodes .exit) ≡ afterwards (numbers r) (nodeTable (fieldsOf (now (file .entry)))) (now (nodes .entry)) ⌝ }
-    ensures { λ r. ⌜ now (rules .exit) ≡ afterwards (numbers r) (ruleList (fieldsOf (now (file .entry)))) (now (rules .entry)) ⌝ }
+    ensures { λ r. ⌜
+        numbers r ≡ readAnswer (now (file .entry)) (length (now (nodes .entry))) (length (now (rules .entry)))
+        ⌝ }
+    ensures { λ r. ⌜
+        now (nodes .exit)
+        ≡ afterwards (numbers r) (nodeTable (fieldsOf (now (file .entry)))) (now (nodes .entry))
+        ⌝ }
+    ensures { λ r. ⌜
+        now (rules .exit)
+        ≡ afterwards (numbers r) (ruleList (fieldsOf (now (file .entry)))) (now (rules .entry))
+        ⌝ }
 {
     let found = inspect(file);
     match found {

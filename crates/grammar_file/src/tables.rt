@@ -26,7 +26,10 @@ pub(crate) fn number_in(value: &[u8], i: usize) -> u16
 // Writes the words of count node fields from an offset on.
 pub(crate) fn write_nodes(file: &[u8], first: usize, count: usize, out: &mut [u16])
     requires { ⌜ count * 4 ≤ length (now out) ⌝ }
-    ensures { λ _. ⌜ now (out .exit) ≡ wordsOf (fieldsFrom (now (file .entry)) first count) ++ drop (count * 4) (now (out .entry)) ⌝ }
+    ensures { λ _. ⌜
+        now (out .exit)
+        ≡ wordsOf (fieldsFrom (now (file .entry)) first count) ++ drop (count * 4) (now (out .entry))
+        ⌝ }
 {
     let mut at = first;
     let mut i = 0;
@@ -45,7 +48,10 @@ pub(crate) fn write_nodes(file: &[u8], first: usize, count: usize, out: &mut [u1
 // Writes the nodes of count rule fields from an offset on.
 pub(crate) fn write_rules(file: &[u8], first: usize, count: usize, out: &mut [u16])
     requires { ⌜ count ≤ length (now out) ⌝ }
-    ensures { λ _. ⌜ now (out .exit) ≡ map ruleNode (fieldsFrom (now (file .entry)) first count) ++ drop count (now (out .entry)) ⌝ }
+    ensures { λ _. ⌜
+        now (out .exit)
+        ≡ map ruleNode (fieldsFrom (now (file .entry)) first count) ++ drop count (now (out .entry))
+        ⌝ }
 {
     let mut at = first;
     let mut i = 0;
@@ -64,7 +70,11 @@ pub(crate) fn check_tables(
     rules_at: usize,
     rule_count: usize,
 ) -> Checked
-    ensures { λ r. ⌜ checkedNumbers r ≡ tableAnswer (wordsOf (fieldsFrom (now (file .entry)) «nodes_at» «node_count»)) (map ruleNode (fieldsFrom (now (file .entry)) «rules_at» «rule_count»)) ⌝ }
+    ensures { λ r. ⌜
+        checkedNumbers r
+        ≡ tableAnswer (wordsOf (fieldsFrom (now (file .entry)) «nodes_at» «node_count»))
+        (map ruleNode (fieldsFrom (now (file .entry)) «rules_at» «rule_count»))
+        ⌝ }
 {
     if node_count > table::NODES {
         return Checked::Refused(3);

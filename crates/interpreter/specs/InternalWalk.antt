@@ -56,8 +56,12 @@ alignedState s u = withFlag u (s .flag && u .flag)
 unfoldable pub tokenOutcome : List ℕ → ℕ → ℕ → State → Outcome
 tokenOutcome words τ a s =
     cond (reads (tokensOf words) τ a (stateOf s))
-    (Success (record { place = s .place + 1; interval = afterToken (s .flag) τ (s .interval) (tokensOf words .column (s .place)); flag = false }))
-    Failure
+    (Success
+    (record {
+      place = s .place + 1;
+      interval = afterToken (s .flag) τ (s .interval) (tokensOf words .column (s .place));
+      flag = false;
+    })) Failure
 
 pub record ReadyToken (words : List ℕ) (s : State) : Type 0 where
   pub whole : length words % 4 ≡ 0

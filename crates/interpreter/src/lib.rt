@@ -28,7 +28,10 @@ pub enum Ran {
 
 // Runs a grammar on tokens from a start. It writes nothing.
 pub fn run(nodes: &[u16], rules: &[u16], tokens: &[u32], start: Start) -> Ran
-    ensures { λ r. ⌜ numbers (start .place) r ≡ runAnswer (now (nodes .entry)) (now (rules .entry)) (now (tokens .entry)) start ⌝ }
+    ensures { λ r. ⌜
+        numbers (start .place) r
+        ≡ runAnswer (now (nodes .entry)) (now (rules .entry)) (now (tokens .entry)) start
+        ⌝ }
     ensures { λ r. ⌜ Derived (now (nodes .entry)) (now (rules .entry)) (now (tokens .entry)) start r ⌝ }
 {
     match well_formed::check(nodes, rules) {
@@ -41,7 +44,10 @@ pub fn run(nodes: &[u16], rules: &[u16], tokens: &[u32], start: Start) -> Ran
 // Runs a grammar that passes the check.
 fn begin(nodes: &[u16], rules: &[u16], tokens: &[u32], start: Start) -> Ran
     requires { ⌜ checkAnswer (now nodes) (now rules) ≡ passed tt ⌝ }
-    ensures { λ r. ⌜ numbers (start .place) r ≡ runAnswer (now (nodes .entry)) (now (rules .entry)) (now (tokens .entry)) start ⌝ }
+    ensures { λ r. ⌜
+        numbers (start .place) r
+        ≡ runAnswer (now (nodes .entry)) (now (rules .entry)) (now (tokens .entry)) start
+        ⌝ }
     ensures { λ r. ⌜ Derived (now (nodes .entry)) (now (rules .entry)) (now (tokens .entry)) start r ⌝ }
 {
     if tokens_wrong(tokens) {

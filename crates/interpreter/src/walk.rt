@@ -20,7 +20,10 @@ pub(crate) fn expression(
     s0: State,
 ) -> Outcome
     requires { ⌜ Ready (now nodes) (now rules) (now tokens) node0 s0 ⌝ }
-    ensures { λ x. ⌜ Gives (now (nodes .entry)) (now (rules .entry)) (now (tokens .entry)) mode0 (form (now (nodes .entry)) node0) s0 x ⌝ }
+    ensures { λ x. ⌜
+        Gives (now (nodes .entry)) (now (rules .entry)) (now (tokens .entry)) mode0
+        (form (now (nodes .entry)) node0) s0 x
+        ⌝ }
 {
     let mut mode = mode0;
     let mut node = node0;
@@ -99,7 +102,10 @@ pub(crate) fn expression(
 // The outcome of a first child: a terminal needs no nested call.
 fn first(nodes: &[u16], rules: &[u16], tokens: &[u32], mode: u16, node: u16, s: State) -> Outcome
     requires { ⌜ Ready (now nodes) (now rules) (now tokens) node s ⌝ }
-    ensures { λ x. ⌜ Gives (now (nodes .entry)) (now (rules .entry)) (now (tokens .entry)) mode (form (now (nodes .entry)) node) s x ⌝ }
+    ensures { λ x. ⌜
+        Gives (now (nodes .entry)) (now (rules .entry)) (now (tokens .entry)) mode
+        (form (now (nodes .entry)) node) s x
+        ⌝ }
 {
     let at = (node as usize) * 4;
     if nodes[at] == 1 {

@@ -73,8 +73,14 @@ struct Tally {
 
 // Writes the tokens of a report by a grammar file's keywords, four words each.
 pub fn scan(file: &[u8], report: &[u8], tokens: &mut [u32]) -> Scanned
-    ensures { λ r. ⌜ scanNumbers r ≡ scanAnswer (now (file .entry)) (now (report .entry)) (length (now (tokens .entry))) ⌝ }
-    ensures { λ r. ⌜ now (tokens .exit) ≡ afterwards (scanNumbers r) (wordsOf (scanTokens (now (file .entry)) (now (report .entry)))) (now (tokens .entry)) ⌝ }
+    ensures { λ r. ⌜
+        scanNumbers r ≡ scanAnswer (now (file .entry)) (now (report .entry)) (length (now (tokens .entry)))
+        ⌝ }
+    ensures { λ r. ⌜
+        now (tokens .exit)
+        ≡ afterwards (scanNumbers r) (wordsOf (scanTokens (now (file .entry)) (now (report .entry))))
+        (now (tokens .entry))
+        ⌝ }
 {
     let read = grammar_file::check(file);
     match read {
@@ -108,7 +114,9 @@ pub fn scan(file: &[u8], report: &[u8], tokens: &mut [u32]) -> Scanned
 
 // The next token of a report from an offset, a column and a mark on, and the position behind it.
 pub fn next_token(file: &[u8], report: &[u8], at: usize, column: u32, mark: bool) -> Step
-    ensures { λ r. ⌜ stepNumbers (r .handed) ≡ stepAnswer (now (file .entry)) (now (report .entry)) (position at column mark) ⌝ }
+    ensures { λ r. ⌜
+        stepNumbers (r .handed) ≡ stepAnswer (now (file .entry)) (now (report .entry)) (position at column mark)
+        ⌝ }
     ensures { λ r. ⌜ positionOf r ≡ standing (stepNumbers (r .handed)) (now (report .entry)) (position at column mark) ⌝ }
 {
     let read = grammar_file::check(file);
@@ -189,7 +197,11 @@ fn hand_out(file: &[u8], keywords: usize, report: &[u8], f: Found) -> Step
 fn terminal_at(file: &[u8], keywords: usize, report: &[u8], f: Found) -> u32
     requires { ⌜ Ready (now report) keywords f ⌝ }
     requires { ⌜ f .any ≡ true ⌝ }
-    ensures { λ r. ⌜ r ≡ terminalAt (keywordsFrom (now (file .entry)) keywords) (now (report .entry)) (f .ends) (f .offset) (f .length) ⌝ }
+    ensures { λ r. ⌜
+        r
+        ≡ terminalAt (keywordsFrom (now (file .entry)) keywords) (now (report .entry)) (f .ends) (f .offset)
+        (f .length)
+        ⌝ }
 {
     if f.ends {
         return 2;
@@ -209,7 +221,11 @@ fn indexed_at(
 ) -> u32
     requires { ⌜ Indexed (now file) keywords (now offsets) (now firsts) (now nexts) ⌝ }
     requires { ⌜ f .offset + f .length ≤ length (now report) ⌝ }
-    ensures { λ r. ⌜ r ≡ terminalAt (keywordsFrom (now (file .entry)) keywords) (now (report .entry)) (f .ends) (f .offset) (f .length) ⌝ }
+    ensures { λ r. ⌜
+        r
+        ≡ terminalAt (keywordsFrom (now (file .entry)) keywords) (now (report .entry)) (f .ends) (f .offset)
+        (f .length)
+        ⌝ }
 {
     if f.ends {
         return 2;
@@ -279,7 +295,11 @@ fn write(file: &[u8], keywords: usize, report: &[u8], tokens: &mut [u32])
     requires { ⌜ keywords ≤ 253 ⌝ }
     requires { ⌜ length (now report) ≤ 65535 ⌝ }
     requires { ⌜ length (places (now report)) * 4 ≤ length (now tokens) ⌝ }
-    ensures { λ _. ⌜ now (tokens .exit) ≡ wordsOf (tokensOf (keywordsFrom (now (file .entry)) keywords) (now (report .entry))) ++ drop (length (places (now (report .entry))) * 4) (now (tokens .entry)) ⌝ }
+    ensures { λ _. ⌜
+        now (tokens .exit)
+        ≡ wordsOf (tokensOf (keywordsFrom (now (file .entry)) keywords) (now (report .entry)))
+        ++ drop (length (places (now (report .entry))) * 4) (now (tokens .entry))
+        ⌝ }
 {
     let mut offsets = [0usize; 253];
     let mut firsts = [255u8; 4096];
@@ -302,7 +322,11 @@ fn write_all(
     requires { ⌜ Indexed (now file) keywords (now offsets) (now firsts) (now nexts) ⌝ }
     requires { ⌜ length (now report) ≤ 65535 ⌝ }
     requires { ⌜ length (places (now report)) * 4 ≤ length (now tokens) ⌝ }
-    ensures { λ _. ⌜ now (tokens .exit) ≡ wordsOf (tokensOf (keywordsFrom (now (file .entry)) keywords) (now (report .entry))) ++ drop (length (places (now (report .entry))) * 4) (now (tokens .entry)) ⌝ }
+    ensures { λ _. ⌜
+        now (tokens .exit)
+        ≡ wordsOf (tokensOf (keywordsFrom (now (file .entry)) keywords) (now (report .entry)))
+        ++ drop (length (places (now (report .entry))) * 4) (now (tokens .entry))
+        ⌝ }
 {
     let mut to = 0;
     let mut at = 0;

@@ -28,7 +28,10 @@ pub(crate) fn find(nodes: &[u16], rules: &[u16], nothing: &[bool], well: &mut [b
 // One pass: the nodes that pass by their rules join those found. Whether a node was found.
 fn pass(nodes: &[u16], rules: &[u16], nothing: &[bool], well: &mut [bool]) -> bool
     requires { ⌜ WellReady (now nodes) (now rules) (now nothing) (now well) ⌝ }
-    ensures { λ r. ⌜ WellPass (now (nodes .entry)) (now (rules .entry)) (now (nothing .entry)) (nodeCount (now (nodes .entry))) (now (well .entry)) (now (well .exit)) r ⌝ }
+    ensures { λ r. ⌜
+        WellPass (now (nodes .entry)) (now (rules .entry)) (now (nothing .entry))
+        (nodeCount (now (nodes .entry))) (now (well .entry)) (now (well .exit)) r
+        ⌝ }
 {
     let count = nodes.len() / 4;
     let mut found = false;
@@ -45,7 +48,11 @@ fn pass(nodes: &[u16], rules: &[u16], nothing: &[bool], well: &mut [bool]) -> bo
 // Whether node n passes by its rules, from which of its children are found.
 fn passes(nodes: &[u16], rules: &[u16], nothing: &[bool], well: &[bool], n: usize) -> bool
     requires { ⌜ «n» < nodeCount (now nodes) ⌝ }
-    ensures { λ r. ⌜ r ≡ passes-by (now (rules .entry)) (λ (m : ℕ). getD (now (nothing .entry)) m false) (λ (m : ℕ). getD (now (well .entry)) m false) (form (now (nodes .entry)) «n») ⌝ }
+    ensures { λ r. ⌜
+        r
+        ≡ passes-by (now (rules .entry)) (λ (m : ℕ). getD (now (nothing .entry)) m false)
+        (λ (m : ℕ). getD (now (well .entry)) m false) (form (now (nodes .entry)) «n»)
+        ⌝ }
 {
     let at = n * 4;
     let kind = nodes[at];

@@ -62,11 +62,22 @@ part-result-end-2 c = omega arith
 
 returns-3 : tie.Need-returns-3
 unfolding valueAt
-returns-3 c = let e : (c .before .before .before .before .before .before .args .at) + 3 + c .before .before .length-at .result - ((c .before .before .before .before .before .before .args .at) + 3) ≡ lengthAt (c .before .before .before .before .before .before .args .file .now) (c .before .before .before .before .before .before .args .at) = omega (arith, c .before .before .length-at .ensures) in rw e refl
+returns-3 c =
+    let length-at = c .before .before .length-at in
+    let start = c .before .before .before .before .before .before in
+    let e : (start .args .at) + 3 + length-at .result - ((start .args .at) + 3) ≡ lengthAt (start .args .file .now) (start .args .at) =
+    omega (arith, length-at .ensures) in
+    rw e refl
 
 returns-4 : tie.Need-returns-4
 unfolding valueAt
-returns-4 c = take-rest (length (c .before .before .before .before .before .before .args .file .now) - ((c .before .before .before .before .before .before .args .at) + 3)) ((c .before .before .before .before .before .before .args .at) + 3) (c .before .before .before .before .before .before .args .file .now) (omega arith) ∙ sym (take-rest (lengthAt (c .before .before .before .before .before .before .args .file .now) (c .before .before .before .before .before .before .args .at)) ((c .before .before .before .before .before .before .args .at) + 3) (c .before .before .before .before .before .before .args .file .now) (omega (arith, c .before .before .length-at .ensures)))
+returns-4 c =
+    let start = c .before .before .before .before .before .before in
+    take-rest (length (start .args .file .now) - ((start .args .at) + 3)) ((start .args .at) + 3)
+    (start .args .file .now) (omega arith)
+    ∙ sym
+    (take-rest (lengthAt (start .args .file .now) (start .args .at)) ((start .args .at) + 3)
+    (start .args .file .now) (omega (arith, c .before .before .length-at .ensures)))
 
 pub value-at-spec : {M : Type 1} → statement M
 value-at-spec =

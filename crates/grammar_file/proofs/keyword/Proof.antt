@@ -28,13 +28,27 @@ slice-aggregate-result-2 : tie.Need-slice-aggregate-result-2
 slice-aggregate-result-2 c = search needs
 
 returns : tie.Need-returns
-returns c = no-keyword (c .before .before .before .before .before .args .file .now) (c .before .before .before .inspect .ensures) _ (c .before .enum-told .given .1) (c .before .before .before .before .before .args .k)
+returns c =
+    let inspect = c .before .before .before .inspect in
+    let start = c .before .before .before .before .before in
+    no-keyword (start .args .file .now) (inspect .ensures) _ (c .before .enum-told .given .1) (start .args .k)
 
 returns-2 : tie.Need-returns-2
-returns-2 c = keyword-at (c .before .before .before .before .before .before .before .before .before .args .file .now) (c .before .before .before .before .before .before .before .inspect .ensures) (c .before .before .before .before .before .found .given .0 .0) (c .before .before .before .before .before .found .given .1) (c .before .before .before .before .before .before .before .before .before .args .k) (c .before .before .if1 .taken) (c .value-at .ensures ∙ ap (valueAt (c .before .before .before .before .before .before .before .before .before .args .file .now)) (c .before .offset-of .ensures))
+returns-2 c =
+    let found = c .before .before .before .before .before .found in
+    let inspect = c .before .before .before .before .before .before .before .inspect in
+    let start = c .before .before .before .before .before .before .before .before .before in
+    keyword-at (start .args .file .now) (inspect .ensures) (found .given .0 .0) (found .given .1) (start .args .k)
+    (c .before .before .if1 .taken)
+    (c .value-at .ensures ∙ ap (valueAt (start .args .file .now)) (c .before .offset-of .ensures))
 
 returns-3 : tie.Need-returns-3
-returns-3 c = keyword-past (c .before .before .before .before .before .before .before .before .args .file .now) (c .before .before .before .before .before .before .inspect .ensures) (c .before .before .before .before .found .given .0 .0) (c .before .before .before .before .found .given .1) (c .before .before .before .before .before .before .before .before .args .k) (c .before .if1 .left)
+returns-3 c =
+    let found = c .before .before .before .before .found in
+    let inspect = c .before .before .before .before .before .before .inspect in
+    let start = c .before .before .before .before .before .before .before .before in
+    keyword-past (start .args .file .now) (inspect .ensures) (found .given .0 .0) (found .given .1) (start .args .k)
+    (c .before .if1 .left)
 
 pub keyword-spec : {M : Type 1} → statement M
 keyword-spec =

@@ -22,10 +22,22 @@ begin-requires : tie.Need-begin-requires
 begin-requires c κs = sym (c .before .before .check .ensures .0) ∙ ap verdict-numbers (c .enum-told .given .1)
 
 returns : tie.Need-returns
-returns c = (check-refuses (c .before .before .before .before .before .before .before .args .nodes .now) (c .before .before .before .before .before .before .before .args .rules .now) (c .before .before .before .before .before .before .before .args .tokens .now) (c .before .before .before .before .before .before .before .args .start) (sym (ap verdict-numbers (c .before .number .given .1)) ∙ c .before .before .before .check .ensures .0), tt)
+returns c =
+    let check = c .before .before .before .check in
+    let start = c .before .before .before .before .before .before .before in (
+      check-refuses (start .args .nodes .now) (start .args .rules .now) (start .args .tokens .now)
+          (start .args .start) (sym (ap verdict-numbers (c .before .number .given .1)) ∙ check .ensures .0),
+      tt,
+    )
 
 returns-2 : tie.Need-returns-2
-returns-2 c = (check-names (c .before .before .before .before .before .before .before .args .nodes .now) (c .before .before .before .before .before .before .before .args .rules .now) (c .before .before .before .before .before .before .before .args .tokens .now) (c .before .before .before .before .before .before .before .args .start) (sym (ap verdict-numbers (c .before .node .given .1)) ∙ c .before .before .before .check .ensures .0), tt)
+returns-2 c =
+    let check = c .before .before .before .check in
+    let start = c .before .before .before .before .before .before .before in (
+      check-names (start .args .nodes .now) (start .args .rules .now) (start .args .tokens .now)
+          (start .args .start) (sym (ap verdict-numbers (c .before .node .given .1)) ∙ check .ensures .0),
+      tt,
+    )
 
 returns-3 : tie.Need-returns-3
 returns-3 c = c .begin .ensures

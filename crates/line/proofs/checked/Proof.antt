@@ -22,13 +22,28 @@ scanned-requires : tie.Need-scanned-requires
 scanned-requires c κs = tt
 
 returns : tie.Need-returns
-returns c = check-refuses (c .before .before .before .before .before .before .before .before .args .file .now) (c .before .before .before .before .before .before .before .before .args .report .now) (c .before .before .before .before .before .before .before .before .args .nodes .now) (c .before .before .before .before .before .before .before .before .args .rules .now) (c .before .before .before .before .before .before .before .before .args .node) (c .before .before .before .before .before .before .before .before .args .mode) (sym (ap verdict-numbers (c .before .number .given .1)) ∙ c .before .before .before .check .ensures .0)
+returns c =
+    let check = c .before .before .before .check in
+    let start = c .before .before .before .before .before .before .before .before in
+    check-refuses (start .args .file .now) (start .args .report .now) (start .args .nodes .now)
+    (start .args .rules .now) (start .args .node) (start .args .mode)
+    (sym (ap verdict-numbers (c .before .number .given .1)) ∙ check .ensures .0)
 
 returns-2 : tie.Need-returns-2
-returns-2 c = check-names (c .before .before .before .before .before .before .before .before .args .file .now) (c .before .before .before .before .before .before .before .before .args .report .now) (c .before .before .before .before .before .before .before .before .args .nodes .now) (c .before .before .before .before .before .before .before .before .args .rules .now) (c .before .before .before .before .before .before .before .before .args .node) (c .before .before .before .before .before .before .before .before .args .mode) (sym (ap verdict-numbers (c .before .bad .given .1)) ∙ c .before .before .before .check .ensures .0)
+returns-2 c =
+    let check = c .before .before .before .check in
+    let start = c .before .before .before .before .before .before .before .before in
+    check-names (start .args .file .now) (start .args .report .now) (start .args .nodes .now)
+    (start .args .rules .now) (start .args .node) (start .args .mode)
+    (sym (ap verdict-numbers (c .before .bad .given .1)) ∙ check .ensures .0)
 
 returns-3 : tie.Need-returns-3
-returns-3 c = check-passes (c .before .before .before .before .before .before .before .before .args .file .now) (c .before .before .before .before .before .before .before .before .args .report .now) (c .before .before .before .before .before .before .before .before .args .nodes .now) (c .before .before .before .before .before .before .before .before .args .rules .now) (c .before .before .before .before .before .before .before .before .args .node) (c .before .before .before .before .before .before .before .before .args .mode) (sym (ap verdict-numbers (c .before .enum-told .given .1)) ∙ c .before .before .before .check .ensures .0) (c .scanned .ensures)
+returns-3 c =
+    let check = c .before .before .before .check in
+    let start = c .before .before .before .before .before .before .before .before in
+    check-passes (start .args .file .now) (start .args .report .now) (start .args .nodes .now)
+    (start .args .rules .now) (start .args .node) (start .args .mode)
+    (sym (ap verdict-numbers (c .before .enum-told .given .1)) ∙ check .ensures .0) (c .scanned .ensures)
 
 pub checked-spec : {M : Type 1} → statement M
 checked-spec =

@@ -40,7 +40,9 @@ slice-aggregate-put-word-3 : tie.Need-slice-aggregate-put-word-3
 slice-aggregate-put-word-3 c = search needs
 
 put-word-requires-3 : tie.Need-put-word-requires-3
-put-word-requires-3 c κs = omega (arith, length-decimal 10 (c .before .before .before .before .before .before .before .before .before .before .before .before .x2 .given .0 .0))
+put-word-requires-3 c κs =
+    let x2 = c .before .before .before .before .before .before .before .before .before .before .before .before .x2 in
+    omega (arith, length-decimal 10 (x2 .given .0 .0))
 
 enum-known-x-3 : tie.Need-enum-known-x-3
 enum-known-x-3 c = search needs
@@ -61,32 +63,52 @@ slice-aggregate-put-word-5 : tie.Need-slice-aggregate-put-word-5
 slice-aggregate-put-word-5 c = search needs
 
 put-word-requires-5 : tie.Need-put-word-requires-5
-put-word-requires-5 c κs = omega (arith, length-decimal 10 (c .before .before .before .before .before .before .before .before .before .before .before .before .x3 .given .0 .0))
+put-word-requires-5 c κs =
+    let x3 = c .before .before .before .before .before .before .before .before .before .before .before .before .x3 in
+    omega (arith, length-decimal 10 (x3 .given .0 .0))
 
 same-length : tie.Need-same-length
 same-length c = omega arith
 
 returns : tie.Need-returns
-returns c = rw (c .before .before .before .before .before .x .given .1) (c .before .before .put-success .ensures)
+returns c =
+    let x = c .before .before .before .before .before .x in
+    rw (x .given .1) (c .before .before .put-success .ensures)
 
 same-length-2 : tie.Need-same-length-2
 same-length-2 c = omega arith
 
 returns-2 : tie.Need-returns-2
-returns-2 c = rw (c .before .before .before .before .before .enum-told .given .1) (put-first (wrote (c .before .before .put-word .ensures)))
+returns-2 c =
+    let enum-told = c .before .before .before .before .before .enum-told in
+    rw (enum-told .given .1) (put-first (wrote (c .before .before .put-word .ensures)))
 
 same-length-3 : tie.Need-same-length-3
 same-length-3 c = omega arith
 
 returns-3 : tie.Need-returns-3
-returns-3 c = rw (c .before .before .before .before .before .before .before .before .before .before .before .before .before .before .before .x2 .given .1) (put-first (put-then (wrote (c .before .before .before .before .before .before .before .before .before .before .before .put-word2 .ensures)) (put-then (wrote (c .before .before .before .before .before .before .before .put-decimal .ensures)) (wrote (c .before .before .put-word3 .ensures)))))
+returns-3 c =
+    let put-decimal = c .before .before .before .before .before .before .before .put-decimal in
+    let put-word2 = c .before .before .before .before .before .before .before .before .before .before .before .put-word2 in
+    let x2 = c .before .before .before .before .before .before .before .before .before .before .before .before .before .before .before .x2 in
+    rw (x2 .given .1)
+    (put-first
+    (put-then (wrote (put-word2 .ensures))
+    (put-then (wrote (put-decimal .ensures)) (wrote (c .before .before .put-word3 .ensures)))))
 
 same-length-4 : tie.Need-same-length-4
 same-length-4 c = omega arith
 
 returns-4 : tie.Need-returns-4
 unfolding decimalTo
-returns-4 c = rw (c .before .before .before .before .before .before .before .before .before .before .before .before .before .before .before .x3 .given .1) (put-first (put-then (wrote (c .before .before .before .before .before .before .before .before .before .before .before .put-word4 .ensures)) (put-then (wrote (c .before .before .before .before .before .before .before .put-decimal2 .ensures)) (wrote (c .before .before .put-word5 .ensures)))))
+returns-4 c =
+    let put-decimal2 = c .before .before .before .before .before .before .before .put-decimal2 in
+    let put-word4 = c .before .before .before .before .before .before .before .before .before .before .before .put-word4 in
+    let x3 = c .before .before .before .before .before .before .before .before .before .before .before .before .before .before .before .x3 in
+    rw (x3 .given .1)
+    (put-first
+    (put-then (wrote (put-word4 .ensures))
+    (put-then (wrote (put-decimal2 .ensures)) (wrote (c .before .before .put-word5 .ensures)))))
 
 pub put-answer-spec : {M : Type 1} → statement M
 put-answer-spec =

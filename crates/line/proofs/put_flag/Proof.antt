@@ -20,13 +20,17 @@ same-length : tie.Need-same-length
 same-length c = omega arith
 
 returns : tie.Need-returns
-returns c = rw (c .before .before .before .before .before .if1 .taken) (c .before .before .put-word .ensures)
+returns c =
+    let if1 = c .before .before .before .before .before .if1 in
+    rw (if1 .taken) (c .before .before .put-word .ensures)
 
 same-length-2 : tie.Need-same-length-2
 same-length-2 c = omega arith
 
 returns-2 : tie.Need-returns-2
-returns-2 c = rw (c .before .before .before .before .before .if1 .left) (c .before .before .put-word2 .ensures)
+returns-2 c =
+    let if1 = c .before .before .before .before .before .if1 in
+    rw (if1 .left) (c .before .before .put-word2 .ensures)
 
 pub put-flag-spec : {M : Type 1} → statement M
 put-flag-spec =

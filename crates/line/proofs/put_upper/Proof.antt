@@ -23,13 +23,17 @@ same-length : tie.Need-same-length
 same-length c = omega arith
 
 returns : tie.Need-returns
-returns c = rw (c .before .before .before .before .before .enum-told .given .1) (c .before .before .put-word .ensures)
+returns c =
+    let enum-told = c .before .before .before .before .before .enum-told in
+    rw (enum-told .given .1) (c .before .before .put-word .ensures)
 
 same-length-2 : tie.Need-same-length-2
 same-length-2 c = omega arith
 
 returns-2 : tie.Need-returns-2
-returns-2 c = rw (c .before .before .before .before .before .h .given .1) (c .before .before .put-decimal .ensures)
+returns-2 c =
+    let h = c .before .before .before .before .before .h in
+    rw (h .given .1) (c .before .before .put-decimal .ensures)
 
 pub put-upper-spec : {M : Type 1} → statement M
 put-upper-spec =

@@ -34,7 +34,15 @@ is-refused-requires c κs = tt
 
 returns-2 : tie.Need-returns-2 Inv-loop μ-loop
 unfolding fails8
-returns-2 c = sym (ap₂ _||_ (le-ltb _ _ (c .before .before .before .before .before .if1 .left)) (ap not (every-fails _ _ (c .before .before .before .before .loop .i) (c .before .before .before .loop-test .taken) (ap not (sym (c .before .is-refused .ensures) ∙ c .if2 .taken)))))
+returns-2 c =
+    let loop-test = c .before .before .before .loop-test in
+    let loop = c .before .before .before .before .loop in
+    let if1 = c .before .before .before .before .before .if1 in
+    sym
+    (ap₂ _||_ (le-ltb _ _ (if1 .left))
+    (ap not
+    (every-fails _ _ (loop .i) (loop-test .taken)
+    (ap not (sym (c .before .is-refused .ensures) ∙ c .if2 .taken)))))
 
 add-i : tie.Need-add-i Inv-loop μ-loop
 add-i c = omega arith
@@ -47,7 +55,10 @@ loop-again c = (omega arith, every-more _ _ (c .before .before .before .before .
 
 returns-3 : tie.Need-returns-3 Inv-loop μ-loop
 unfolding fails8
-returns-3 c = let e : c .before .loop .i ≡ length (c .before .before .before .before .args .report .now) = omega arith in rw (le-ltb _ _ (c .before .before .if1 .left), ← e, c .before .loop .inv .1)
+returns-3 c =
+    let start = c .before .before .before .before in
+    let e : c .before .loop .i ≡ length (start .args .report .now) = omega arith in
+    rw (le-ltb _ _ (c .before .before .if1 .left), ← e, c .before .loop .inv .1)
 
 pub refused-spec : {M : Type 1} → statement M
 refused-spec =

@@ -22,13 +22,18 @@ abbrev differs : List (List ℕ) → ℕ → List ℕ → Bool
 differs names j s = every j (λ i. not (sameBytes (getD names i []) s))
 
 -- The first j names are the same where no more are looked at.
-fewer : (file : List ℕ) (first count skip j : ℕ) (s : List ℕ) → j < count → differs (spellingsFrom file first count skip) j s ≡ differs (spellingsFrom file first j skip) j s
+fewer :
+    (file : List ℕ) (first count skip j : ℕ) (s : List ℕ)
+    → j < count
+    → differs (spellingsFrom file first count skip) j s ≡ differs (spellingsFrom file first j skip) j s
 fewer file first count skip j s h =
     every-same j _ _
     (λ i a. ap (λ (t : List ℕ). not (sameBytes t s)) (spelling-from file first count skip i (omega arith) ∙ sym (spelling-from file first j skip i a)))
 
 abbrev Inv-loop : tie.InvT-loop
-Inv-loop file first count skip met₀ at₀ j₀ met at j = Passed file first count skip (differs (spellingsFrom file first count skip)) j at × Met (spellingsFrom file first count skip) j met
+Inv-loop file first count skip met₀ at₀ j₀ met at j =
+    Passed file first count skip (differs (spellingsFrom file first count skip)) j at
+    × Met (spellingsFrom file first count skip) j met
 
 abbrev μ-loop : tie.MeasureT-loop
 μ-loop file first count skip met₀ at₀ j₀ met at j = count - j
@@ -50,7 +55,13 @@ differs-requires c κs = λ e. sym (fewer _ _ _ _ _ _ (c .before .before .loop-t
 
 returns : tie.Need-returns Inv-loop μ-loop
 unfolding distinct
-returns c = rw length-spellings (passed-fails (c .before .before .before .before .before .loop .inv .0) (c .before .before .before .before .loop-test .taken) (c .before .before .before .spelling-at .ensures) (fewer _ _ _ _ _ _ (c .before .before .before .before .loop-test .taken) ∙ sym (c .before .differs .ensures) ∙ not-true _ (c .if1 .taken)))
+returns c =
+    let spelling-at = c .before .before .before .spelling-at in
+    let loop-test = c .before .before .before .before .loop-test in
+    let loop = c .before .before .before .before .before .loop in
+    rw length-spellings
+    (passed-fails (loop .inv .0) (loop-test .taken) (spelling-at .ensures)
+    (fewer _ _ _ _ _ _ (loop-test .taken) ∙ sym (c .before .differs .ensures) ∙ not-true _ (c .if1 .taken)))
 
 array-write-met : tie.Need-array-write-met Inv-loop μ-loop
 array-write-met c = c .before .before .key .ensures .1
@@ -65,7 +76,18 @@ loop-less : tie.Need-loop-less Inv-loop μ-loop
 loop-less c = omega arith
 
 loop-again : tie.Need-loop-again Inv-loop μ-loop
-loop-again c = (passed-more (c .before .before .before .before .before .before .loop .inv .0) (c .before .before .before .before .before .loop-test .taken) (c .before .before .before .before .spelling-at .ensures) (fewer _ _ _ _ _ _ (c .before .before .before .before .before .loop-test .taken) ∙ sym (c .before .before .differs .ensures) ∙ not-false _ (c .before .if1 .left)) (c .next-at .ensures), met-more (c .before .before .before .before .before .before .loop .inv .1) (here (c .before .before .before .before .before .before .loop .inv .0) (c .before .before .before .before .before .loop-test .taken) (c .before .before .before .before .spelling-at .ensures)) (c .before .before .before .key .ensures .0) (c .before .before .before .key .ensures .1))
+loop-again c =
+    let key = c .before .before .before .key in
+    let spelling-at = c .before .before .before .before .spelling-at in
+    let loop-test = c .before .before .before .before .before .loop-test in
+    let loop = c .before .before .before .before .before .before .loop in (
+      passed-more (loop .inv .0) (loop-test .taken) (spelling-at .ensures)
+          (fewer _ _ _ _ _ _ (loop-test .taken)
+          ∙ sym (c .before .before .differs .ensures)
+          ∙ not-false _ (c .before .if1 .left)) (c .next-at .ensures),
+      met-more (loop .inv .1) (here (loop .inv .0) (loop-test .taken) (spelling-at .ensures)) (key .ensures .0)
+          (key .ensures .1),
+    )
 
 returns-2 : tie.Need-returns-2 Inv-loop μ-loop
 unfolding distinct

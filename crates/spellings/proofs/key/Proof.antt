@@ -65,7 +65,23 @@ add-result-4 c = search needs
 
 returns : tie.Need-returns
 unfolding keyOf
-returns c = (rw (c .before .before .before .before .before .before .byte-in .ensures .0, c .before .before .before .before .byte-in2 .ensures .0, c .before .before .byte-in3 .ensures .0, c .byte-in4 .ensures .0, c .before .before .before .before .before .before2 .ensures, c .before .before .before .before3 .ensures, c .before .before4 .ensures) refl, omega arith)
+returns c =
+    let byte-in = c .before .before .before .before .before .before .byte-in in
+    let byte-in2 = c .before .before .before .before .byte-in2 in
+    let byte-in3 = c .before .before .byte-in3 in
+    let last = c .before .before .before .before .before .before2 in
+    let last2 = c .before .before .before .before3 in (
+      rw (
+        byte-in .ensures .0,
+        byte-in2 .ensures .0,
+        byte-in3 .ensures .0,
+        c .byte-in4 .ensures .0,
+        last .ensures,
+        last2 .ensures,
+        c .before .before4 .ensures,
+      ) refl,
+      omega arith,
+    )
 
 pub key-spec : {M : Type 1} → statement M
 key-spec =

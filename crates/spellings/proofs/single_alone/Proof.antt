@@ -35,7 +35,14 @@ is-single-requires c κs = tt
 
 returns-2 : tie.Need-returns-2 Inv-loop μ-loop
 unfolding singleAlone
-returns-2 c = sym (ap₂ _||_ (every-fails _ _ (c .before .before .before .before .loop .i) (c .before .before .before .loop-test .taken) (ap not (sym (c .before .is-single .ensures) ∙ c .if2 .taken))) (ne-eqb _ _ (c .before .before .before .before .before .if1 .left)))
+returns-2 c =
+    let loop-test = c .before .before .before .loop-test in
+    let loop = c .before .before .before .before .loop in
+    let if1 = c .before .before .before .before .before .if1 in
+    sym
+    (ap₂ _||_
+    (every-fails _ _ (loop .i) (loop-test .taken)
+    (ap not (sym (c .before .is-single .ensures) ∙ c .if2 .taken))) (ne-eqb _ _ (if1 .left)))
 
 add-i : tie.Need-add-i Inv-loop μ-loop
 add-i c = omega arith

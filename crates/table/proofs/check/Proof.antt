@@ -24,11 +24,27 @@ rule-wrong-requires c κs = search needs
 
 returns-3 : tie.Need-returns-3
 unfolding tableAnswer
-returns-3 c = rw (sym (c .before .before .before .before .before .counts-wrong .ensures) ∙ c .before .before .before .before .if1 .left, sym (c .before .before .before .node-wrong .ensures) ∙ c .before .before .if2 .left, sym (c .before .rule-wrong .ensures) ∙ c .if3 .taken) refl
+returns-3 c =
+    let node-wrong = c .before .before .before .node-wrong in
+    let if1 = c .before .before .before .before .if1 in
+    let counts-wrong = c .before .before .before .before .before .counts-wrong in
+    rw (
+      sym (counts-wrong .ensures) ∙ if1 .left,
+      sym (node-wrong .ensures) ∙ c .before .before .if2 .left,
+      sym (c .before .rule-wrong .ensures) ∙ c .if3 .taken,
+    ) refl
 
 returns-4 : tie.Need-returns-4
 unfolding tableAnswer
-returns-4 c = rw (sym (c .before .before .before .before .before .counts-wrong .ensures) ∙ c .before .before .before .before .if1 .left, sym (c .before .before .before .node-wrong .ensures) ∙ c .before .before .if2 .left, sym (c .before .rule-wrong .ensures) ∙ c .if3 .left) refl
+returns-4 c =
+    let node-wrong = c .before .before .before .node-wrong in
+    let if1 = c .before .before .before .before .if1 in
+    let counts-wrong = c .before .before .before .before .before .counts-wrong in
+    rw (
+      sym (counts-wrong .ensures) ∙ if1 .left,
+      sym (node-wrong .ensures) ∙ c .before .before .if2 .left,
+      sym (c .before .rule-wrong .ensures) ∙ c .if3 .left,
+    ) refl
 
 pub check-spec : {M : Type 1} → statement M
 check-spec =

@@ -62,7 +62,13 @@ words-right-requires c κs = tt
 
 returns : tie.Need-returns Inv-loop μ-loop
 unfolding fails4
-returns c = sym (ap not (every-fails _ _ (c .before .before .before .before .before .before .before .loop .n) (c .before .before .before .before .before .before .loop-test .taken) (sym (c .before .words-right .ensures) ∙ not-true _ (c .if1 .taken))))
+returns c =
+    let loop-test = c .before .before .before .before .before .before .loop-test in
+    let loop = c .before .before .before .before .before .before .before .loop in
+    sym
+    (ap not
+    (every-fails _ _ (loop .n) (loop-test .taken)
+    (sym (c .before .words-right .ensures) ∙ not-true _ (c .if1 .taken))))
 
 add-n : tie.Need-add-n Inv-loop μ-loop
 add-n c = omega arith
@@ -71,7 +77,9 @@ loop-less : tie.Need-loop-less Inv-loop μ-loop
 loop-less c = omega arith
 
 loop-again : tie.Need-loop-again Inv-loop μ-loop
-loop-again c = (omega arith, every-more _ _ (c .before .before .before .before .before .before .before .loop .inv .1) (sym (c .before .words-right .ensures) ∙ not-false _ (c .if1 .left)))
+loop-again c =
+    let loop = c .before .before .before .before .before .before .before .loop in
+    (omega arith, every-more _ _ (loop .inv .1) (sym (c .before .words-right .ensures) ∙ not-false _ (c .if1 .left)))
 
 returns-2 : tie.Need-returns-2 Inv-loop μ-loop
 unfolding fails4

@@ -19,10 +19,18 @@ judge-requires : tie.Need-judge-requires
 judge-requires c κs = sym (c .before .before .check .ensures) ∙ ap table-numbers (c .enum-told .given .1)
 
 returns : tie.Need-returns
-returns c = answer-refused (c .before .before .before .before .before .before .args .nodes .now) (c .before .before .before .before .before .before .args .rules .now) (sym (ap table-numbers (c .before .number .given .1)) ∙ c .before .before .before .check .ensures) refl
+returns c =
+    let check = c .before .before .before .check in
+    let start = c .before .before .before .before .before .before in
+    answer-refused (start .args .nodes .now) (start .args .rules .now)
+    (sym (ap table-numbers (c .before .number .given .1)) ∙ check .ensures) refl
 
 returns-2 : tie.Need-returns-2
-returns-2 c = answer-judged (c .before .before .before .before .before .before .args .nodes .now) (c .before .before .before .before .before .before .args .rules .now) (sym (c .before .before .before .check .ensures) ∙ ap table-numbers (c .before .enum-told .given .1)) (c .judge .ensures)
+returns-2 c =
+    let check = c .before .before .before .check in
+    let start = c .before .before .before .before .before .before in
+    answer-judged (start .args .nodes .now) (start .args .rules .now)
+    (sym (check .ensures) ∙ ap table-numbers (c .before .enum-told .given .1)) (c .judge .ensures)
 
 pub check-spec : {M : Type 1} → statement M
 check-spec =

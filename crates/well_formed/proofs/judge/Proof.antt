@@ -16,7 +16,9 @@ slice-aggregate-find-3 : tie.Need-slice-aggregate-find-3
 slice-aggregate-find-3 c = search needs
 
 find-requires : tie.Need-find-requires
-find-requires c κs = facts-start (c .before .before .before .before .before .args .nodes .now) (c .before .before .before .before .before .args .rules .now) (c .before .before .before .before .before .pre)
+find-requires c κs =
+    let start = c .before .before .before .before .before in
+    facts-start (start .args .nodes .now) (start .args .rules .now) (start .pre)
 
 slice-aggregate-find-4 : tie.Need-slice-aggregate-find-4
 slice-aggregate-find-4 c = search needs
@@ -25,16 +27,28 @@ slice-aggregate-find-5 : tie.Need-slice-aggregate-find-5
 slice-aggregate-find-5 c = search needs
 
 find-requires-2 : tie.Need-find-requires-2
-find-requires-2 c κs = well-start (c .before .before .before .before .before .before .before .before .before .before .before .args .nodes .now) (c .before .before .before .before .before .before .before .before .before .before .before .args .rules .now) (c .before .before .before .before .before .before .before .before .before .before .before .pre) (c .before .before .before .before .before .find .last .1 .1 .0) (c .before .before .before .before .before .find .last .1 .1 .1 .0) (c .before .before .before .before .before .find .last .1 .1 .1 .1 .0) (c .before .before .before .before .before .find .ensures)
+find-requires-2 c κs =
+    let find = c .before .before .before .before .before .find in
+    let start = c .before .before .before .before .before .before .before .before .before .before .before in
+    well-start (start .args .nodes .now) (start .args .rules .now) (start .pre) (find .last .1 .1 .0)
+    (find .last .1 .1 .1 .0) (find .last .1 .1 .1 .1 .0) (find .ensures)
 
 slice-aggregate-lowest : tie.Need-slice-aggregate-lowest
 slice-aggregate-lowest c = search needs
 
 lowest-requires : tie.Need-lowest-requires
-lowest-requires c κs = counts-inside (c .before .before .before .before .before .before .before .before .before .before .before .before .before .before .args .nodes .now) (c .before .before .before .before .before .before .before .before .before .before .before .before .before .before .args .rules .now) (c .before .before .before .before .before .before .before .before .before .before .before .before .before .before .pre) .1
+lowest-requires c κs =
+    let start = c .before .before .before .before .before .before .before .before .before .before .before .before .before .before in
+    counts-inside (start .args .nodes .now) (start .args .rules .now) (start .pre) .1
 
 returns : tie.Need-returns
-returns c = c .lowest .ensures ∙ judged (c .before .before .before .before .before .before .before .before .before .before .before .before .before .before .before .args .nodes .now) (c .before .before .before .before .before .before .before .before .before .before .before .before .before .before .before .args .rules .now) (c .before .before .before .before .before .before .before .before .before .before .before .before .before .before .before .pre) (c .before .before .before .before .before .before .before .before .before .find .last .1 .1 .0) (c .before .before .before .before .before .before .before .before .before .find .last .1 .1 .1 .0) (c .before .before .before .before .before .before .before .before .before .find .last .1 .1 .1 .1 .0) (c .before .before .before .before .before .before .before .before .before .find .ensures) (c .before .before .before .find2 .last .1 .1 .1 .0) (c .before .before .before .find2 .ensures)
+returns c =
+    let find2 = c .before .before .before .find2 in
+    let find = c .before .before .before .before .before .before .before .before .before .find in
+    let start = c .before .before .before .before .before .before .before .before .before .before .before .before .before .before .before in
+    c .lowest .ensures
+    ∙ judged (start .args .nodes .now) (start .args .rules .now) (start .pre) (find .last .1 .1 .0)
+    (find .last .1 .1 .1 .0) (find .last .1 .1 .1 .1 .0) (find .ensures) (find2 .last .1 .1 .1 .0) (find2 .ensures)
 
 pub judge-spec : {M : Type 1} → statement M
 judge-spec =

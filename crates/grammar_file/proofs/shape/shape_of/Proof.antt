@@ -18,10 +18,22 @@ framed-requires : tie.Need-framed-requires
 framed-requires c κs = search needs
 
 returns : tie.Need-returns
-returns c = shaped-framed (c .before .before .before .before .before .before .args .file .now) (c .before .before .before .before .run-of .result) (c .before .before .before .run-of2 .result) (c .before .before .run-of3 .result) (c .before .before .before .before .run-of .ensures) (c .before .before .before .run-of2 .ensures) (c .before .before .run-of3 .ensures) (sym (c .before .framed .ensures) ∙ c .if1 .taken)
+returns c =
+    let run-of3 = c .before .before .run-of3 in
+    let run-of2 = c .before .before .before .run-of2 in
+    let run-of = c .before .before .before .before .run-of in
+    let start = c .before .before .before .before .before .before in
+    shaped-framed (start .args .file .now) (run-of .result) (run-of2 .result) (run-of3 .result) (run-of .ensures)
+    (run-of2 .ensures) (run-of3 .ensures) (sym (c .before .framed .ensures) ∙ c .if1 .taken)
 
 returns-2 : tie.Need-returns-2
-returns-2 c = shaped-unframed (c .before .before .before .before .before .before .args .file .now) (c .before .before .before .before .run-of .result) (c .before .before .before .run-of2 .result) (c .before .before .run-of3 .result) (c .before .before .before .before .run-of .ensures) (c .before .before .before .run-of2 .ensures) (c .before .before .run-of3 .ensures) (c .before .framed .ensures) (c .if1 .left)
+returns-2 c =
+    let run-of3 = c .before .before .run-of3 in
+    let run-of2 = c .before .before .before .run-of2 in
+    let run-of = c .before .before .before .before .run-of in
+    let start = c .before .before .before .before .before .before in
+    shaped-unframed (start .args .file .now) (run-of .result) (run-of2 .result) (run-of3 .result) (run-of .ensures)
+    (run-of2 .ensures) (run-of3 .ensures) (c .before .framed .ensures) (c .if1 .left)
 
 pub shape-of-spec : {M : Type 1} → statement M
 shape-of-spec =

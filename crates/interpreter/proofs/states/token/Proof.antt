@@ -11,7 +11,10 @@ mul-at : tie.Need-mul-at
 mul-at c = search needs
 
 returns : tie.Need-returns
-returns c = token-none (c .before .before .before .args .tokens .now) (c .before .before .before .args .mode) (c .before .before .before .args .terminal) (c .before .before .before .args .s) (c .before .before .before .pre .whole) (c .if1 .taken)
+returns c =
+    let start = c .before .before .before in
+    token-none (start .args .tokens .now) (start .args .mode) (start .args .terminal) (start .args .s)
+    (start .pre .whole) (c .if1 .taken)
 
 mul-if2 : tie.Need-mul-if2
 mul-if2 c = search needs
@@ -20,7 +23,10 @@ shared-slice-read-if2 : tie.Need-shared-slice-read-if2
 shared-slice-read-if2 c = search needs
 
 returns-2 : tie.Need-returns-2
-returns-2 c = token-other (c .before .before .before .before .before .args .tokens .now) (c .before .before .before .before .before .args .mode) (c .before .before .before .before .before .args .terminal) (c .before .before .before .before .before .args .s) (c .before .before .before .before .before .pre .whole) (c .before .before .if1 .left) (c .if2 .taken)
+returns-2 c =
+    let start = c .before .before .before .before .before in
+    token-other (start .args .tokens .now) (start .args .mode) (start .args .terminal) (start .args .s)
+    (start .pre .whole) (c .before .before .if1 .left) (c .if2 .taken)
 
 add-column : tie.Need-add-column
 add-column c = search needs
@@ -41,10 +47,22 @@ add-t20 : tie.Need-add-t20
 add-t20 c = search needs
 
 returns-3 : tie.Need-returns-3
-returns-3 c = token-fits (c .before .before .before .before .before .before .before .before .before .args .tokens .now) (c .before .before .before .before .before .before .before .before .before .args .mode) (c .before .before .before .before .before .before .before .before .before .args .terminal) (c .before .before .before .before .before .before .before .before .before .args .s) (c .before .before .before .before .before .before .before .before .before .pre .whole) (c .before .before .before .before .before .before .if1 .left) (c .before .before .before .before .if2 .left) (c .before .before .fits2 .result) (c .before .before .fits2 .ensures) (c .before .if3 .taken) (c .after-token .result) (c .after-token .ensures)
+returns-3 c =
+    let fits2 = c .before .before .fits2 in
+    let if2 = c .before .before .before .before .if2 in
+    let if1 = c .before .before .before .before .before .before .if1 in
+    let start = c .before .before .before .before .before .before .before .before .before in
+    token-fits (start .args .tokens .now) (start .args .mode) (start .args .terminal) (start .args .s)
+    (start .pre .whole) (if1 .left) (if2 .left) (fits2 .result) (fits2 .ensures) (c .before .if3 .taken)
+    (c .after-token .result) (c .after-token .ensures)
 
 returns-4 : tie.Need-returns-4
-returns-4 c = token-outside (c .before .before .before .before .before .before .before .before .args .tokens .now) (c .before .before .before .before .before .before .before .before .args .mode) (c .before .before .before .before .before .before .before .before .args .terminal) (c .before .before .before .before .before .before .before .before .args .s) (c .before .before .before .before .before .before .before .before .pre .whole) (c .before .before .before .before .before .if1 .left) (c .before .before .before .if2 .left) (c .before .fits2 .result) (c .before .fits2 .ensures) (c .if3 .left)
+returns-4 c =
+    let if2 = c .before .before .before .if2 in
+    let if1 = c .before .before .before .before .before .if1 in
+    let start = c .before .before .before .before .before .before .before .before in
+    token-outside (start .args .tokens .now) (start .args .mode) (start .args .terminal) (start .args .s)
+    (start .pre .whole) (if1 .left) (if2 .left) (c .before .fits2 .result) (c .before .fits2 .ensures) (c .if3 .left)
 
 pub token-spec : {M : Type 1} → statement M
 token-spec =

@@ -38,7 +38,14 @@ loop-less : tie.Need-loop-less Inv-loop μ-loop
 loop-less c = omega arith
 
 loop-again : tie.Need-loop-again Inv-loop μ-loop
-loop-again c = (omega arith, simp length-set (c .before .before .loop .inv .1), rw (offset-next, ← c .before .before .loop .inv .2) (c .next-at .ensures), starts-more (c .before .before .loop .inv .3) (omega (arith, c .before .before .loop .inv .1, c .before .before .before .before .before .pre)) (c .before .before .loop .inv .2))
+loop-again c =
+    let loop = c .before .before .loop in
+    let start = c .before .before .before .before .before in (
+      omega arith,
+      simp length-set (loop .inv .1),
+      rw (offset-next, ← loop .inv .2) (c .next-at .ensures),
+      starts-more (loop .inv .3) (omega (arith, loop .inv .1, start .pre)) (loop .inv .2),
+    )
 
 same-length : tie.Need-same-length Inv-loop μ-loop
 same-length c = c .before .loop .inv .1

@@ -104,7 +104,10 @@ digits-end-requires : tie.Need-digits-end-requires
 digits-end-requires c κs = search needs
 
 -- What is left to ask where there are digits behind the sign.
-behind : (c : tie.Else1) → isNumber (c .before .before .before .before .args .s .now) ≡ fraction (drop (c .before .digits-end .result) (c .before .before .before .before .args .s .now))
+behind :
+    (c : tie.Else1)
+    → isNumber (c .before .before .before .before .args .s .now)
+    ≡ fraction (drop (c .before .digits-end .result) (c .before .before .before .before .args .s .now))
 behind c = with-whole _ _ _ (c .before .before .minus .ensures .1) (c .before .digits-end .ensures) (c .if1 .left)
 
 returns : tie.Need-returns
@@ -117,7 +120,11 @@ shared-slice-read-if3 : tie.Need-shared-slice-read-if3
 shared-slice-read-if3 c = search needs
 
 returns-3 : tie.Need-returns-3
-returns-3 c = sym (behind (c .before .before .before) ∙ no-point (c .before .before .before .before .before .before .before .args .s .now) (c .before .before .before .before .digits-end .result) (omega arith) (c .if3 .taken))
+returns-3 c =
+    let earlier = c .before .before .before in
+    let digits-end = c .before .before .before .before .digits-end in
+    let start = c .before .before .before .before .before .before .before in
+    sym (behind earlier ∙ no-point (start .args .s .now) (digits-end .result) (omega arith) (c .if3 .taken))
 
 add-digits-end : tie.Need-add-digits-end
 add-digits-end c = search needs
@@ -129,10 +136,20 @@ add-if4 : tie.Need-add-if4
 add-if4 c = search needs
 
 returns-4 : tie.Need-returns-4
-returns-4 c = sym (behind (c .before .before .before .before .before) ∙ no-fraction _ _ _ (omega arith) (c .before .before .if3 .left) (c .before .digits-end2 .ensures) (c .if4 .taken))
+returns-4 c =
+    let earlier = c .before .before .before .before .before in
+    sym
+    (behind earlier
+    ∙ no-fraction _ _ _ (omega arith) (c .before .before .if3 .left) (c .before .digits-end2 .ensures)
+    (c .if4 .taken))
 
 returns-5 : tie.Need-returns-5
-returns-5 c = sym (behind (c .before .before .before .before .before) ∙ with-fraction _ _ _ (omega arith) (c .before .before .if3 .left) (c .before .digits-end2 .ensures) (c .if4 .left))
+returns-5 c =
+    let earlier = c .before .before .before .before .before in
+    sym
+    (behind earlier
+    ∙ with-fraction _ _ _ (omega arith) (c .before .before .if3 .left) (c .before .digits-end2 .ensures)
+    (c .if4 .left))
 
 pub number-spec : {M : Type 1} → statement M
 number-spec =

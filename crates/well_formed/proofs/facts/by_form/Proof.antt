@@ -51,7 +51,10 @@ returns-5 c = rw (c .before .match .keys5) (c .choice .ensures)
 
 returns-6 : tie.Need-returns-6
 unfolding gives
-returns-6 c = rw (c .before .before .match .keys6) (by-fact _ _ (c .facts-of3 .ensures .0) (c .facts-of3 .ensures .1 .0) (c .facts-of3 .ensures .1 .1 ∙ c .before .either .ensures))
+returns-6 c =
+    rw (c .before .before .match .keys6)
+    (by-fact _ _ (c .facts-of3 .ensures .0) (c .facts-of3 .ensures .1 .0)
+    (c .facts-of3 .ensures .1 .1 ∙ c .before .either .ensures))
 
 returns-7 : tie.Need-returns-7
 unfolding gives

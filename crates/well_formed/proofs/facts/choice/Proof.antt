@@ -26,7 +26,13 @@ facts-of-requires c κs = search needs
 
 returns : tie.Need-returns
 unfolding gives
-returns c = by-fact _ _ (c .facts-of .ensures .0 ∙ rw (c .before .before .before .before .either .ensures, c .before .before .before .before .before .both .ensures) refl) (c .facts-of .ensures .1 .0 ∙ rw (c .before .before .either2 .ensures, c .before .before .before .both2 .ensures) refl) (c .facts-of .ensures .1 .1 ∙ c .before .both3 .ensures)
+returns c =
+    let both2 = c .before .before .before .both2 in
+    let either = c .before .before .before .before .either in
+    let both = c .before .before .before .before .before .both in
+    by-fact _ _ (c .facts-of .ensures .0 ∙ rw (either .ensures, both .ensures) refl)
+    (c .facts-of .ensures .1 .0 ∙ rw (c .before .before .either2 .ensures, both2 .ensures) refl)
+    (c .facts-of .ensures .1 .1 ∙ c .before .both3 .ensures)
 
 pub choice-spec : {M : Type 1} → statement M
 choice-spec =

@@ -18,7 +18,11 @@ facts-of-requires : tie.Need-facts-of-requires
 facts-of-requires c κs = search needs
 
 returns : tie.Need-returns
-returns c = by-fact _ _ (c .facts-of .ensures .0 ∙ c .before .before .before .has .ensures) (c .facts-of .ensures .1 .0 ∙ c .before .before .has2 .ensures) (c .facts-of .ensures .1 .1 ∙ c .before .has3 .ensures)
+returns c =
+    let has = c .before .before .before .has in
+    by-fact _ _ (c .facts-of .ensures .0 ∙ has .ensures)
+    (c .facts-of .ensures .1 .0 ∙ c .before .before .has2 .ensures)
+    (c .facts-of .ensures .1 .1 ∙ c .before .has3 .ensures)
 
 pub facts-at-spec : {M : Type 1} → statement M
 facts-at-spec =

@@ -41,7 +41,9 @@ shared-slice-read-facts-at : tie.Need-shared-slice-read-facts-at
 shared-slice-read-facts-at c = omega arith
 
 cast-facts-at : tie.Need-cast-facts-at
-cast-facts-at c = omega (arith, c .shared-slice-known8 .given (c .before .before .before .before .before .before .before .before .before .before .args .n * 4 + 2))
+cast-facts-at c =
+    let start = c .before .before .before .before .before .before .before .before .before .before in
+    omega (arith, c .shared-slice-known8 .given (start .args .n * 4 + 2))
 
 facts-at-requires-2 : tie.Need-facts-at-requires-2
 facts-at-requires-2 c κs = tt
@@ -50,7 +52,19 @@ by-form-requires : tie.Need-by-form-requires
 by-form-requires c κs = tt
 
 returns : tie.Need-returns
-returns c = λ x. c .by-form .ensures x ∙ node-gives (c .before .before .before .before .before .before .before .before .before .before .before .before .args .nodes .now) (c .before .before .before .before .before .before .before .before .before .before .before .before .args .rules .now) (c .before .before .before .before .before .before .before .before .before .before .before .before .args .n) (known (three (c .before .before .before .before .before .before .before .before .before .before .before .before .args .nothing .now) (c .before .before .before .before .before .before .before .before .before .before .before .before .args .something .now) (c .before .before .before .before .before .before .before .before .before .before .before .before .args .fails .now))) (factOf (c .before .before .before .facts-at .result)) (factOf (c .before .facts-at2 .result)) (λ y. c .before .before .before .facts-at .ensures y ∙ ap (known (three (c .before .before .before .before .before .before .before .before .before .before .before .before .args .nothing .now) (c .before .before .before .before .before .before .before .before .before .before .before .before .args .something .now) (c .before .before .before .before .before .before .before .before .before .before .before .before .args .fails .now)) y) (c .before .before .before .before .first-child .ensures)) (c .before .facts-at2 .ensures) x
+returns c =
+    let facts-at = c .before .before .before .facts-at in
+    let first-child = c .before .before .before .before .first-child in
+    let start = c .before .before .before .before .before .before .before .before .before .before .before .before in
+    λ x.
+    c .by-form .ensures x
+    ∙ node-gives (start .args .nodes .now) (start .args .rules .now) (start .args .n)
+    (known (three (start .args .nothing .now) (start .args .something .now) (start .args .fails .now)))
+    (factOf (facts-at .result)) (factOf (c .before .facts-at2 .result))
+    (λ y.
+    facts-at .ensures y
+    ∙ ap (known (three (start .args .nothing .now) (start .args .something .now) (start .args .fails .now)) y)
+    (first-child .ensures)) (c .before .facts-at2 .ensures) x
 
 pub gives-spec : {M : Type 1} → statement M
 gives-spec =

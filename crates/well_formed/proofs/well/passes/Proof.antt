@@ -45,7 +45,9 @@ shared-slice-read-has : tie.Need-shared-slice-read-has
 shared-slice-read-has c = omega arith
 
 cast-has : tie.Need-cast-has
-cast-has c = omega (arith, c .shared-slice-known7 .given (c .before .before .before .before .before .before .before .before .before .before .args .n * 4 + 2))
+cast-has c =
+    let start = c .before .before .before .before .before .before .before .before .before .before in
+    omega (arith, c .shared-slice-known7 .given (start .args .n * 4 + 2))
 
 has-requires-3 : tie.Need-has-requires-3
 has-requires-3 c κs = tt
@@ -54,7 +56,18 @@ by-form-requires : tie.Need-by-form-requires
 by-form-requires c κs = tt
 
 returns : tie.Need-returns
-returns c = c .by-form .ensures ∙ node-passes (c .before .before .before .before .before .before .before .before .before .before .before .before .args .nodes .now) (c .before .before .before .before .before .before .before .before .before .before .before .before .args .rules .now) (c .before .before .before .before .before .before .before .before .before .before .before .before .args .n) (λ m. getD (c .before .before .before .before .before .before .before .before .before .before .before .before .args .nothing .now) m false) (λ m. getD (c .before .before .before .before .before .before .before .before .before .before .before .before .args .well .now) m false) (c .before .before .before .before .has .result) (c .before .before .before .has2 .result) (c .before .has3 .result) (c .before .before .before .before .has .ensures ∙ ap (λ (m : ℕ). getD (c .before .before .before .before .before .before .before .before .before .before .before .before .args .well .now) m false) (c .before .before .before .before .before .first-child .ensures)) (c .before .before .before .has2 .ensures ∙ ap (λ (m : ℕ). getD (c .before .before .before .before .before .before .before .before .before .before .before .before .args .nothing .now) m false) (c .before .before .before .before .before .first-child .ensures)) (c .before .has3 .ensures)
+returns c =
+    let has2 = c .before .before .before .has2 in
+    let has = c .before .before .before .before .has in
+    let first-child = c .before .before .before .before .before .first-child in
+    let start = c .before .before .before .before .before .before .before .before .before .before .before .before in
+    c .by-form .ensures
+    ∙ node-passes (start .args .nodes .now) (start .args .rules .now) (start .args .n)
+    (λ m. getD (start .args .nothing .now) m false) (λ m. getD (start .args .well .now) m false) (has .result)
+    (has2 .result) (c .before .has3 .result)
+    (has .ensures ∙ ap (λ (m : ℕ). getD (start .args .well .now) m false) (first-child .ensures))
+    (has2 .ensures ∙ ap (λ (m : ℕ). getD (start .args .nothing .now) m false) (first-child .ensures))
+    (c .before .has3 .ensures)
 
 pub passes-spec : {M : Type 1} → statement M
 passes-spec =
