@@ -218,6 +218,8 @@ def read_handbook(reader, text):
     for block in blocks:
         if block.language == "grammar":
             grammars.append(read_grammar(reader, block))
+            if grammars[-1].name in [grammar.name for grammar in grammars[:-1]]:
+                raise Wrong(block.line, "a grammar above has this name")
         elif block.language == "report":
             reports.append(read_report(reader, grammars[-1] if grammars else None, block))
         elif block.language == "sh":
@@ -225,9 +227,6 @@ def read_handbook(reader, text):
         else:
             raise Wrong(block.line - 1, "a block is a grammar, a report or sh")
     check_numbers([case for report in reports for case in report.cases], prose)
-    names = [grammar.name for grammar in grammars]
-    if len(set(names)) < len(names):
-        raise Wrong(1, f"two grammars have one name: {sorted(name for name in set(names) if names.count(name) > 1)}")
     return grammars, reports
 
 
