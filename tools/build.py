@@ -153,7 +153,30 @@ class Expression(NamedTuple):
     value: object = None
 
 
+LOOSE = ("sequence", "choice", "not", "align", "indent", "position")
+
+
+def text_of(expression, tight=False):
+    """An expression in the notation. Tight: a sequence or choice stands in brackets."""
+    form, _, parts, value = expression
+    if form in ("sequence", "choice"):
+        inner = [text_of(part, form == "sequence" or part.form == "choice") for part in parts]
+        joined = (" " if form == "sequence" else " / ").join(inner)
+        return f"({joined})" if tight else joined
+    if form in ("*", "+", "?"):
+        loose = parts[0].form in (*LOOSE, "*", "+", "?")
+        return (f"({text_of(parts[0])})" if loose else text_of(parts[0])) + form
+    if form in LOOSE:
+        relation = "" if value is None else f" {RELATIONS[value]}"
+        return ("!" if form == "not" else f"{form}{relation} ") + text_of(parts[0], True)
+    if form == "keyword":
+        return f'"{value}"'
+    return value if form == "rule" else form
+
+
 class Rule(NamedTuple):
+    """A rule: its name, where it stands, and the expression that it stands for."""
+
     name: str
     place: Place
     expression: Expression
@@ -368,11 +391,15 @@ def unused(source):
 
 
 class Origin(NamedTuple):
-    """Where a node was first made: in which rule, at which place, and by which of token, line and end, if by one."""
+    """Where a node was first made: in which rule, for which expression, and by which of token, line and end, if by one."""
 
     rule: str
-    place: Place
+    expression: Expression
     built_in: Optional[str] = None
+
+    @property
+    def place(self):
+        return self.expression.place
 
 
 class Grammar:
@@ -408,11 +435,11 @@ class Grammar:
 
     def number(self, rule, expression):
         """The number of an expression's node. Those inside it have lower ones."""
-        form, place, parts, value = expression
-        origin = Origin(rule, place)
+        form, _, parts, value = expression
+        origin = Origin(rule, expression)
         inner = [self.number(rule, part) for part in parts]
         if form in ("sequence", "choice"):
-            return self.folded(KINDS.index(form), inner, [Origin(rule, part.place) for part in parts])
+            return self.folded(KINDS.index(form), inner, [Origin(rule, part) for part in parts])
         if form in ("not", "align"):
             return self.node(origin, KINDS.index(form), inner[0])
         if form in ("indent", "position"):
@@ -620,7 +647,7 @@ def well_formed_faults(grammar):
         number = facts.next_bad(number)
     if number is None:
         origin = grammar.origins[path[-1]]
-        text = f"rule {origin.rule}: this is repeated, and may succeed without reading a token, so it might never end"
+        text = f"rule {origin.rule}: {text_of(origin.expression)} repeats what may succeed without reading a token"
         return [Fault(origin.place, text, 7, lowest)]
     cycle = [grammar.nodes[at][1] for at in path[path.index(number) :] if grammar.nodes[at][0] == RULE]
     first = cycle.index(min(cycle))

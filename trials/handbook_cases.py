@@ -73,27 +73,7 @@ def form(words):
 
 def rule_texts(table):
     """Each rule as it is written, on one line."""
-    return {rule.name: f"{rule.name} = {spelled(rule.expression)}" for rule in table.source.rules}
-
-
-def spelled(expression, tight=False):
-    """An expression in the notation. Tight: as the part of one that binds closer."""
-    form, _, parts, value = expression
-    if form in ("sequence", "choice"):
-        between = " " if form == "sequence" else " / "
-        inner = between.join(spelled(part, form == "sequence" and part.form in ("choice", "sequence")) for part in parts)
-        return f"({inner})" if tight else inner
-    if form in ("*", "+", "?"):
-        loose = parts[0].form in ("sequence", "choice", "not", "align", "indent", "position")
-        return (f"({spelled(parts[0])})" if loose else spelled(parts[0])) + form
-    if form == "not":
-        return f"!{spelled(parts[0], True)}"
-    if form in ("align", "indent", "position"):
-        relation = "" if value is None else f" {build.RELATIONS[value]}"
-        return f"{form}{relation} {spelled(parts[0], True)}"
-    if form == "keyword":
-        return f'"{value}"'
-    return value if form == "rule" else form
+    return {rule.name: f"{rule.name} = {build.text_of(rule.expression)}" for rule in table.source.rules}
 
 
 def grammar_part(grammar):

@@ -148,8 +148,17 @@ class Nodes(unittest.TestCase):
         grammar = nodes_of('entry = "loss" ":"\n  number eol\nreport = entry* end')
         self.assertEqual([str(o.place) for o in grammar.origins[:4]], ["4:9", "4:16", "5:3", "5:10"])
         self.assertEqual({o.rule for o in grammar.origins[:7]}, {"entry"})
-        self.assertEqual(grammar.origins[-2][:2], ("report", (6, 17)))
-        self.assertEqual(grammar.origins[-2].built_in, "end")
+        last = grammar.origins[-2]
+        self.assertEqual((last.rule, str(last.place), last.built_in), ("report", "6:17", "end"))
+
+    def test_texts(self):
+        """An expression in the notation reads as the same expression; random ones too."""
+        chance = random.Random(SEED)
+        for _ in range(GRAMMARS):
+            grammar = build.grammar_of(random_grammar(chance))
+            rules = "\n".join(f"{rule.name} = {build.text_of(rule.expression)}" for rule in grammar.source.rules)
+            again = build.grammar_of(f'keywords "a" "b"\nstart r0\nmode any\n{rules}\n')
+            self.assertEqual((again.nodes, again.rules), (grammar.nodes, grammar.rules), rules)
 
 
 def children(grammar, number, spelled):
@@ -241,17 +250,17 @@ class Refusals(unittest.TestCase):
                          "token, line and end take 514 of them, for 253 keywords (the reader would answer: refused 3)")
 
     def test_7(self):
-        reads = "this is repeated, and may succeed without reading a token, so it might never end"
+        reads = "repeats what may succeed without reading a token"
         comes = "is left recursive: it comes back to itself before a token is read,"
         for rules, place, text, answer in (
-            ("report = empty*", "4:10", f"rule report: {reads}", "refused 7 1"),
-            ("report = end*", "4:10", f"rule report: {reads}", "refused 7 12"),
-            ("report = (word?\n eol?)+", "4:11", f"rule report: {reads}", "refused 7 6"),
+            ("report = empty*", "4:10", f"rule report: empty* {reads}", "refused 7 1"),
+            ("report = end*", "4:10", f"rule report: end* {reads}", "refused 7 12"),
+            ("report = (word?\n eol?)+", "4:11", f"rule report: (word? eol?)+ {reads}", "refused 7 6"),
             ("report = report word", "4:1", f"rule report {comes} report -> report", "refused 7 0"),
             ("report = word b\nb = word? c\nc = !eol b", "5:1", f"rule b {comes} b -> c -> b", "refused 7 1"),
-            ("report = word other\nother = word (eol?)*", "5:15", f"rule other: {reads}", "refused 7 6"),
-            ("report = word other\nother = (eol?)* word", "5:10", f"rule other: {reads}", "refused 7 1"),
-            ("report = word\nother = align (indent any other)", "5:1", f"rule other {comes} other -> other", "refused 7 1"),
+            ("report = word b\nb = word (eol?)*", "5:11", f"rule b: (eol?)* {reads}", "refused 7 6"),
+            ("report = word b\nb = (eol / !word)* word", "5:6", f"rule b: (eol / !word)* {reads}", "refused 7 1"),
+            ("report = word\nb = align (indent any b)", "5:1", f"rule b {comes} b -> b", "refused 7 1"),
         ):
             self.same(HEAD + rules, answer)
             self.assertEqual(first_line(HEAD + rules), f"x:{place}: {text} (the reader would answer: {answer})")
