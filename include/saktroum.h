@@ -38,6 +38,8 @@
 #ifndef SAKTROUM_H
 #define SAKTROUM_H
 
+#define SAKTROUM_VERSION "0.1.0"
+
 #include <stdbool.h>
 #include <stddef.h>
 #include <stdint.h>
