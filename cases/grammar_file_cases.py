@@ -10,17 +10,17 @@ function. A comment quotes the words of document 01 that decide it.
 """
 
 import itertools
-import os
-import pathlib
 
-from grammar_fields import EMPTY, START, TAIL, VERSION, field, keyword, node, rule, start, with_keywords
+import faults
+from grammar_fields import (
+    EMPTY, EVERY_KIND, NINE, START, TAIL, VERSION, field, file, keyword, keywords, largest, node, nodes, rule, rules, start,
+    with_keywords, with_names,
+)
+from records import Cases, Payloads, spaced, wide
+from table_nodes import flat
 
-CRATE = pathlib.Path(__file__).resolve().parent.parent / "crates" / "grammar_file_cases"
-
-records = []
-lines = []
-labels = set()
-payload_before = b""
+CASES = Cases("grammar_file_cases")
+BEFORE = Payloads()
 
 
 # --- Records and lines ---------------------------------------------------------------------------
@@ -28,27 +28,8 @@ payload_before = b""
 
 def record(kind, label, x, y, payload, line):
     """One call and the line expected of it. The layout is that of the program's first comment."""
-    global payload_before
-    assert label not in labels, label
-    labels.add(label)
-    same = len(os.path.commonprefix([payload_before, payload]))
-    payload_before = payload
-    name = label.encode()
-    records.append(
-        kind.encode()
-        + bytes([len(name)])
-        + x.to_bytes(2, "big")
-        + y.to_bytes(2, "big")
-        + same.to_bytes(3, "big")
-        + len(payload).to_bytes(3, "big")
-        + name
-        + payload[same:]
-    )
-    lines.append(f"{label}: {line}\n")
-
-
-def spaced(head, numbers):
-    return " ".join([head] + [str(n) for n in numbers])
+    same, rest = BEFORE.front(payload)
+    CASES.add(label, line, kind.encode(), wide(2, x, y) + wide(3, same, len(payload)), rest)
 
 
 def reads(label, answer, file, lent=(64, 16), words=None):
@@ -110,20 +91,9 @@ short("small 6, 1 node and 3 words", (1, 0, 0, 0, 0), VERSION + EMPTY + START, (
 
 # The same files with the fault put right.
 reads("smallest file", (1, 0, 0, 0, 0), VERSION + EMPTY + START, (4, 0), ([(0, 0, 0, 0)], []))
-reads(
-    "repeat of an earlier node",
-    (2, 0, 0, 1, 0),
-    VERSION + EMPTY + node(6, 0) + start(1),
-    (8, 0),
-    ([(0, 0, 0, 0), (6, 0, 0, 0)], []),
-)
-reads(
-    "rule 0 is node 0 of 1",
-    (1, 1, 0, 0, 0),
-    VERSION + rule(0, b"r") + EMPTY + START,
-    (4, 1),
-    ([(0, 0, 0, 0)], [0]),
-)
+reads("repeat of an earlier node", (2, 0, 0, 1, 0), VERSION + EMPTY + node(6, 0) + start(1), (8, 0),
+      ([(0, 0, 0, 0), (6, 0, 0, 0)], []))
+reads("rule 0 is node 0 of 1", (1, 1, 0, 0, 0), VERSION + rule(0, b"r") + EMPTY + START, (4, 1), ([(0, 0, 0, 0)], [0]))
 
 # A file byte by byte, written out: the two-byte numbers are high byte first.
 reads(
@@ -215,13 +185,7 @@ refused("keyword length low byte first", 1, VERSION + b"\x02\x01\x00a" + TAIL)
 
 # --- Order, number and lengths of fields ---------------------------------------------------------
 
-FIVE = {
-    1: VERSION,
-    2: keyword(b"k"),
-    3: rule(0, b"r"),
-    4: EMPTY,
-    5: START,
-}
+FIVE = {1: VERSION, 2: keyword(b"k"), 3: rule(0, b"r"), 4: EMPTY, 5: START}
 
 
 def tags(order):
@@ -344,13 +308,8 @@ for count in (513, 514, 520, 768, 1024, 1025):
 
 # 512 nodes, all different: terminals 0 to 255, then sequences.
 MANY = [(1, i, 0, 0) for i in range(256)] + [(3, i - 1, i - 256, 0) for i in range(256, 512)]
-reads(
-    "512 different nodes",
-    (512, 0, 0, 511, 3),
-    VERSION + b"".join(node(*n) for n in MANY) + start(511, 3),
-    (2048, 0),
-    (MANY, []),
-)
+reads("512 different nodes", (512, 0, 0, 511, 3), VERSION + b"".join(node(*n) for n in MANY) + start(511, 3), (2048, 0),
+      (MANY, []))
 
 # "0 to 128 rules": past it "rule count outside the limits".
 NAMES = [b"rule%d" % i for i in range(400)]
@@ -358,13 +317,9 @@ reads("127 rules", (1, 127, 0, 0, 0), with_names(*NAMES[:127]), WIDE, ([EMPTY_WO
 reads("128 rules", (1, 128, 0, 0, 0), with_names(*NAMES[:128]), WIDE, ([EMPTY_WORDS], [0] * 128))
 for count in (129, 130, 255, 256, 257, 384):
     refused(f"{count} rules", 3, with_names(*NAMES[:count]), WIDE)
-reads(
-    "128 rules of different nodes",
-    (130, 128, 0, 0, 0),
-    VERSION + b"".join(rule(129 - i, NAMES[i]) for i in range(128)) + EMPTY * 130 + START,
-    (520, 128),
-    ([EMPTY_WORDS] * 130, [129 - i for i in range(128)]),
-)
+reads("128 rules of different nodes", (130, 128, 0, 0, 0),
+      VERSION + b"".join(rule(129 - i, NAMES[i]) for i in range(128)) + EMPTY * 130 + START, (520, 128),
+      ([EMPTY_WORDS] * 130, [129 - i for i in range(128)]))
 
 # "At most 253 keywords"; "over 253 keywords" is 1.
 SPELLINGS = [b"word%d" % i for i in range(520)]
@@ -446,11 +401,8 @@ for byte in b":,()[]=;%":
     reads(f"name `a{said}`", (1, 1, 0, 0, 0), with_names(b"a" + sign))
     reads(f"name `{said}a`", (1, 1, 0, 0, 0), with_names(sign + b"a"))
     reads(f"name `{said}{said}`", (1, 1, 0, 0, 0), with_names(sign + sign))
-reads(
-    "the nine single bytes as keywords",
-    (1, 0, 9, 0, 0),
-    with_keywords(b":", b",", b"(", b")", b"[", b"]", b"=", b";", b"%"),
-)
+reads("the nine single bytes as keywords", (1, 0, 9, 0, 0),
+      with_keywords(b":", b",", b"(", b")", b"[", b"]", b"=", b";", b"%"))
 reads("the nine single bytes in one name", (1, 1, 0, 0, 0), with_names(b":,()[]=;%"))
 
 # One bad spelling among good ones, at every place.
@@ -461,13 +413,8 @@ for place in range(4):
     refused(f"bad name at {place} of 4", 2, with_names(*texts))
 
 # A rule's node number is no part of its name: its bytes may be anything.
-reads(
-    "rule with node bytes 0 and 32",
-    (33, 1, 0, 0, 0),
-    VERSION + rule(32, b"r") + EMPTY * 33 + START,
-    (140, 1),
-    ([EMPTY_WORDS] * 33, [32]),
-)
+reads("rule with node bytes 0 and 32", (33, 1, 0, 0, 0), VERSION + rule(32, b"r") + EMPTY * 33 + START, (140, 1),
+      ([EMPTY_WORDS] * 33, [32]))
 
 
 # --- Distinct within their tag -------------------------------------------------------------------
@@ -514,11 +461,7 @@ for kind, build, answer in (
         refused(f"{kind}s {i} and {j} of 128 equal", 2, build(*texts), WIDE)
 
 # A keyword may equal a name: only "within their tag".
-reads(
-    "keyword equal to a name",
-    (1, 1, 1, 0, 0),
-    VERSION + keyword(b"same") + rule(0, b"same") + TAIL,
-)
+reads("keyword equal to a name", (1, 1, 1, 0, 0), VERSION + keyword(b"same") + rule(0, b"same") + TAIL)
 # Two rules of one node are two rules; equal names of different nodes are equal names.
 reads("two rules of one node", (1, 2, 0, 0, 0), VERSION + rule(0, b"r") + rule(0, b"s") + TAIL)
 refused("equal names of different nodes", 2, VERSION + rule(0, b"r") + rule(1, b"r") + EMPTY + TAIL)
@@ -623,13 +566,7 @@ for relation in (256, 259, 65535):
 for kind in (3, 4, 5, 6, 7, 8, 9):
     refused(f"node 0 of kind {kind} with child 0", 4, VERSION + node(kind) + START)
     table(f"table, node 0 of kind {kind} with child 0", [kind, 0, 0, 0], [], "refused 4")
-reads(
-    "node 0 a terminal",
-    (1, 0, 0, 0, 0),
-    VERSION + node(1, 255) + START,
-    (4, 0),
-    ([(1, 255, 0, 0)], []),
-)
+reads("node 0 a terminal", (1, 0, 0, 0, 0), VERSION + node(1, 255) + START, (4, 0), ([(1, 255, 0, 0)], []))
 # "no such rule": there is none at all.
 refused("rule 0 of none", 4, VERSION + node(2, 0) + START)
 table("table, rule 0 of none", (2, 0, 0, 0), [], "refused 4")
@@ -648,31 +585,16 @@ reads("rule 1 of 2", (1, 2, 0, 0, 0), VERSION + rule(0, b"r") + rule(0, b"s") + 
 
 # "a rule may stand for any node", also a later one or the one that names it. Well-formedness, 7, is
 # none of the file reader's: it "uses 1 to 6".
-reads(
-    "rule of a later node",
-    (2, 1, 0, 0, 0),
-    VERSION + rule(1, b"r") + node(2, 0) + EMPTY + START,
-    (8, 1),
-    ([(2, 0, 0, 0), (0, 0, 0, 0)], [1]),
-)
-reads(
-    "rule of itself",
-    (1, 1, 0, 0, 0),
-    VERSION + rule(0, b"r") + node(2, 0) + START,
-    (4, 1),
-    ([(2, 0, 0, 0)], [0]),
-)
+reads("rule of a later node", (2, 1, 0, 0, 0), VERSION + rule(1, b"r") + node(2, 0) + EMPTY + START, (8, 1),
+      ([(2, 0, 0, 0), (0, 0, 0, 0)], [1]))
+reads("rule of itself", (1, 1, 0, 0, 0), VERSION + rule(0, b"r") + node(2, 0) + START, (4, 1), ([(2, 0, 0, 0)], [0]))
 
 # "Two-byte numbers inside values are high byte first": 256 is 01 00 and 258 is 01 02. With the bytes
 # changed over they would be 1 and 513; 1 changed over is 256.
 HIGH = [(0, 0, 0, 0)] * 297 + [(3, 256, 258, 0), (4, 258, 1, 0), (6, 256, 0, 0)]
-reads(
-    "children 256 and 258 of 300",
-    (300, 2, 0, 258, 1),
-    VERSION + rule(256, b"r") + rule(258, b"s") + b"".join(node(*n) for n in HIGH) + start(258, 1),
-    (1200, 2),
-    (HIGH, [256, 258]),
-)
+reads("children 256 and 258 of 300", (300, 2, 0, 258, 1),
+      VERSION + rule(256, b"r") + rule(258, b"s") + b"".join(node(*n) for n in HIGH) + start(258, 1), (1200, 2),
+      (HIGH, [256, 258]))
 for child, last in ((256, 257), (255, 256), (299, 300), (510, 511)):
     file = VERSION + EMPTY * last + node(5, child) + START
     reads(f"child {child} of node {last}", (last + 1, 0, 0, 0, 0), file, WIDE)
@@ -761,39 +683,20 @@ for number, said, file, lent in (
     (1, "1 before 2, 254 keywords, first bad", with_keywords(b"a b", *SPELLINGS[:253]), SMALL),
     (1, "1 before 2, 254 keywords, last bad", with_keywords(*SPELLINGS[:253], b"a b"), SMALL),
     (1, "1 before 2, 254 keywords, all equal", with_keywords(*[b"a"] * 254), SMALL),
-    (
-        1,
-        "1 before 2, keyword of 33 bytes and an unknown tag",
-        VERSION + keyword(b"a" * 33) + field(6, b"") + TAIL,
-        SMALL,
-    ),
-    (
-        1,
-        "1 before 2, empty name and a tag 3 of 1 byte",
-        VERSION + rule(0, b"") + field(3, b"\0") + TAIL,
-        SMALL,
-    ),
+    (1, "1 before 2, keyword of 33 bytes and an unknown tag", VERSION + keyword(b"a" * 33) + field(6, b"") + TAIL,
+     SMALL),
+    (1, "1 before 2, empty name and a tag 3 of 1 byte", VERSION + rule(0, b"") + field(3, b"\0") + TAIL, SMALL),
     (1, "1 before 3, no node and no tag 5", VERSION, SMALL),
     (1, "1 before 3, 513 nodes and a byte more", VERSION + EMPTY * 513 + START + b"\0", WIDE),
     (1, "1 before 3, 129 rules and a keyword", RULES_129 + keyword(b"k") + TAIL, WIDE),
-    (
-        1,
-        "1 before 4, kind 10 and a node of 7 bytes",
-        VERSION + node(10) + field(4, bytes(7)) + START,
-        SMALL,
-    ),
+    (1, "1 before 4, kind 10 and a node of 7 bytes", VERSION + node(10) + field(4, bytes(7)) + START, SMALL),
     (1, "1 before 5, mode 9 and a byte more", VERSION + EMPTY + start(0, 9) + b"\x05", SMALL),
     (1, "1 before 6, no word lent and a byte more", ONE_NODE + b"\0", (0, 0)),
     (2, "2 before 3, 129 rules, one name bad", with_names(*NAMES[:128], b"a b"), WIDE),
     (2, "2 before 3, 129 rules, two names equal", with_names(*NAMES[:128], NAMES[0]), WIDE),
     (2, "2 before 3, 384 rules, last name bad", with_names(*NAMES[:383], b"\x7f"), WIDE),
     (2, "2 before 3, equal keywords, no node", VERSION + keyword(b"k") * 2 + START, SMALL),
-    (
-        2,
-        "2 before 3, bad keyword and 513 nodes",
-        VERSION + keyword(b"a:") + EMPTY * 513 + START,
-        WIDE,
-    ),
+    (2, "2 before 3, bad keyword and 513 nodes", VERSION + keyword(b"a:") + EMPTY * 513 + START, WIDE),
     (2, "2 before 4, bad name and kind 10", VERSION + rule(0, b"a b") + node(10) + START, SMALL),
     (2, "2 before 5, bad name of a node not there", VERSION + rule(9, b"a b") + TAIL, SMALL),
     (2, "2 before 6, bad keyword and no word lent", with_keywords(b""), (0, 0)),
@@ -807,12 +710,8 @@ for number, said, file, lent in (
     (3, "3 before 6, 513 nodes and 2051 words", VERSION + EMPTY * 513 + START, (2051, 0)),
     (3, "3 before 6, 129 rules and 128 words", with_names(*NAMES[:129]), (4, 128)),
     (4, "4 before 5, kind 10 and a bad rule node", VERSION + rule(1, b"r") + node(10) + START, SMALL),
-    (
-        4,
-        "4 before 5, last node bad and a bad first rule node",
-        VERSION + rule(9, b"r") + EMPTY + node(6, 1) + START,
-        SMALL,
-    ),
+    (4, "4 before 5, last node bad and a bad first rule node", VERSION + rule(9, b"r") + EMPTY + node(6, 1) + START,
+     SMALL),
     (4, "4 before 5, kind 10 and mode 9", VERSION + node(10) + start(0, 9), SMALL),
     (4, "4 before 6, kind 10 and no word lent", VERSION + node(10) + START, (0, 0)),
     (5, "5 before 6, bad start and no word lent", VERSION + EMPTY + start(1), (0, 0)),
@@ -948,7 +847,5 @@ table("table, kind 10 and a bad rule node", [10, 0, 0, 0], [1], "refused 4")
 table("table, last node bad and a bad first rule node", [0] * 4 + [6, 1, 0, 0], [2, 0], "refused 4")
 
 
-(CRATE / "data").mkdir(parents=True, exist_ok=True)
-(CRATE / "data" / "cases").write_bytes(b"".join(records))
-(CRATE / "stdout").write_bytes("".join(lines).encode())
-print(f"{len(records)} calls, {sum(map(len, records))} bytes")
+if __name__ == "__main__":
+    CASES.write()

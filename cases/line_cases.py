@@ -4,33 +4,24 @@ Every single answer stands beside its inputs and was worked out by hand from the
 there; a family of cases has one answer for all, or the rule that gives each, in its loop. Nothing here reads a
 grammar file, scans a report or runs a grammar.
 
-A record: the label's length (one byte), ten numbers of three bytes each, high byte first, the label, the
-stored bytes of the grammar file, the stored bytes of the report. The first five numbers tell how the file is
-stored, the others how the report is (stored_bytes.py); what is shared is shared with the record before, at
-first with no bytes.
+A record has no kind and no numbers of its own: how the file is stored, how the report is, the label, the two.
 """
 
-import pathlib
-
+import grammar_fields
 from grammar_fields import EMPTY as EMPTY_FIELD
-from grammar_fields import START, TAIL, VERSION, field, keyword, node, rule, start, with_keywords
-from stored_bytes import stored
-from table_nodes import EMPTY, align, choice, indent, not_, position, repeat, seq
+from grammar_fields import NINE, START, TAIL, VERSION, field, keyword, node, rule, start, with_keywords, with_names
+from records import Cases, Pairs, spaced
+from table_nodes import (
+    ANY, AT_LEAST, EMPTY, EQUAL, GREATER, align, choice, indent, not_, over, position, repeat, seq, terminal as term,
+)
 from table_nodes import rule as call
-
-ROOT = pathlib.Path(__file__).resolve().parent.parent
 
 # 5: lines of four bytes and a break. 35: keywords of 32 bytes. 8200: two equal lines of 8,199 bytes.
 DISTANCES = (1, 2, 3, 4, 8, 9, 16, 5, 6, 7, 10, 35, 8200)
+CASES = Cases("line_cases")
+PAIRS = Pairs(100, DISTANCES)
 
-# "Relations: 0 equal, 1 greater, 2 at least, 3 any"; "The same four numbers are token modes."
-EQUAL, GREATER, AT_LEAST, ANY = 0, 1, 2, 3
 MODES = (("equal", EQUAL), ("greater", GREATER), ("at least", AT_LEAST), ("any", ANY))
-
-
-def term(terminal):
-    return (1, terminal, 0, 0)
-
 
 # "3 + k where the spelling equals keyword k ..; else 0 for a number .. else 1"; a line's end is 2.
 NUMBER, WORD, END = term(0), term(1), term(2)
@@ -38,12 +29,11 @@ A, B, C = term(3), term(4), term(5)
 # Tokens by themselves can stand side by side: ` :,` is a at column 1 and b at column 2.
 KEYS = (b":", b",", b";")
 
-CASES = []
-
 
 def case(label, file, report, line):
     """A grammar file, a report, and the line expected of them."""
-    CASES.append((label, file, report, line))
+    assert label == label.lower() and len(label) < 100
+    CASES.add(label, line, b"", *PAIRS.stretch(file, report))
 
 
 def success(read, lower, upper):
@@ -68,22 +58,13 @@ def refused(number, *node_number):
     4,096 tokens, columns at most 65,535". Nor does 12: the start is "token 0, interval 0 without end, flag
     clear", and a start node outside the table or a mode over 3 is 5 already.
     """
-    return " ".join(["refused", str(number), *map(str, node_number)])
-
-
-def fields(nodes):
-    return b"".join(node(*n) for n in nodes)
+    return spaced("refused", (number, *node_number))
 
 
 def grammar(nodes, mode, keywords=KEYS, rules=(), first=None):
     """A file of these nodes; the rules are node numbers, named r0, r1, ...; the start is the last node."""
-    return (
-        VERSION
-        + b"".join(keyword(k) for k in keywords)
-        + b"".join(rule(n, b"r%d" % i) for i, n in enumerate(rules))
-        + fields(nodes)
-        + start(len(nodes) - 1 if first is None else first, mode)
-    )
+    pairs = [(number, b"r%d" % i) for i, number in enumerate(rules)]
+    return grammar_fields.file(nodes, len(nodes) - 1 if first is None else first, mode, keywords, pairs)
 
 
 NOTHING = VERSION + TAIL
@@ -595,7 +576,6 @@ case("a keyword is no number", grammar([NUMBER], ANY, (b"12",)), b"12", FAILURE)
 case("a keyword is no word", grammar([WORD], ANY, (b"loss",)), b"loss", FAILURE)
 case("012 is not the keyword 12", grammar([NUMBER], ANY, (b"12",)), b"012", success(1, 0, "inf"))
 # "The bytes `: , ( ) [ ] = ; %` are tokens by themselves"; without a keyword each is terminal 1.
-NINE = b":,()[]=;%"
 case("nine single bytes", grammar([WORD, repeat(0)], ANY, ()), NINE, success(9, 0, "inf"))
 case("nine single bytes as keywords",
      grammar([*(term(3 + i) for i in range(9)), seq(7, 8), *(seq(6 - i, 9 + i) for i in range(7))], ANY,
@@ -814,12 +794,12 @@ BAD = (
 )
 for name, spelling in BAD:
     case(f"keyword of {name}", with_keywords(spelling), EXAMPLE, refused(2))
-    case(f"rule name of {name}", VERSION + rule(0, spelling) + TAIL, EXAMPLE, refused(2))
+    case(f"rule name of {name}", with_names(spelling), EXAMPLE, refused(2))
 for byte in NINE:
     case(f"keyword x and byte {byte}", with_keywords(b"x" + bytes([byte])), EXAMPLE, refused(2))
     case(f"keyword of byte {byte} twice", with_keywords(bytes([byte, byte])), EXAMPLE, refused(2))
     # Only keywords have that rule.
-    case(f"rule name x and byte {byte}", VERSION + rule(0, b"x" + bytes([byte])) + TAIL, EXAMPLE,
+    case(f"rule name x and byte {byte}", with_names(b"x" + bytes([byte])), EXAMPLE,
          EMPTY_ANSWER)
 case("keyword twice", with_keywords(b"loss", b":", b"loss"), EXAMPLE, refused(2))
 case("single byte keyword twice", with_keywords(b":", b":"), EXAMPLE, refused(2))
@@ -836,7 +816,7 @@ for name, spelling in (
 ):
     case(f"keyword that passes, {name}", grammar([term(3)], EQUAL, (spelling,)), b" " + spelling,
          success(1, 1, 1))
-    case(f"rule name that passes, {name}", VERSION + rule(0, spelling) + TAIL, b"", EMPTY_ANSWER)
+    case(f"rule name that passes, {name}", with_names(spelling), b"", EMPTY_ANSWER)
 # Keywords that differ only in the last byte, or by one byte more.
 case("keywords alike up to the last byte", grammar([term(4)], ANY, (b"x" * 32, b"x" * 31 + b"y")),
      b"x" * 31 + b"y", success(1, 0, "inf"))
@@ -860,12 +840,12 @@ case("513 nodes, start at the last", grammar([EMPTY] * 513, ANY), EXAMPLE, refus
 case("513 nodes, start at the first", grammar([EMPTY] * 513, ANY, first=0), EXAMPLE, refused(3))
 case("1,024 nodes", grammar([EMPTY] * 1024, ANY), EXAMPLE, refused(3))
 # 511 indents under greater: from 511 on. w600: 600 to 600, out 511 times h-1: 89. w511: 0. w510 is outside.
-NEST = grammar([WORD, *(indent(i) for i in range(511))], EQUAL)
+NEST = grammar(over([WORD], indent), EQUAL)
 case("511 indents and column 600", NEST, b" " * 600 + b"w", success(1, 0, 89))
 case("511 indents and column 511", NEST, b" " * 511 + b"w", success(1, 0, 0))
 case("511 indents and column 510", NEST, b" " * 510 + b"w", FAILURE)
 # The same chain from node 258: 258 indents. 300 - 258 = 42.
-case("258 indents and column 300", grammar([WORD, *(indent(i) for i in range(511))], EQUAL, first=258),
+case("258 indents and column 300", grammar(over([WORD], indent), EQUAL, first=258),
      b" " * 300 + b"w", success(1, 0, 42))
 # 128 rules: node i is rule i + 1, node 127 a word, rule i stands for node i.
 CHAIN = [*(call(i + 1) for i in range(127)), WORD]
@@ -876,15 +856,13 @@ case("128 rules, from the last", grammar([*CHAIN, call(127)], AT_LEAST, rules=ra
 case("129 rules", grammar(CHAIN, AT_LEAST, rules=[*range(128), 0], first=0), b"  w", refused(3))
 case("129 rules for one node", grammar([EMPTY], ANY, rules=[0] * 129), b"  w", refused(3))
 case("128 rules for one node", grammar([EMPTY], ANY, rules=[0] * 128), b"  w", EMPTY_ANSWER)
-case("129 rules and no node", VERSION + b"".join(rule(0, b"r%d" % i) for i in range(129)) + START, EXAMPLE,
+case("129 rules and no node", VERSION + grammar_fields.rules((0, b"r%d" % i) for i in range(129)) + START, EXAMPLE,
      refused(3))
 # The longest file that passes: 4 + 253 * 35 + 128 * 37 + 512 * 9 + 6 = 18,209 bytes.
-LONGEST = (
-    VERSION
-    + b"".join(keyword(b"the-keyword-of-32-bytes-no-%05d" % i) for i in range(253))
-    + b"".join(rule(511, b"the-rule-name-of-32-bytes-no-%03d" % i) for i in range(128))
-    + fields([term(255)] * 512)
-    + start(511, GREATER)
+LONGEST = grammar_fields.file(
+    [term(255)] * 512, 511, GREATER,
+    [b"the-keyword-of-32-bytes-no-%05d" % i for i in range(253)],
+    [(511, b"the-rule-name-of-32-bytes-no-%03d" % i) for i in range(128)],
 )
 assert len(LONGEST) == 18209
 case("longest file that passes", LONGEST, b"    the-keyword-of-32-bytes-no-00252", success(1, 0, 3))
@@ -1157,7 +1135,7 @@ FILES = (
     (3, "only", VERSION + EMPTY_FIELD * 513 + START, refused(3)),
     (3, "and 4", VERSION + EMPTY_FIELD * 512 + BAD_NODE + START, refused(3)),
     (3, "and 5", VERSION + START, refused(3)),
-    (3, "and 5 by a rule", VERSION + b"".join(rule(9, b"r%d" % i) for i in range(129)) + TAIL, refused(3)),
+    (3, "and 5 by a rule", VERSION + grammar_fields.rules((9, b"r%d" % i) for i in range(129)) + TAIL, refused(3)),
     (3, "and 7", VERSION + EMPTY_FIELD * 512 + node(6) + START, refused(3)),
     (4, "only", VERSION + BAD_NODE + START, refused(4)),
     (4, "and 5 by the start", VERSION + BAD_NODE + start(1, 0), refused(4)),
@@ -1222,32 +1200,9 @@ case("4,096 tokens and a line end at 65,536", COUNT, b"\t" * 7680 + b":" * 4096,
 case("4,096 tokens and a line end at 65,535", COUNT, b"\t" * 7679 + b" " * 7 + b":" * 4096, refused(10))
 # Each before a failure or a success of the grammar: nothing runs.
 case("7 where the start would succeed", VERSION + EMPTY_FIELD + node(6) + start(0, 0), EXAMPLE, refused(7, 1))
-case("7 where the start would fail", VERSION + fields([A, EMPTY, repeat(1)]) + start(0, 0), EXAMPLE,
+case("7 where the start would fail", grammar([A, EMPTY, repeat(1)], EQUAL, (), first=0), EXAMPLE,
      refused(7, 2))
 
 
-def three(number):
-    return number.to_bytes(3, "big")
-
-
-def main():
-    data, lines, labels = bytearray(), [], set()
-    file_before = report_before = b""
-    for label, file, report, line in CASES:
-        name = label.encode()
-        assert label == label.lower() and len(name) < 100 and label not in labels, label
-        labels.add(label)
-        file_numbers, file_bytes = stored(file_before, file, 100, DISTANCES)
-        report_numbers, report_bytes = stored(report_before, report, 100, DISTANCES)
-        data += bytes([len(name)]) + b"".join(map(three, file_numbers + report_numbers))
-        data += name + file_bytes + report_bytes
-        lines.append(f"{label}: {line}\n")
-        file_before, report_before = file, report
-    out = ROOT / "crates" / "line_cases"
-    (out / "data").mkdir(parents=True, exist_ok=True)
-    (out / "data" / "cases").write_bytes(bytes(data))
-    (out / "stdout").write_bytes("".join(lines).encode())
-
-
 if __name__ == "__main__":
-    main()
+    CASES.write()

@@ -9,166 +9,58 @@ the comment above a run gives the steps. "l..h" is an interval, "l.." has no upp
 A record is a header of 29 bytes, the label and three parts; all numbers are high byte first.
 """
 
-import pathlib
-import re
 import sys
 
 import grammar_fields
-import table_nodes
+from expressions import EPS, Table, al, alt, ind, named_columns, no, opt, plus, pos, r, seq, star, t
+from records import Cases, begin, wide
+from table_nodes import ANY
+from table_nodes import AT_LEAST as GE
+from table_nodes import EQUAL as EQ
+from table_nodes import GREATER as GT
+from table_nodes import flat
 
-EQ, GT, GE, ANY = 0, 1, 2, 3
-EPS = ("empty",)
-
-
-def t(number):
-    return ("terminal", number)
-
-
-def r(name):
-    return ("rule", name)
-
-
-def seq(first, *rest):
-    """A sequence, grouped to the right."""
-    return ("seq", first, seq(*rest)) if rest else first
-
-
-def alt(first, *rest):
-    """An ordered choice, grouped to the right."""
-    return ("choice", first, alt(*rest)) if rest else first
-
-
-def no(e):
-    return ("not", e)
-
-
-def star(e):
-    return ("repeat", e)
-
-
-def plus(e):
-    return seq(e, star(e))
-
-
-def opt(e):
-    return alt(e, EPS)
-
-
-def ind(relation, e):
-    return ("indent", relation, e)
-
-
-def pos(relation, e):
-    return ("position", relation, e)
-
-
-def al(e):
-    return ("align", e)
-
-
-class Table:
-    """Nodes from expressions: children first, left before right, equal expressions once.
-    The rules are laid out in their order, then the start."""
-
-    def __init__(self, rules, start):
-        self.nodes, self.seen, self.numbers = [], {}, {name: k for k, name in enumerate(rules)}
-        self.rules = [self.put(e) for e in rules.values()]
-        self.start = self.put(start)
-
-    def put(self, e):
-        if e not in self.seen:
-            row = self.row(e)
-            self.seen[e] = len(self.nodes)
-            self.nodes.append(row)
-        return self.seen[e]
-
-    def row(self, e):
-        kind = e[0]
-        if kind == "empty":
-            return table_nodes.EMPTY
-        if kind == "terminal":
-            return (1, e[1], 0, 0)
-        if kind == "rule":
-            return table_nodes.rule(self.numbers[e[1]])
-        if kind in ("seq", "choice"):
-            a, b = self.put(e[1]), self.put(e[2])
-            return (table_nodes.seq if kind == "seq" else table_nodes.choice)(a, b)
-        if kind in ("indent", "position"):
-            a = self.put(e[2])
-            return (table_nodes.indent if kind == "indent" else table_nodes.position)(a, e[1])
-        a = self.put(e[1])
-        return {"not": table_nodes.not_, "repeat": table_nodes.repeat, "align": table_nodes.align}[kind](a)
-
-
-RUNS = []
+CASES = Cases("published")
+ROWS = []
 
 
 def run(label, source, shows, expected, start, tokens="", rules=None, names="a b c d e",
         low=0, high=None, flag=0, mode=EQ, place=0):
     """A run of a table. Tokens are written as name and column: `a2 b3`."""
-    table = Table(rules or {}, start)
-    names = names.split()
-    words = []
-    for k, item in enumerate(tokens.split()):
-        name, column = re.fullmatch(r"(.*?)(\d+)", item).groups()
-        words += [names.index(name), int(column), k, 1]
-    parts = [
-        b"".join(w.to_bytes(2, "big") for row in table.nodes for w in row),
-        b"".join(w.to_bytes(2, "big") for w in table.rules),
-        b"".join(w.to_bytes(4, "big") for w in words),
-    ]
-    begin = (flag, 0 if high is None else 1, table.start, mode, place, low, high or 0)
-    RUNS.append((label, source, shows, expected, 0, begin, parts))
+    table = Table(rules or {}, start, once=True)
+    numbers = {name: number for number, name in enumerate(names.split())}
+    words = [w for k, (name, column) in enumerate(named_columns(tokens)) for w in (numbers[name], column, k, 1)]
+    parts = wide(2, *flat(table.nodes)), wide(2, *table.rules), wide(4, *words)
+    record(label, source, shows, expected, 0, parts,
+           node=table.start, place=place, lower=low, upper=high, flag=flag, mode=mode)
 
 
 def report(label, source, shows, expected, keywords, start, text, rules=None, mode=GT):
     """A grammar file and a report. Keyword k is terminal 3 + k."""
-    table = Table(rules or {}, start)
-    fields = grammar_fields.VERSION
-    for spelling in keywords.split():
-        fields += grammar_fields.keyword(spelling.encode())
-    for name, number in zip(rules or {}, table.rules):
-        fields += grammar_fields.rule(number, name.encode())
-    for row in table.nodes:
-        fields += grammar_fields.node(*row)
-    fields += grammar_fields.start(table.start, mode)
-    RUNS.append((label, source, shows, expected, 1, (0,) * 7, [fields, text.encode(), b""]))
+    table = Table(rules or {}, start, once=True)
+    pairs = [(number, name.encode()) for name, number in zip(rules or {}, table.rules)]
+    file = grammar_fields.file(table.nodes, table.start, mode, keywords.encode().split(), pairs)
+    record(label, source, shows, expected, 1, (file, text.encode(), b""))
 
 
-def record(label, kind, begin, parts):
-    flag, ended, node, mode, place, low, high = begin
-    name = label.encode()
-    assert 0 < len(name) < 200
-    head = bytes([len(name), kind, flag, ended])
-    head += node.to_bytes(2, "big") + mode.to_bytes(2, "big") + place.to_bytes(4, "big")
-    head += low.to_bytes(4, "big") + high.to_bytes(4, "big")
-    head += b"".join(len(p).to_bytes(3, "big") for p in parts)
-    assert len(head) == 29
-    return head + name + b"".join(parts)
+def record(label, source, shows, expected, kind, parts, **start):
+    """One run, the line expected of it, and its row of the docs. The layout is that of the program's first comment."""
+    ROWS.append((label, source, shows, expected))
+    CASES.add(label, expected, b"", wide(1, kind) + begin(**start) + wide(3, *map(len, parts)), *parts)
 
 
-def main():
-    labels = [row[0] for row in RUNS]
-    assert len(set(labels)) == len(labels)
-    if sys.argv[1:] == ["--table"]:
-        print("# Runs taken from published papers\n")
-        print(f"{len(RUNS)} runs, written by `cases/published.py`, whose comments give the steps of each.\n")
-        for paper in PAPERS:
-            print(f"- {paper}")
-        print("\n| label | source | what it shows | expected |\n|---|---|---|---|")
-        for label, source, shows, expected, *_ in RUNS:
-            cells = [c.replace("|", "\\|") for c in (label, source, shows, expected)]
-            print("| " + " | ".join(cells) + " |")
-        print("\n## Where a paper's text is garbled or its grammar changed\n")
-        for note in NOTES:
-            print(f"- {note}")
-        return
-    top = pathlib.Path(__file__).resolve().parent.parent / "crates" / "published"
-    (top / "data").mkdir(parents=True, exist_ok=True)
-    data = b"".join(record(label, kind, begin, parts) for label, _, _, _, kind, begin, parts in RUNS)
-    (top / "data" / "cases").write_bytes(data)
-    lines = "".join(f"{row[0]}: {row[3]}\n" for row in RUNS)
-    (top / "stdout").write_bytes(lines.encode())
+def table():
+    """The runs as the docs have them."""
+    print("# Runs taken from published papers\n")
+    print(f"{len(ROWS)} runs, written by `cases/published.py`, whose comments give the steps of each.\n")
+    for paper in PAPERS:
+        print(f"- {paper}")
+    print("\n| label | source | what it shows | expected |\n|---|---|---|---|")
+    for row in ROWS:
+        print("| " + " | ".join(cell.replace("|", "\\|") for cell in row) + " |")
+    print("\n## Where a paper's text is garbled or its grammar changed\n")
+    for note in NOTES:
+        print(f"- {note}")
 
 
 PAPERS = [
@@ -1328,5 +1220,9 @@ run("004 3.7 left recursive btype", "004 section 3.7, figure 54(a)", "left recur
 run("004 3.7 btype as a list", "004 section 3.7, figure 54(b)", "one or more atypes", "success 2 0 inf clear",
     plus(a), "a0 a2", mode=ANY)
 
+
 if __name__ == "__main__":
-    main()
+    if sys.argv[1:] == ["--table"]:
+        table()
+    else:
+        CASES.write()

@@ -10,18 +10,16 @@ the words of document 01 that decide it.
 """
 
 import itertools
-import pathlib
 
-from grammar_fields import EMPTY, START, TAIL, VERSION, field, keyword, node, rule, start, with_keywords
-from stored_bytes import stored
+import faults
+from grammar_fields import (
+    EMPTY, EVERY_KIND, NINE, START, TAIL, VERSION, field, file, keyword, largest, node, rule, rules, start, with_keywords,
+    with_names,
+)
+from records import Cases, Pairs, spaced, wide
 
-CRATE = pathlib.Path(__file__).resolve().parent.parent / "crates" / "scanner_cases"
-
-records = []
-lines = []
-labels = set()
-file_before = b""
-report_before = b""
+CASES = Cases("scanner_cases")
+PAIRS = Pairs(60, (1, 2, 4, 9))
 
 
 # --- Records and lines ---------------------------------------------------------------------------
@@ -29,28 +27,8 @@ report_before = b""
 
 def record(kind, label, x, y, mark, file, report, line):
     """One call and the line expected of it. The layout is that of the program's first comment."""
-    global file_before, report_before
-    assert label not in labels, label
-    labels.add(label)
-    file_numbers, file_bytes = stored(file_before, file, 60, (1, 2, 4, 9))
-    report_numbers, report_bytes = stored(report_before, report, 60, (1, 2, 4, 9))
-    file_before = file
-    report_before = report
-    name = label.encode()
-    numbers = (x, y) + file_numbers + report_numbers
-    records.append(
-        kind.encode()
-        + bytes([len(name), mark])
-        + b"".join(n.to_bytes(3, "big") for n in numbers)
-        + name
-        + file_bytes
-        + report_bytes
-    )
-    lines.append(f"{label}: {line}\n")
-
-
-def spaced(head, numbers):
-    return " ".join([head] + [str(n) for n in numbers])
+    numbers, *stored = PAIRS.stretch(file, report)
+    CASES.add(label, line, kind.encode(), wide(1, mark) + wide(3, x, y) + numbers, *stored)
 
 
 FEW = 24  # Scans of no more tokens than these have every word printed.
@@ -207,13 +185,8 @@ walk(
 
 # A file byte by byte, written out: keywords `if` and `=`.
 WRITTEN = bytes.fromhex("01 0001 01 02 0002 6966 02 0001 3d 04 0006 00 0000 0000 00 05 0003 0000 02")
-reads(
-    "bytes written out",
-    WRITTEN,
-    b"if x=-1",
-    [(3, 0, 0, 2), (1, 3, 3, 1), (4, 4, 4, 1), (0, 5, 5, 2), (2, 7, 7, 0)],
-    7,
-)
+reads("bytes written out", WRITTEN, b"if x=-1", [(3, 0, 0, 2), (1, 3, 3, 1), (4, 4, 4, 1), (0, 5, 5, 2), (2, 7, 7, 0)],
+      7)
 
 # A report of several lines: a tab before text, an empty line, byte 13 before a break.
 LINES = b"splice 12:\n\tloss: 0.03\n\n\tnote: ok (a, b)\r\n"
@@ -241,13 +214,7 @@ reads("lines of a report", LINES_FILE, LINES, LINES_TOKENS, 0)
 # The same without the last two bytes: byte 13 and the break.
 reads("lines without the last", LINES_FILE, LINES[:-2], LINES_TOKENS[:-1] + [(2, 23, 40, 0)], 23)
 # "3 + k where the spelling equals keyword k .. else 0 .. else 1": no keywords.
-reads(
-    "lines and no keywords",
-    PLAIN,
-    LINES,
-    [(1 if t > 2 else t, c, o, n) for t, c, o, n in LINES_TOKENS],
-    0,
-)
+reads("lines and no keywords", PLAIN, LINES, [(1 if t > 2 else t, c, o, n) for t, c, o, n in LINES_TOKENS], 0)
 
 # --- One byte, and one byte between two letters --------------------------------------------------
 
@@ -293,13 +260,8 @@ for byte in range(256):
 reads("all run bytes", PLAIN, bytes(RUN), [(1, 0, 0, len(RUN)), (2, len(RUN), len(RUN), 0)], len(RUN))
 reads("bytes 128 to 255", PLAIN, bytes(range(128, 256)), [(1, 0, 0, 128), (2, 128, 128, 0)], 128)
 # "Each byte but 9 and 10 advances the column by one": a letter of two bytes takes two columns.
-reads(
-    "letters of two bytes",
-    PLAIN,
-    "\u00b5m \u00e9t\u00e9\tx".encode(),
-    [(1, 0, 0, 3), (1, 4, 4, 5), (1, 16, 10, 1), (2, 17, 11, 0)],
-    17,
-)
+reads("letters of two bytes", PLAIN, "\u00b5m \u00e9t\u00e9\tx".encode(),
+      [(1, 0, 0, 3), (1, 4, 4, 5), (1, 16, 10, 1), (2, 17, 11, 0)], 17)
 
 # "report over length or refused byte": a refused byte at every place of a text.
 for byte in (0, 8, 11, 12, 14, 31, 127):
@@ -416,11 +378,8 @@ for spelling in WORDS:
     reads(f"no number {spelling}", PLAIN, text, [(1, 0, 0, n), (2, n, n, 0)], n)
 reads_apart("all these numbers", PLAIN, *[(0, s.encode()) for s in NUMBERS])
 reads_apart("all these that are none", PLAIN, *[(1, s.encode()) for s in WORDS])
-reads_apart(
-    "numbers and others in turn",
-    PLAIN,
-    *[pair for s, t in zip(NUMBERS, WORDS) for pair in ((0, s.encode()), (1, t.encode()))],
-)
+reads_apart("numbers and others in turn", PLAIN,
+            *[pair for s, t in zip(NUMBERS, WORDS) for pair in ((0, s.encode()), (1, t.encode()))])
 # Every string of `-`, `7` and `.` to length 6: the numbers among them are put together as the words say.
 PLUS = ["7" * n for n in range(1, 7)]
 RESTS = [""] + ["." + digits for digits in PLUS]
@@ -453,20 +412,8 @@ for spelling in NUMBERS + WORDS:
     if n <= 32:
         file = with_keywords(b"x", text)
         reads(f"keyword {spelling}", file, text, [(4, 0, 0, n), (2, n, n, 0)], n)
-reads_apart(
-    "keywords that look like numbers",
-    with_keywords(b"1.5", b"0", b"-1"),
-    (3, b"1.5"),
-    (4, b"0"),
-    (5, b"-1"),
-    (0, b"1.50"),
-    (0, b"00"),
-    (0, b"-0"),
-    (0, b"-1.0"),
-    (0, b"1"),
-    (0, b"1.51"),
-    (1, b"1.5."),
-)
+reads_apart("keywords that look like numbers", with_keywords(b"1.5", b"0", b"-1"), (3, b"1.5"), (4, b"0"), (5, b"-1"),
+            (0, b"1.50"), (0, b"00"), (0, b"-0"), (0, b"-1.0"), (0, b"1"), (0, b"1.51"), (1, b"1.5."))
 
 
 # --- Single bytes --------------------------------------------------------------------------------
@@ -547,17 +494,8 @@ for said, file, terminals in (
     reads_apart(f"keywords one in the other, {said}", file, *zip(terminals, PREFIXES))
 # Keywords are bytes: 128 to 255 stand in them as any.
 BYTES = with_keywords("na\u00efve".encode(), b"\x80", b"\xff", b"\xff\x80")
-reads_apart(
-    "keywords of bytes over 127",
-    BYTES,
-    (3, "na\u00efve".encode()),
-    (4, b"\x80"),
-    (5, b"\xff"),
-    (6, b"\xff\x80"),
-    (1, b"\x80\xff"),
-    (1, b"naive"),
-    (1, b"\x81"),
-)
+reads_apart("keywords of bytes over 127", BYTES, (3, "na\u00efve".encode()), (4, b"\x80"), (5, b"\xff"),
+            (6, b"\xff\x80"), (1, b"\x80\xff"), (1, b"naive"), (1, b"\x81"))
 # "At most 253 keywords": terminals 3 to 255.
 SPELLINGS = [b"word%d" % i for i in range(253)]
 MOST = with_keywords(*SPELLINGS)
@@ -588,12 +526,8 @@ for said, spelling in (
     reads(f"32 bytes, {said}", LONGEST, spelling, [(1, 0, 0, n), (2, n, n, 0)], n)
 # Alike but for the first byte.
 FIRST = [bytes([first]) + b"y" * 31 for first in b"abcdefgh"]
-reads_apart(
-    "32 bytes, first differs",
-    with_keywords(*FIRST),
-    *[(3 + k, FIRST[k]) for k in range(8)],
-    (1, b"i" + b"y" * 31),
-)
+reads_apart("32 bytes, first differs", with_keywords(*FIRST), *[(3 + k, FIRST[k]) for k in range(8)],
+            (1, b"i" + b"y" * 31))
 # Two keywords side by side: neither both together nor the end of one with the start of the next is one.
 TWO = with_keywords(b"ab", b"cd")
 reads_apart("keywords side by side", TWO, (3, b"ab"), (4, b"cd"), (1, b"abcd"), (1, b"bc"))
@@ -632,14 +566,7 @@ LARGEST = (
     + start(511, 3)
 )
 reads("file with every kind", FULL, b"loss: 1", [(3, 0, 0, 4), (4, 4, 4, 1), (0, 6, 6, 1), (2, 7, 7, 0)], 7)
-reads_apart(
-    "largest file",
-    LARGEST,
-    (3, b"0" * 32),
-    (255, b"0" * 29 + b"252"),
-    (0, b"0" * 29 + b"253"),
-    (0, b"0"),
-)
+reads_apart("largest file", LARGEST, (3, b"0" * 32), (255, b"0" * 29 + b"252"), (0, b"0" * 29 + b"253"), (0, b"0"))
 reads("file not well formed", VERSION + rule(0, b"r") + node(2, 0) + START, b"a", A, 1)
 reads("repeat of empty", VERSION + EMPTY + node(6, 0) + start(1), b"a", A, 1)
 
@@ -775,12 +702,8 @@ for said, report, tokens, column in (
     ("65534 digits and a letter", b"0" * 65534 + b"a", [(1, 0, 0, 65535), (2, 65535, 65535, 0)], 65535),
     ("65534 blanks and `a`", b" " * 65534 + b"a", [(1, 65534, 65534, 1), (2, 65535, 65535, 0)], 65535),
     ("65534 breaks and `a`", b"\n" * 65534 + b"a", [(1, 0, 65534, 1), (2, 1, 65535, 0)], 1),
-    (
-        "65533 letters, a break and `b`",
-        b"a" * 65533 + b"\nb",
-        [(1, 0, 0, 65533), (2, 65533, 65533, 0), (1, 0, 65534, 1), (2, 1, 65535, 0)],
-        1,
-    ),
+    ("65533 letters, a break and `b`", b"a" * 65533 + b"\nb",
+     [(1, 0, 0, 65533), (2, 65533, 65533, 0), (1, 0, 65534, 1), (2, 1, 65535, 0)], 1),
 ):
     reads(said, PLAIN, report, tokens, column)
 for byte in (0, 127):
@@ -795,13 +718,7 @@ for byte in (0, 127):
 T8191 = b"\t" * 8191
 T8192 = b"\t" * 8192
 reads("8191 tabs and `a`", PLAIN, T8191 + b"a", [(1, 65528, 8191, 1), (2, 65529, 8192, 0)], 65529)
-reads(
-    "8191 tabs, 6 blanks and `a`",
-    PLAIN,
-    T8191 + b"      a",
-    [(1, 65534, 8197, 1), (2, 65535, 8198, 0)],
-    65535,
-)
+reads("8191 tabs, 6 blanks and `a`", PLAIN, T8191 + b"      a", [(1, 65534, 8197, 1), (2, 65535, 8198, 0)], 65535)
 reads("8191 tabs and 7 letters", PLAIN, T8191 + b"abcdefg", [(1, 65528, 8191, 7), (2, 65535, 8198, 0)], 65535)
 # The line end is a token: its column counts.
 too_far("8191 tabs and 8 letters", PLAIN, T8191 + b"abcdefgh", 1, 8199, 65536, True)
@@ -810,13 +727,7 @@ too_far("8191 tabs, 7 blanks, `a` and a break", PLAIN, T8191 + b"       a\n", 1,
 too_far("8191 tabs, 8 blanks and `a`", PLAIN, T8191 + b"        a", 0, 0, 0, False)
 too_far("8191 tabs, `a` and a tab", PLAIN, T8191 + b"a\t", 1, 8192, 65529, True)
 too_far("8191 tabs, `a` and 7 blanks", PLAIN, T8191 + b"a       ", 1, 8192, 65529, True)
-reads(
-    "8191 tabs, `a` and 6 blanks",
-    PLAIN,
-    T8191 + b"a      ",
-    [(1, 65528, 8191, 1), (2, 65535, 8198, 0)],
-    65535,
-)
+reads("8191 tabs, `a` and 6 blanks", PLAIN, T8191 + b"a      ", [(1, 65528, 8191, 1), (2, 65535, 8198, 0)], 65535)
 too_far("8191 tabs, `a`, tab and `b`", PLAIN, T8191 + b"a\tb", 1, 8192, 65529, True)
 too_far("8192 tabs and `:`", PLAIN, T8192 + b":", 0, 0, 0, False)
 too_far("8192 tabs and a number", PLAIN, T8192 + b"1", 0, 0, 0, False)
@@ -832,13 +743,8 @@ reads("8192 tabs", PLAIN, T8192, [], 65536)
 reads("8192 tabs and a break", PLAIN, T8192 + b"\n", [], 0)
 reads("8192 tabs, a break and `a`", PLAIN, T8192 + b"\na", [(1, 0, 8193, 1), (2, 1, 8194, 0)], 1)
 reads("`a`, a break and 8192 tabs", PLAIN, b"a\n" + T8192, A, 65536)
-reads(
-    "`a`, a break, 8192 tabs, a break and `b`",
-    PLAIN,
-    b"a\n" + T8192 + b"\nb",
-    A + [(1, 0, 8195, 1), (2, 1, 8196, 0)],
-    1,
-)
+reads("`a`, a break, 8192 tabs, a break and `b`", PLAIN, b"a\n" + T8192 + b"\nb",
+      A + [(1, 0, 8195, 1), (2, 1, 8196, 0)], 1)
 reads("`a`, a break and 65533 tabs", PLAIN, b"a\n" + b"\t" * 65533, A, 524264)
 
 
@@ -901,30 +807,13 @@ for taken in itertools.product((False, True), repeat=8):
 walk("steps, empty", PLAIN, b"", [(None, (0, 0, False))])
 walk("steps, blanks", PLAIN, b"  ", [(None, (2, 2, False))])
 walk("steps, empty lines", PLAIN, b"\n \n\t", [(None, (4, 8, False))])
-walk(
-    "steps, `a`",
-    PLAIN,
-    b"a",
-    [((1, 0, 0, 1), (1, 1, True)), ((2, 1, 1, 0), (1, 1, False)), (None, (1, 1, False))],
-)
-walk(
-    "steps, `a` and a break",
-    PLAIN,
-    b"a\n",
-    [((1, 0, 0, 1), (1, 1, True)), ((2, 1, 1, 0), (2, 0, False)), (None, (2, 0, False))],
-)
-walk(
-    "steps, `a` and two blanks",
-    PLAIN,
-    b"a  ",
-    [((1, 0, 0, 1), (1, 1, True)), ((2, 3, 3, 0), (3, 3, False)), (None, (3, 3, False))],
-)
-walk(
-    "steps, `a`, a break and a tab",
-    PLAIN,
-    b"a\n\t",
-    [((1, 0, 0, 1), (1, 1, True)), ((2, 1, 1, 0), (2, 0, False)), (None, (3, 8, False))],
-)
+walk("steps, `a`", PLAIN, b"a", [((1, 0, 0, 1), (1, 1, True)), ((2, 1, 1, 0), (1, 1, False)), (None, (1, 1, False))])
+walk("steps, `a` and a break", PLAIN, b"a\n",
+     [((1, 0, 0, 1), (1, 1, True)), ((2, 1, 1, 0), (2, 0, False)), (None, (2, 0, False))])
+walk("steps, `a` and two blanks", PLAIN, b"a  ",
+     [((1, 0, 0, 1), (1, 1, True)), ((2, 3, 3, 0), (3, 3, False)), (None, (3, 3, False))])
+walk("steps, `a`, a break and a tab", PLAIN, b"a\n\t",
+     [((1, 0, 0, 1), (1, 1, True)), ((2, 1, 1, 0), (2, 0, False)), (None, (3, 8, False))])
 walk(
     "steps, byte 13 before the break",
     PLAIN,
@@ -954,30 +843,15 @@ walk(
         (None, (19, 2, False)),
     ],
 )
-walk(
-    "steps, 65535 letters",
-    PLAIN,
-    b"a" * 65535,
-    [
-        ((1, 0, 0, 65535), (65535, 65535, True)),
-        ((2, 65535, 65535, 0), (65535, 65535, False)),
-        (None, (65535, 65535, False)),
-    ],
-)
+walk("steps, 65535 letters", PLAIN, b"a" * 65535,
+     [((1, 0, 0, 65535), (65535, 65535, True)), ((2, 65535, 65535, 0), (65535, 65535, False)), (None, (65535, 65535, False))])
 walk("steps, 65535 tabs", PLAIN, b"\t" * 65535, [(None, (65535, 524280, False))])
 
 # Steps don't know 10: tokens 4,096 and on are handed out as any.
 for at in (4094, 4095, 4096, 9998):
     token = (1, at, at, 1)
     step(f"steps, `:` {at + 1} of 9999", PLAIN, b":" * 9999, (at, at, True), token, (at + 1, at + 1, True))
-step(
-    "steps, line end behind 9999 `:`",
-    PLAIN,
-    b":" * 9999,
-    (9999, 9999, True),
-    (2, 9999, 9999, 0),
-    (9999, 9999, False),
-)
+step("steps, line end behind 9999 `:`", PLAIN, b":" * 9999, (9999, 9999, True), (2, 9999, 9999, 0), (9999, 9999, False))
 
 # A value stands where it stands: the token found is the longest run from its offset on, at its column.
 for said, file, report, before, token, after in (
@@ -1094,14 +968,7 @@ for said, file, report, before, answer, after in (
     ("break at 65536, no mark, then `a`", PLAIN, b"\na", (0, 65536, False), (1, 0, 1, 1), (2, 1, True)),
     ("the next token too far", PLAIN, b"a" + T8192 + b"b", (0, 0, False), (1, 0, 0, 1), (1, 1, True)),
     ("a run past column 65535", PLAIN, b"a" * 65535, (0, 1, False), (1, 1, 0, 65535), (65535, 65536, True)),
-    (
-        "a run to column 131070",
-        PLAIN,
-        b"a" * 65535,
-        (0, 65535, False),
-        (1, 65535, 0, 65535),
-        (65535, 131070, True),
-    ),
+    ("a run to column 131070", PLAIN, b"a" * 65535, (0, 65535, False), (1, 65535, 0, 65535), (65535, 131070, True)),
 ):
     step(f"step not by 9, {said}", file, report, before, answer, after)
 
@@ -1155,7 +1022,5 @@ for way in ("byte", "offset", "column"):
             step(label, file, report, before, (1, 65535, 2, 1), (3, 65536, True))
 
 
-(CRATE / "data").mkdir(parents=True, exist_ok=True)
-(CRATE / "data" / "cases").write_bytes(b"".join(records))
-(CRATE / "stdout").write_bytes("".join(lines).encode())
-print(f"{len(records)} calls, {sum(map(len, records))} bytes")
+if __name__ == "__main__":
+    CASES.write()
