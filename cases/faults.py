@@ -15,6 +15,12 @@ def choices(*numbers):
         yield tuple(number for number, there in zip(numbers, taken) if there)
 
 
+def places(items, extra):
+    """Each place that an extra item can have among the items, and the items with it there."""
+    for place in range(len(items) + 1):
+        yield place, [*items[:place], extra, *items[place:]]
+
+
 def counts(refused, passes, nodes, rules):
     """ "node words no multiple of 4, node or rule count ..", 3: the numbers of nodes and of rules that pass are given."""
     empty = table_nodes.EMPTY
