@@ -12,10 +12,9 @@ the words of document 01 that decide it.
 import itertools
 
 import faults
-from grammar_fields import (
-    EMPTY, EVERY_KIND, NINE, START, TAIL, VERSION, field, file, keyword, largest, node, rule, rules, start, with_keywords,
-    with_names,
-)
+import grammar_fields
+from grammar_fields import EMPTY, EVERY_KIND, NINE, START, TAIL, VERSION
+from grammar_fields import field, keyword, node, rule, start, with_keywords, with_names
 from records import Cases, Pairs, spaced, wide
 
 CASES = Cases("scanner_cases")
@@ -126,7 +125,6 @@ def walk(label, file, report, steps):
 
 PLAIN = with_keywords()
 LOSS = with_keywords(b"loss")
-NINE = b":,()[]=;%"  # "The bytes `: , ( ) [ ] = ; %` are tokens by themselves"
 REFUSED = [byte for byte in range(32) if byte not in (9, 10, 13)] + [127]
 RUN = [byte for byte in range(33, 256) if byte != 127 and byte not in NINE]
 DIGITS = b"0123456789"
@@ -134,26 +132,32 @@ DIGITS = b"0123456789"
 A = [(1, 0, 0, 1), (2, 1, 1, 0)]  # The tokens of `a`.
 
 
-def apart(*pairs):
-    """A line of spellings with a blank between any two, from their terminals, and its tokens."""
+def laid(between, pairs):
+    """A line of spellings with these bytes between any two, from their terminals, and its tokens: one for each
+    spelling, where it begins, then the line's end."""
     text = b""
     tokens = []
     for terminal, spelling in pairs:
-        text += b" " if text else b""
+        text += between if text else b""
         tokens.append((terminal, len(text), len(text), len(spelling)))
         text += spelling
     return text, tokens + [(2, len(text), len(text), 0)]
 
 
-def reads_apart(label, file, *pairs):
-    """`reads` of the line of `apart`: a token for each spelling, where it begins, then the line's end."""
-    text, tokens = apart(*pairs)
+def reads_apart(label, file, *pairs, between=b" "):
+    """`reads` of such a line, with blanks unless said."""
+    text, tokens = laid(between, pairs)
     reads(label, file, text, tokens, len(text))
+
+
+def reads_together(label, file, *pairs):
+    """The same with nothing between the spellings, as single bytes part them."""
+    reads_apart(label, file, *pairs, between=b"")
 
 
 def scan_apart(label, file, *pairs):
     """The same for `scan`."""
-    text, tokens = apart(*pairs)
+    text, tokens = laid(b" ", pairs)
     scan(label, file, text, tokens, 4 * len(tokens) + 6)
 
 
@@ -257,17 +261,16 @@ for byte in range(256):
         reads(behind, LOSS, b"loss" + text, [(1, 0, 0, 5), (2, 5, 5, 0)], 5)
 
 # The longest run of all: each byte that can stand in one, once.
-reads("all run bytes", PLAIN, bytes(RUN), [(1, 0, 0, len(RUN)), (2, len(RUN), len(RUN), 0)], len(RUN))
-reads("bytes 128 to 255", PLAIN, bytes(range(128, 256)), [(1, 0, 0, 128), (2, 128, 128, 0)], 128)
+reads_apart("all run bytes", PLAIN, (1, bytes(RUN)))
+reads_apart("bytes 128 to 255", PLAIN, (1, bytes(range(128, 256))))
 # "Each byte but 9 and 10 advances the column by one": a letter of two bytes takes two columns.
 reads("letters of two bytes", PLAIN, "\u00b5m \u00e9t\u00e9\tx".encode(),
       [(1, 0, 0, 3), (1, 4, 4, 5), (1, 16, 10, 1), (2, 17, 11, 0)], 17)
 
 # "report over length or refused byte": a refused byte at every place of a text.
 for byte in (0, 8, 11, 12, 14, 31, 127):
-    for place in range(8):
-        text = b"ab : 1\n"[:place] + bytes([byte]) + b"ab : 1\n"[place:]
-        refused(f"byte {byte} at {place} of 8", 8, PLAIN, text)
+    for place, text in faults.places(b"ab : 1\n", byte):
+        refused(f"byte {byte} at {place} of 8", 8, PLAIN, bytes(text))
 
 
 # --- Blanks, tabs and columns --------------------------------------------------------------------
@@ -355,7 +358,7 @@ for n in (1, 2, 5, 30, 300):
     reads(f"{n} times `a` and a blank", PLAIN, b"a " * n, tokens, 2 * n)
 # Runs of n letters: one token.
 for n in (1, 2, 31, 32, 33, 64, 255, 256, 257, 4096):
-    reads(f"a run of {n}", PLAIN, b"a" * n, [(1, 0, 0, n), (2, n, n, 0)], n)
+    reads_apart(f"a run of {n}", PLAIN, (1, b"a" * n))
 
 
 # --- Numbers -------------------------------------------------------------------------------------
@@ -370,12 +373,9 @@ WORDS = (
     "-a a-1 .1. 1.5. -1.5.2 1.5e3 1e-3 5' 1E3 inf nan -- ---- 1.5a -x1 0- \u22121 1\u00b2 \u0661"
 ).split()
 for spelling in NUMBERS:
-    n = len(spelling)
-    reads(f"number {spelling}", PLAIN, spelling.encode(), [(0, 0, 0, n), (2, n, n, 0)], n)
+    reads_apart(f"number {spelling}", PLAIN, (0, spelling.encode()))
 for spelling in WORDS:
-    text = spelling.encode()
-    n = len(text)
-    reads(f"no number {spelling}", PLAIN, text, [(1, 0, 0, n), (2, n, n, 0)], n)
+    reads_apart(f"no number {spelling}", PLAIN, (1, spelling.encode()))
 reads_apart("all these numbers", PLAIN, *[(0, s.encode()) for s in NUMBERS])
 reads_apart("all these that are none", PLAIN, *[(1, s.encode()) for s in WORDS])
 reads_apart("numbers and others in turn", PLAIN,
@@ -386,12 +386,11 @@ RESTS = [""] + ["." + digits for digits in PLUS]
 MADE = {sign + whole + rest for sign in ("", "-") for whole in PLUS for rest in RESTS}
 for size in (1, 2, 3, 4, 5, 6):
     strings = ["".join(s) for s in itertools.product("-7.", repeat=size)]
-    if size <= 3:
-        for s in strings:
-            tokens = [(0 if s in MADE else 1, 0, 0, size), (2, size, size, 0)]
-            reads(f"string {s}", PLAIN, s.encode(), tokens, size)
+    pairs = [(0 if s in MADE else 1, s.encode()) for s in strings]
+    for s, pair in zip(strings, pairs) if size <= 3 else ():
+        reads_apart(f"string {s}", PLAIN, pair)
     put = reads_apart if size <= 5 else scan_apart
-    put(f"strings of {size}", PLAIN, *[(0 if s in MADE else 1, s.encode()) for s in strings])
+    put(f"strings of {size}", PLAIN, *pairs)
 # Single bytes part numbers from what stands beside them.
 for label, text, tokens in (
     ("`1,5`", b"1,5", [(0, 0, 0, 1), (1, 1, 1, 1), (0, 2, 2, 1), (2, 3, 3, 0)]),
@@ -408,10 +407,8 @@ for label, text, tokens in (
 # "3 + k where .. else 0 for a number": the keyword comes first.
 for spelling in NUMBERS + WORDS:
     text = spelling.encode()
-    n = len(text)
-    if n <= 32:
-        file = with_keywords(b"x", text)
-        reads(f"keyword {spelling}", file, text, [(4, 0, 0, n), (2, n, n, 0)], n)
+    if len(text) <= 32:
+        reads_apart(f"keyword {spelling}", with_keywords(b"x", text), (4, text))
 reads_apart("keywords that look like numbers", with_keywords(b"1.5", b"0", b"-1"), (3, b"1.5"), (4, b"0"), (5, b"-1"),
             (0, b"1.50"), (0, b"00"), (0, b"-0"), (0, b"-1.0"), (0, b"1"), (0, b"1.51"), (1, b"1.5."))
 
@@ -422,63 +419,34 @@ reads_apart("keywords that look like numbers", with_keywords(b"1.5", b"0", b"-1"
 for byte in NINE:
     text = bytes([byte])
     name = text.decode()
-    kept = with_keywords(text)
-    second = with_keywords(b"a", text)
-    for said, file, terminal in (("no keyword", PLAIN, 1), ("a keyword", kept, 3)):
+    for said, file, t in (("no keyword", PLAIN, 1), ("a keyword", with_keywords(text), 3)):
         # Alone, twice, thrice, next to words and numbers, with blanks between.
-        t = terminal
-        reads(f"`{name}` {said}, alone", file, text, [(t, 0, 0, 1), (2, 1, 1, 0)], 1)
-        reads(f"`{name}` {said}, twice", file, text * 2, [(t, 0, 0, 1), (t, 1, 1, 1), (2, 2, 2, 0)], 2)
-        thrice = [(t, 0, 0, 1), (t, 1, 1, 1), (t, 2, 2, 1), (2, 3, 3, 0)]
-        reads(f"`{name}` {said}, thrice", file, text * 3, thrice, 3)
-        between = [(1, 0, 0, 1), (t, 1, 1, 1), (1, 2, 2, 1), (2, 3, 3, 0)]
-        reads(f"`{name}` {said}, between words", file, b"a" + text + b"b", between, 3)
-        between = [(0, 0, 0, 2), (t, 2, 2, 1), (0, 3, 3, 2), (2, 5, 5, 0)]
-        reads(f"`{name}` {said}, between numbers", file, b"12" + text + b"-3", between, 5)
-        around = [(t, 0, 0, 1), (1, 1, 1, 2), (t, 3, 3, 1), (2, 4, 4, 0)]
-        reads(f"`{name}` {said}, around a word", file, text + b"ab" + text, around, 4)
+        reads_together(f"`{name}` {said}, alone", file, (t, text))
+        reads_together(f"`{name}` {said}, twice", file, (t, text), (t, text))
+        reads_together(f"`{name}` {said}, thrice", file, (t, text), (t, text), (t, text))
+        reads_together(f"`{name}` {said}, between words", file, (1, b"a"), (t, text), (1, b"b"))
+        reads_together(f"`{name}` {said}, between numbers", file, (0, b"12"), (t, text), (0, b"-3"))
+        reads_together(f"`{name}` {said}, around a word", file, (t, text), (1, b"ab"), (t, text))
         reads_apart(f"`{name}` {said}, apart", file, (1, b"a"), (t, text), (1, b"b"), (t, text))
-    between = [(3, 0, 0, 1), (4, 1, 1, 1), (3, 2, 2, 1), (2, 3, 3, 0)]
-    reads(f"`{name}` and `a` keywords", second, b"a" + text + b"a", between, 3)
+    reads_together(f"`{name}` and `a` keywords", with_keywords(b"a", text), (3, b"a"), (4, text), (3, b"a"))
 # All nine in one row; as keywords they are 3 to 11, in reverse 11 to 3.
-ROW = [(1, i, i, 1) for i in range(9)] + [(2, 9, 9, 0)]
-reads("nine in a row", PLAIN, NINE, ROW, 9)
-ALL_NINE = with_keywords(*[bytes([byte]) for byte in NINE])
-reads("nine keywords", ALL_NINE, NINE, [(3 + i, i, i, 1) for i in range(9)] + [(2, 9, 9, 0)], 9)
-BACK_NINE = with_keywords(*[bytes([byte]) for byte in reversed(NINE)])
-reads("nine keywords, reverse", BACK_NINE, NINE, [(11 - i, i, i, 1) for i in range(9)] + [(2, 9, 9, 0)], 9)
+EACH = [bytes([byte]) for byte in NINE]
+reads_together("nine in a row", PLAIN, *[(1, text) for text in EACH])
+reads_together("nine keywords", with_keywords(*EACH), *[(3 + i, text) for i, text in enumerate(EACH)])
+reads_together("nine keywords, reverse", with_keywords(*EACH[::-1]), *[(11 - i, text) for i, text in enumerate(EACH)])
 # Bytes beside them in the row of bytes are no single bytes: each is of the run.
 for byte in b"!$&'*+-./<>?@\\^_`{|}~\"#":
     text = bytes([byte])
-    reads(f"`{text.decode()}` twice", PLAIN, text * 2, [(1, 0, 0, 2), (2, 2, 2, 0)], 2)
+    reads_apart(f"`{text.decode()}` twice", PLAIN, (1, text * 2))
 
 
 # --- Keywords ------------------------------------------------------------------------------------
 
 # "3 + k where the spelling equals keyword k": equal, and of the whole longest run.
-for spelling, terminal in (
-    (b"loss", 3),
-    (b"lossy", 1),
-    (b"los", 1),
-    (b"l", 1),
-    (b"lossloss", 1),
-    (b"xloss", 1),
-    (b"loss-", 1),
-    (b"-loss", 1),
-    (b"loss.", 1),
-    (b"loss1", 1),
-    (b"1loss", 1),
-    (b"Loss", 1),
-    (b"LOSS", 1),
-    (b"lost", 1),
-    (b"lots", 1),
-    (b"moss", 1),
-    (b"sslo", 1),
-    (b"loss\x80", 1),
-):
-    n = len(spelling)
+for spelling in (b"loss lossy los l lossloss xloss loss- -loss loss. loss1 1loss Loss LOSS lost lots moss sslo "
+                 b"loss\x80").split():
     said = spelling.decode("latin-1").replace("\x80", " and byte 128")
-    reads(f"keyword loss, {said}", LOSS, spelling, [(terminal, 0, 0, n), (2, n, n, 0)], n)
+    reads_apart(f"keyword loss, {said}", LOSS, (3 if spelling == b"loss" else 1, spelling))
 reads_apart("keyword loss, thrice", LOSS, (3, b"loss"), (3, b"loss"), (1, b"lossy"), (3, b"loss"))
 reads("keyword loss, then `:`", LOSS, b"loss:", [(3, 0, 0, 4), (1, 4, 4, 1), (2, 5, 5, 0)], 5)
 reads("keyword loss, behind `:`", LOSS, b":loss", [(1, 0, 0, 1), (3, 1, 1, 4), (2, 5, 5, 0)], 5)
@@ -522,8 +490,7 @@ for said, spelling in (
     ("288 bytes", b"x" * 31 + b"a" * 257),
     ("65535 bytes", b"x" * 31 + b"a" * 65504),
 ):
-    n = len(spelling)
-    reads(f"32 bytes, {said}", LONGEST, spelling, [(1, 0, 0, n), (2, n, n, 0)], n)
+    reads_apart(f"32 bytes, {said}", LONGEST, (1, spelling))
 # Alike but for the first byte.
 FIRST = [bytes([first]) + b"y" * 31 for first in b"abcdefgh"]
 reads_apart("32 bytes, first differs", with_keywords(*FIRST), *[(3 + k, FIRST[k]) for k in range(8)],
@@ -536,35 +503,8 @@ NAMED = VERSION + keyword(b"loss") + rule(0, b"note") + rule(0, b":") + rule(0, 
 reads_apart("names are no keywords", NAMED, (3, b"loss"), (1, b"note"), (1, b":"), (1, b"rule"))
 
 # Files of every kind of node, the largest one, and one that is not well formed: 7 is not asked here.
-FULL_NODES = (
-    (0, 0, 0, 0),
-    (1, 3, 0, 0),
-    (2, 2, 0, 0),
-    (3, 1, 2, 0),
-    (4, 3, 0, 0),
-    (5, 1, 0, 0),
-    (6, 1, 0, 0),
-    (7, 4, 0, 1),
-    (8, 7, 0, 2),
-    (9, 8, 0, 0),
-)
-FULL = (
-    VERSION
-    + keyword(b"loss")
-    + keyword(b":")
-    + rule(9, b"report")
-    + rule(3, b"line")
-    + rule(0, b"loss")
-    + b"".join(node(*n) for n in FULL_NODES)
-    + start(9, 1)
-)
-LARGEST = (
-    VERSION
-    + b"".join(keyword(b"%032d" % i) for i in range(253))
-    + b"".join(rule(511 - i, b"%032d" % i) for i in range(128))
-    + EMPTY * 512
-    + start(511, 3)
-)
+FULL = grammar_fields.file(EVERY_KIND[:10], 9, 1, (b"loss", b":"), ((9, b"report"), (3, b"line"), (0, b"loss")))
+LARGEST = grammar_fields.largest([(0, 0, 0, 0)] * 512)
 reads("file with every kind", FULL, b"loss: 1", [(3, 0, 0, 4), (4, 4, 4, 1), (0, 6, 6, 1), (2, 7, 7, 0)], 7)
 reads_apart("largest file", LARGEST, (3, b"0" * 32), (255, b"0" * 29 + b"252"), (0, b"0" * 29 + b"253"), (0, b"0"))
 reads("file not well formed", VERSION + rule(0, b"r") + node(2, 0) + START, b"a", A, 1)
@@ -593,12 +533,12 @@ BAD_FILES = (
     (2, "empty keyword", with_keywords(b"")),
     (2, "keyword of 33 bytes", with_keywords(b"k" * 33)),
     (2, "equal keywords", with_keywords(b"loss", b":", b"loss")),
-    (2, "equal names", VERSION + rule(0, b"r") + rule(0, b"r") + TAIL),
-    (2, "empty name", VERSION + rule(0, b"") + TAIL),
+    (2, "equal names", with_names(b"r", b"r")),
+    (2, "empty name", with_names(b"")),
     (3, "no node", VERSION + START),
     (3, "513 nodes", VERSION + EMPTY * 513 + START),
     (3, "65535 bytes", FILE_65535),
-    (3, "129 rules", VERSION + b"".join(rule(0, b"r%d" % i) for i in range(129)) + TAIL),
+    (3, "129 rules", with_names(*[b"r%d" % i for i in range(129)])),
     (4, "node 0 a repeat of 0", VERSION + node(6, 0) + START),
     (4, "kind 10", VERSION + node(10) + START),
     (4, "no such rule", VERSION + node(2, 0) + START),
@@ -771,34 +711,23 @@ refused_scan("10, 5000 tokens and 8192 tabs", 10, PLAIN, b"a\n" * 2500 + T8192, 
 
 # Every choice of faults, one of each number: the answer is the lowest number chosen. In the first set
 # those of lower numbers mostly stand later in the file and in the report, in the second earlier.
-for taken in itertools.product((False, True), repeat=8):
-    chosen = tuple(n for i, n in enumerate((8, 9, 10, 1, 2, 3, 4, 5)) if taken[i])
-    file = VERSION + keyword(b"k") + rule(7 if 5 in chosen else 0, b"first")
-    file += b"".join(rule(0, b"rule%d" % i) for i in range(127 if 3 in chosen else 2))
-    file += rule(0, b"" if 2 in chosen else b"last")
-    file += node(200 if 4 in chosen else 0) + EMPTY
-    file += START[:-1] if 1 in chosen else START
+
+
+def ordered(said, chosen, file, report, tokens, lent):
+    """A scan with the faults chosen: the tokens if there are none, else refused by the lowest."""
+    if chosen:
+        refused_scan(faults.label(said, chosen), min(chosen), file, report, lent)
+    else:
+        scan(faults.label(said, chosen), file, report, tokens, lent)
+
+
+for chosen in faults.choices(8, 9, 10, 1, 2, 3, 4, 5):
     report = (T8192 if 9 in chosen else b"") + b"k" + (b"\0" if 8 in chosen else b"")
-    lent = 7 if 10 in chosen else 8
-    label = spaced("late faults", sorted(chosen) or ("none",))
-    if chosen:
-        refused_scan(label, min(chosen), file, report, lent)
-    else:
-        scan(label, file, report, [(3, 0, 0, 1), (2, 1, 1, 0)], lent)
-for taken in itertools.product((False, True), repeat=8):
-    chosen = tuple(n for i, n in enumerate((8, 9, 10, 1, 2, 3, 4, 5)) if taken[i])
-    file = field(1, b"\x02" if 1 in chosen else b"\x01")
-    file += keyword(b"a:" if 2 in chosen else b"a") + rule(1, b"r") + EMPTY
-    file += EMPTY * (511 if 3 in chosen else 1)
-    file += node(8, 0, 0, 4 if 4 in chosen else 3)
-    file += start(0, 4 if 5 in chosen else 3)
+    tokens = [(3, 0, 0, 1), (2, 1, 1, 0)]
+    ordered("late", chosen, faults.late_file(chosen), report, tokens, 7 if 10 in chosen else 8)
+for chosen in faults.choices(8, 9, 10, 1, 2, 3, 4, 5):
     report = (b"\x1f" if 8 in chosen else b"") + b"b" + (T8192 if 9 in chosen else b"") + b"\n"
-    lent = 0 if 10 in chosen else 11
-    label = spaced("early faults", sorted(chosen) or ("none",))
-    if chosen:
-        refused_scan(label, min(chosen), file, report, lent)
-    else:
-        scan(label, file, report, A, lent)
+    ordered("early", chosen, faults.early_file(chosen), report, A, 0 if 10 in chosen else 11)
 
 
 # --- Single steps --------------------------------------------------------------------------------
@@ -1001,14 +930,11 @@ step("step, 8 before 9, offset 2 of 1", PLAIN, b"a", (2, 65536, True), 8)
 
 # Every choice of faults, one of each number. 8 by its three ways: the text, the offset, the column.
 for way in ("byte", "offset", "column"):
-    for taken in itertools.product((False, True), repeat=7):
-        chosen = tuple(n for i, n in enumerate((8, 9, 1, 2, 3, 4, 5)) if taken[i])
+    for chosen in faults.choices(8, 9, 1, 2, 3, 4, 5):
         file = field(1, b"\x02" if 1 in chosen else b"\x01")
-        file += keyword(b"a:" if 2 in chosen else b"a") + rule(2 if 5 in chosen else 0, b"r")
-        file += EMPTY * (513 if 3 in chosen else 1)
-        file += node(8, 0, 0, 4 if 4 in chosen else 3) + START
-        if 5 in chosen and 3 in chosen:
-            file = file.replace(rule(2, b"r"), rule(600, b"r"))
+        file += keyword(b"a:" if 2 in chosen else b"a")
+        file += rule(0 if 5 not in chosen else 600 if 3 in chosen else 2, b"r")
+        file += EMPTY * (513 if 3 in chosen else 1) + node(8, 0, 0, 4 if 4 in chosen else 3) + START
         report = b"x b"
         before = (1, 65535 if 9 in chosen else 65534, True)
         if 8 in chosen:
