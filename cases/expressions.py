@@ -1,7 +1,8 @@
 """Expressions as trees, how they are written, and how a table is laid out from them.
 
-How they are written: a to z are terminals 1 to 26, capitals are rules, `empty` is empty; p q, p / q, !p and p* as in
-001; p^R is an indent, p_R a position and [p] an align, where R is =, >, >= or any.
+How they are written: a to z are terminals, a the first one said, else 1; capitals, also with a prime, are rules;
+`empty` is empty; p q, p / q, !p and p* as in 001; p^R is an indent, p_R a position and [p] an align, where R is =, >,
+>= or any.
 """
 
 import re
@@ -100,9 +101,10 @@ class Table:
 class Written:
     """A written expression, read word by word."""
 
-    WORDS = re.compile(r"\s*(empty|any|>=|[=>/!*^_()\[\]]|[a-zA-Z])")
+    WORDS = re.compile(r"\s*(empty|any|>=|[=>/!*^_()\[\]]|[a-z]|[A-Z]'?)")
 
-    def __init__(self, text):
+    def __init__(self, text, first):
+        self.first = first
         self.left = self.WORDS.findall(text)
         assert "".join(self.left) == re.sub(r"\s", "", text), text
         self.tree = self.choice()
@@ -138,18 +140,18 @@ class Written:
             tree = self.choice()
             assert self.take() == {"(": ")", "[": "]"}[word]
             return tree if word == "(" else al(tree)
-        assert len(word) == 1 and word.isalpha()
-        return r(word) if word.isupper() else t(ord(word) - 96)
+        assert word[:1].isalpha(), word
+        return r(word) if word[0].isupper() else t(ord(word) - ord("a") + self.first)
 
 
-def written(text):
-    return Written(text).tree
+def written(text, first=1):
+    return Written(text, first).tree
 
 
-def written_rules(text):
+def written_rules(text, first=1):
     """Rules written as `X = a X / empty; Y = b`, in their order."""
     named = [rule.split("=", 1) for rule in text.split(";")] if text else []
-    return {name.strip(): written(body) for name, body in named}
+    return {name.strip(): written(body, first) for name, body in named}
 
 
 def named_columns(text):

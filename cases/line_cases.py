@@ -165,8 +165,7 @@ case("not not empty", grammar([EMPTY, not_(0), not_(1)], EQUAL), b"", EMPTY_ANSW
 for column in (0, 1, 5):
     text = b" " * column + b":"
     case(f"a{column} mode equal", grammar([A], EQUAL), text, success(1, column, column))
-    case(f"a{column} mode greater", grammar([A], GREATER), text,
-         success(1, 0, column - 1) if column else FAILURE)
+    case(f"a{column} mode greater", grammar([A], GREATER), text, success(1, 0, column - 1) if column else FAILURE)
     case(f"a{column} mode at least", grammar([A], AT_LEAST), text, success(1, 0, column))
     case(f"a{column} mode any", grammar([A], ANY), text, success(1, 0, "inf"))
 # "A terminal also fails ... at another terminal".
@@ -244,8 +243,7 @@ case("repeat then b", grammar([A, B, repeat(0), seq(2, 1)], ANY), b":::,", succe
 case("repeat drops its last round", grammar([A, B, END, seq(1, 2), seq(0, 3), repeat(4)], AT_LEAST),
      b"    :,\n  :;", success(3, 0, 4))
 # (a* b)*: a a b, then a b.
-case("repeat of a repeat and b", grammar([A, B, repeat(0), seq(2, 1), repeat(3)], ANY), b"::,:,",
-     success(5, 0, "inf"))
+case("repeat of a repeat and b", grammar([A, B, repeat(0), seq(2, 1), repeat(3)], ANY), b"::,:,", success(5, 0, "inf"))
 
 
 # --- Indent -------------------------------------------------------------------------------------------------
@@ -279,17 +277,14 @@ case("indent greater twice", grammar([A, indent(0), indent(1)], EQUAL), b"     :
 case("indent greater twice at 1", grammar([A, indent(0), indent(1)], EQUAL), b" :", FAILURE)
 case("indent greater twice at 2", grammar([A, indent(0), indent(1)], EQUAL), b"  :", success(1, 0, 0))
 # Any inside greater: 5 to 5, then 1 on, then "Without end less 1 is without end".
-case("indent any inside greater", grammar([A, indent(0, ANY), indent(1)], EQUAL), b"     :",
-     success(1, 0, "inf"))
-case("indent greater inside any", grammar([A, indent(0), indent(1, ANY)], EQUAL), b"     :",
-     success(1, 0, "inf"))
+case("indent any inside greater", grammar([A, indent(0, ANY), indent(1)], EQUAL), b"     :", success(1, 0, "inf"))
+case("indent greater inside any", grammar([A, indent(0), indent(1, ANY)], EQUAL), b"     :", success(1, 0, "inf"))
 # 001, 2.3: in mode equal on a1 b2 the indent of (a b) fails (1 to 1, then 2), the two
 # indents apart give 0 to 0.
 case("indent of a sequence", grammar([A, B, seq(0, 1), indent(2)], EQUAL), b" :,", FAILURE)
 case("sequence of indents", grammar([A, B, indent(0), indent(1), seq(2, 3)], EQUAL), b" :,", success(2, 0, 0))
 # Case f: "a, then (b under greater, or empty) .. a1 b2 reads 2, 1 to 1".
-case("case f on one line", grammar([A, B, indent(1), EMPTY, choice(2, 3), seq(0, 4)], EQUAL), b" :,",
-     success(2, 1, 1))
+case("case f on one line", grammar([A, B, indent(1), EMPTY, choice(2, 3), seq(0, 4)], EQUAL), b" :,", success(2, 1, 1))
 # "a3 b2 reads 1, 3 to 3": b2 stands on the next line, so the line's end is read too, in mode any.
 CASE_F = [A, B, END, position(2, ANY), indent(1), EMPTY, choice(4, 5), seq(3, 6), seq(0, 7)]
 case("case f with b lower", grammar(CASE_F, EQUAL), b"   :\n  ,", success(2, 3, 3))
@@ -315,8 +310,7 @@ case("second indent lowers the upper end",
 case("case a", grammar([A, B, seq(0, 1), align(2), indent(3)], AT_LEAST), b"  :,", success(2, 0, 1))
 # 001, theorem 2.4: align and indent may be exchanged. 1 on with the flag set: 2 to
 # 2, then 2 to 2, out 0 to 1.
-case("case a with align outside", grammar([A, B, seq(0, 1), indent(2), align(3)], AT_LEAST), b"  :,",
-     success(2, 0, 1))
+case("case a with align outside", grammar([A, B, seq(0, 1), indent(2), align(3)], AT_LEAST), b"  :,", success(2, 0, 1))
 # "with the flag set, i must lie in the interval ..", whatever the mode (case d).
 for name, mode in MODES:
     case(f"align of a mode {name}", grammar([A, align(0)], mode), b"     :", success(1, 5, 5))
@@ -329,12 +323,10 @@ case("align of a b mode any", grammar([*PAIR, align(2)], ANY), b"     :,", succe
 # Case h: "Align of empty, then a, mode greater, a5: 0 to 4."
 case("case h", grammar([EMPTY, align(0), A, seq(1, 2)], GREATER), b"     :", success(1, 0, 4))
 # Within one more align the flag "was set both before and at the inner end", so a is aligned.
-case("case h inside an align", grammar([EMPTY, align(0), A, seq(1, 2), align(3)], GREATER), b"     :",
-     success(1, 5, 5))
+case("case h inside an align", grammar([EMPTY, align(0), A, seq(1, 2), align(3)], GREATER), b"     :", success(1, 5, 5))
 # "after success it is set exactly if ..": a read in the inner one clears it.
 case("align of align", grammar([A, align(0), align(1)], GREATER), b"     :", success(1, 5, 5))
-case("align of align of a then b", grammar([A, B, align(0), seq(2, 1), align(3)], GREATER), b"     :,",
-     success(2, 5, 5))
+case("align of align of a then b", grammar([A, B, align(0), seq(2, 1), align(3)], GREATER), b"     :,", success(2, 5, 5))
 # "A rule is its node", "Position changes the mode", indent gives "the inner set": the flag goes in as it is.
 case("align of a rule", grammar([A, call(0), align(1)], GREATER, rules=[0]), b"     :", success(1, 5, 5))
 case("align of a choice", grammar([A, B, choice(0, 1), align(2)], GREATER), b"     ,", success(1, 5, 5))
@@ -346,25 +338,20 @@ case("align of not b behind a", grammar([A, B, position(1, GREATER), not_(2), al
 case("not b behind a", grammar([A, B, position(1, GREATER), not_(2), seq(0, 3)], EQUAL), b" :  ,", FAILURE)
 # Empty, not, a repeat without a round and an indent over empty leave the flag set.
 case("align of empty and a", grammar([EMPTY, A, seq(0, 1), align(2)], GREATER), b"     :", success(1, 5, 5))
-case("align of not b and a", grammar([A, B, not_(1), seq(2, 0), align(3)], GREATER), b"     :",
-     success(1, 5, 5))
-case("align of repeat b and a", grammar([A, B, repeat(1), seq(2, 0), align(3)], GREATER), b"     :",
-     success(1, 5, 5))
+case("align of not b and a", grammar([A, B, not_(1), seq(2, 0), align(3)], GREATER), b"     :", success(1, 5, 5))
+case("align of repeat b and a", grammar([A, B, repeat(1), seq(2, 0), align(3)], GREATER), b"     :", success(1, 5, 5))
 case("align of indent of empty and a", grammar([EMPTY, indent(0), A, seq(1, 2), align(3)], GREATER),
      b"     :", success(1, 5, 5))
 # "b from the old state", "Not and failure hand the old state on", "success in the old state": the flag too.
 # What failed had read a and cleared it.
 TRY = [A, B, seq(0, 1)]
 case("align of a b or a", grammar([*TRY, choice(2, 0), align(3)], GREATER), b"     :", success(1, 5, 5))
-case("align of not a b and a", grammar([*TRY, not_(2), seq(3, 0), align(4)], GREATER), b"     :",
-     success(1, 5, 5))
-case("align of repeat a b and a", grammar([*TRY, repeat(2), seq(3, 0), align(4)], GREATER), b"     :",
-     success(1, 5, 5))
+case("align of not a b and a", grammar([*TRY, not_(2), seq(3, 0), align(4)], GREATER), b"     :", success(1, 5, 5))
+case("align of repeat a b and a", grammar([*TRY, repeat(2), seq(3, 0), align(4)], GREATER), b"     :", success(1, 5, 5))
 # And a failed align hands on the clear flag.
 case("align of a b, or a", grammar([*TRY, align(2), choice(3, 0)], GREATER), b"     :", success(1, 0, 4))
 # The flag is clear behind an align that read: b6 in mode greater from 5 to 5; in mode equal 6 isn't 5.
-case("align of a then b mode greater", grammar([A, B, align(0), seq(2, 1)], GREATER), b"     :,",
-     success(2, 5, 5))
+case("align of a then b mode greater", grammar([A, B, align(0), seq(2, 1)], GREATER), b"     :,", success(2, 5, 5))
 case("align of a then b mode equal", grammar([A, B, align(0), seq(2, 1)], EQUAL), b"     :,", FAILURE)
 # Two aligns: the second token must lie in i to i.
 case("two aligns on a line", grammar([A, B, align(0), align(1), seq(2, 3)], ANY), b":,", FAILURE)
@@ -374,20 +361,15 @@ case("two aligns with b lower", grammar(TWO_ALIGNS, GREATER), b"  :\n ,", FAILUR
 case("two aligns with b higher", grammar(TWO_ALIGNS, GREATER), b"  :\n   ,", FAILURE)
 # Case i starts "from 1 to 1"; here a first token in mode equal, x1, gives that. "Align of (a under
 # greater) .. a4: 1 to 1." (2 on, flag set: 4 to 4, out 0 to 3.)
-case("case i behind a token", grammar([A, B, indent(1), align(2), seq(0, 3)], EQUAL), b" :  ,",
-     success(2, 1, 1))
-case("case i right behind a token", grammar([A, B, indent(1), align(2), seq(0, 3)], EQUAL), b" :,",
-     success(2, 1, 1))
+case("case i behind a token", grammar([A, B, indent(1), align(2), seq(0, 3)], EQUAL), b" :  ,", success(2, 1, 1))
+case("case i right behind a token", grammar([A, B, indent(1), align(2), seq(0, 3)], EQUAL), b" :,", success(2, 1, 1))
 case("case i under equal", grammar([A, B, indent(1, EQUAL), align(2), seq(0, 3)], EQUAL), b" :  ,", FAILURE)
-case("case i under at least", grammar([A, B, indent(1, AT_LEAST), align(2), seq(0, 3)], EQUAL), b" :  ,",
-     success(2, 1, 1))
-case("case i under any", grammar([A, B, indent(1, ANY), align(2), seq(0, 3)], EQUAL), b" :  ,",
-     success(2, 1, 1))
+case("case i under at least", grammar([A, B, indent(1, AT_LEAST), align(2), seq(0, 3)], EQUAL), b" :  ,", success(2, 1, 1))
+case("case i under any", grammar([A, B, indent(1, ANY), align(2), seq(0, 3)], EQUAL), b" :  ,", success(2, 1, 1))
 case("case i without an indent", grammar([A, B, align(1), seq(0, 2)], EQUAL), b" :  ,", FAILURE)
 # Behind the indent the flag is "as it left it", clear: a2 under greater gives 2 to 2, out
 # 0 to 1; then b3 at least.
-case("align of indented a then b", grammar([A, B, indent(0), seq(2, 1), align(3)], AT_LEAST), b"  :,",
-     success(2, 0, 1))
+case("align of indented a then b", grammar([A, B, indent(0), seq(2, 1), align(3)], AT_LEAST), b"  :,", success(2, 0, 1))
 
 
 # --- Position -----------------------------------------------------------------------------------------------
@@ -396,40 +378,30 @@ case("align of indented a then b", grammar([A, B, indent(0), seq(2, 1), align(3)
 ONE = {"equal": (5, 5), "greater": (0, 4), "at least": (0, 5), "any": (0, "inf")}
 for name, relation in MODES:
     other = ANY if relation != ANY else EQUAL
-    case(f"position {name} of a", grammar([A, position(0, relation)], other), b"     :",
-         success(1, *ONE[name]))
+    case(f"position {name} of a", grammar([A, position(0, relation)], other), b"     :", success(1, *ONE[name]))
     case(f"position {name} of a rule", grammar([A, call(0), position(1, relation)], other, rules=[0]),
          b"     :", success(1, *ONE[name]))
     # 001: of two positions the inner one holds.
     case(f"position {name} inside another", grammar([A, position(0, relation), position(1, other)], EQUAL),
          b"     :", success(1, *ONE[name]))
     # With the flag set the mode has no part.
-    case(f"align of position {name}", grammar([A, position(0, relation), align(1)], other), b"     :",
-         success(1, 5, 5))
-    case(f"position {name} of align", grammar([A, align(0), position(1, relation)], other), b"     :",
-         success(1, 5, 5))
+    case(f"align of position {name}", grammar([A, position(0, relation), align(1)], other), b"     :", success(1, 5, 5))
+    case(f"position {name} of align", grammar([A, align(0), position(1, relation)], other), b"     :", success(1, 5, 5))
 # The mode is the child's only: b3 stands in the file's mode again, equal.
-case("position any of a then b", grammar([A, B, position(0, ANY), seq(2, 1)], EQUAL), b"  :,",
-     success(2, 3, 3))
+case("position any of a then b", grammar([A, B, position(0, ANY), seq(2, 1)], EQUAL), b"  :,", success(2, 3, 3))
 # At least: a2 leaves 0 to 2, and 3 is outside.
-case("position at least of a then b", grammar([A, B, position(0, AT_LEAST), seq(2, 1)], EQUAL), b"  :,",
-     FAILURE)
-case("position at least of a b", grammar([A, B, seq(0, 1), position(2, AT_LEAST)], EQUAL), b"  :,",
-     success(2, 0, 2))
+case("position at least of a then b", grammar([A, B, position(0, AT_LEAST), seq(2, 1)], EQUAL), b"  :,", FAILURE)
+case("position at least of a b", grammar([A, B, seq(0, 1), position(2, AT_LEAST)], EQUAL), b"  :,", success(2, 0, 2))
 # "through rules too", and indents, aligns, choices: the mode greater reaches a; a5
 # under greater: 1 to 4, 0 to 3.
-case("position over an indent", grammar([A, indent(0), position(1, GREATER)], EQUAL), b"     :",
-     success(1, 0, 3))
-case("position over a choice", grammar([A, B, choice(0, 1), position(2, GREATER)], EQUAL), b"     ,",
-     success(1, 0, 4))
-case("position over a repeat", grammar([A, repeat(0), position(1, GREATER)], EQUAL), b"  ::",
-     success(2, 0, 1))
+case("position over an indent", grammar([A, indent(0), position(1, GREATER)], EQUAL), b"     :", success(1, 0, 3))
+case("position over a choice", grammar([A, B, choice(0, 1), position(2, GREATER)], EQUAL), b"     ,", success(1, 0, 4))
+case("position over a repeat", grammar([A, repeat(0), position(1, GREATER)], EQUAL), b"  ::", success(2, 0, 1))
 case("position over a not", grammar([A, not_(0), position(1, GREATER)], EQUAL), b":", EMPTY_ANSWER)
 # The rule names itself inside a position: rule 0 = a, then (rule 0 in mode any, or
 # empty). a2 equal, the rest any.
 case("position in a rule that names itself",
-     grammar([A, call(0), position(1, ANY), EMPTY, choice(2, 3), seq(0, 4)], EQUAL, rules=[5]), b"  :::",
-     success(3, 2, 2))
+     grammar([A, call(0), position(1, ANY), EMPTY, choice(2, 3), seq(0, 4)], EQUAL, rules=[5]), b"  :::", success(3, 2, 2))
 
 
 # --- Rules --------------------------------------------------------------------------------------------------
@@ -469,8 +441,7 @@ case("nested brackets not closed", VALUES_FILE, b"(1 (2 3) ()", FAILURE)
 case("brackets with a word inside", VALUES_FILE, b"(1 two)", FAILURE)
 case("brackets of 1,000", VALUES_FILE, b"(" * 1000 + b")" * 1000, success(2000, 0, "inf"))
 # "a rule may stand for any node": rule 0 for a node above the one that names it, rule 1 for one below.
-case("rules above and below", grammar([call(0), A, call(1), seq(0, 2)], AT_LEAST, rules=[1, 1]), b"  ::",
-     success(2, 0, 2))
+case("rules above and below", grammar([call(0), A, call(1), seq(0, 2)], AT_LEAST, rules=[1, 1]), b"  ::", success(2, 0, 2))
 # Rule 0 = a, then (rule 0 or empty) under greater. Mode equal: each token stands to
 # the right of the one before.
 RIGHT = [A, call(0), EMPTY, choice(1, 2), indent(3), seq(0, 4)]
@@ -487,20 +458,16 @@ case("ever deeper 4,095 times", grammar(RIGHT, EQUAL, rules=[5]), b":" * 4095, s
 # Rule 0 = a, then rule 0: may only fail. It passes the check, as a sequence "whose a is", and this a
 # never succeeds reading nothing.
 case("a rule that can't end", grammar([A, call(0), seq(0, 1)], ANY, rules=[2]), b":::", FAILURE)
-case("repeat of a rule that can't end", grammar([A, call(0), seq(0, 1), repeat(2)], ANY, rules=[2]), b":::",
-     EMPTY_ANSWER)
+case("repeat of a rule that can't end", grammar([A, call(0), seq(0, 1), repeat(2)], ANY, rules=[2]), b":::", EMPTY_ANSWER)
 # Its first part can't succeed, so it may not read nothing: the same words let it pass.
 case("a rule behind not empty", grammar([EMPTY, not_(0), call(0), seq(1, 2)], ANY, rules=[3]), b"", FAILURE)
 # Case j: "repeat of not-empty passes".
 case("repeat of not empty", grammar([EMPTY, not_(0), repeat(1)], ANY), b":", EMPTY_ANSWER)
 # "Choice: a's successes, and if a may fail all of b's facts": it reads something or fails.
-case("repeat of not empty or a", grammar([EMPTY, not_(0), A, choice(1, 2), repeat(3)], ANY), b"::",
-     success(2, 0, "inf"))
+case("repeat of not empty or a", grammar([EMPTY, not_(0), A, choice(1, 2), repeat(3)], ANY), b"::", success(2, 0, "inf"))
 # a or empty can't fail ("if a may fail all of b's facts"), so its not has no success and may be repeated.
-case("repeat of not (a or empty)", grammar([A, EMPTY, choice(0, 1), not_(2), repeat(3)], ANY), b":",
-     EMPTY_ANSWER)
-case("repeat of not (empty or a)", grammar([EMPTY, A, choice(0, 1), not_(2), repeat(3)], ANY), b":",
-     EMPTY_ANSWER)
+case("repeat of not (a or empty)", grammar([A, EMPTY, choice(0, 1), not_(2), repeat(3)], ANY), b":", EMPTY_ANSWER)
+case("repeat of not (empty or a)", grammar([EMPTY, A, choice(0, 1), not_(2), repeat(3)], ANY), b":", EMPTY_ANSWER)
 # "something if both may succeed and one reads something": not empty can't, so the sequence may only fail, its
 # not can't fail, and not not has no success. It passes, fails when run, and the repeat has no round.
 case("repeat of not not (a, not empty)",
@@ -533,14 +500,11 @@ case("blocks to the end", steps_all, STEP_TEXT, success(20, 0, 0))
 case("blocks without the last break", steps_all, STEP_TEXT[:-1], success(20, 0, 0))
 case("blocks with empty lines", steps_all, STEP_TEXT.replace(b"\n", b"\n\n \t \n"), success(20, 0, 0))
 case("blocks with returns", steps_all, STEP_TEXT.replace(b"\n", b"\r\n"), success(20, 0, 0))
-case("blocks moved right by 4", steps_all, b"    " + STEP_TEXT[:-1].replace(b"\n", b"\n    "),
-     success(20, 4, 4))
+case("blocks moved right by 4", steps_all, b"    " + STEP_TEXT[:-1].replace(b"\n", b"\n    "), success(20, 4, 4))
 # One tab and eight blanks are the same column.
-case("blocks with tabs", steps_all,
-     b"step 1:\n\tloss: 0.5\n        loss: 0.25\nstep 2:\n \tloss: 0.1\n", success(20, 0, 0))
+case("blocks with tabs", steps_all, b"step 1:\n\tloss: 0.5\n        loss: 0.25\nstep 2:\n \tloss: 0.1\n", success(20, 0, 0))
 # Each block has its own inner column.
-case("blocks of different depth", steps_all, STEP_TEXT.replace(b"  loss: 0.1\n", b"     loss: 0.1\n"),
-     success(20, 0, 0))
+case("blocks of different depth", steps_all, STEP_TEXT.replace(b"  loss: 0.1\n", b"     loss: 0.1\n"), success(20, 0, 0))
 # The second loss isn't aligned with the first: the block ends before it, and no step follows there.
 for name, text in (("right", b"   loss: 0.25"), ("left", b" loss: 0.25"), ("at 0", b"loss: 0.25")):
     text = STEP_TEXT.replace(b"  loss: 0.25", text)
@@ -548,8 +512,7 @@ for name, text in (("right", b"   loss: 0.25"), ("left", b" loss: 0.25"), ("at 0
     case(f"second line further {name}, to the end", steps_all, text, FAILURE)
 # The first loss isn't greater than its step: the block fails, and the repeat has no round.
 case("first line not indented", steps, STEP_TEXT.replace(b"  loss: 0.5", b"loss: 0.5"), EMPTY_ANSWER)
-case("first line not indented, to the end", steps_all, STEP_TEXT.replace(b"  loss: 0.5", b"loss: 0.5"),
-     FAILURE)
+case("first line not indented, to the end", steps_all, STEP_TEXT.replace(b"  loss: 0.5", b"loss: 0.5"), FAILURE)
 # The second step must stand in 0 to 0.
 case("second block further right", steps, STEP_TEXT.replace(b"step 2", b" step 2"), success(12, 0, 0))
 case("blocks on no text", steps_all, b"", EMPTY_ANSWER)
@@ -567,11 +530,9 @@ case("numbers", grammar([NUMBER, repeat(0)], ANY, ()), b" ".join(NUMBERS), succe
 for i, text in enumerate(NO_NUMBERS):
     case(f"no number {i}", grammar([WORD], ANY, ()), text, success(1, 0, "inf"))
 # `,` is a token by itself: number, other, number.
-case("number comma number", grammar([NUMBER, WORD, seq(1, 0), seq(0, 2)], ANY, ()), b"1,5",
-     success(3, 0, "inf"))
+case("number comma number", grammar([NUMBER, WORD, seq(1, 0), seq(0, 2)], ANY, ()), b"1,5", success(3, 0, "inf"))
 # "3 + k where .. else 0 for a number": a keyword comes first.
-case("a number that is a keyword", grammar([term(3), NUMBER, seq(0, 1)], ANY, (b"12",)), b"12 13",
-     success(2, 0, "inf"))
+case("a number that is a keyword", grammar([term(3), NUMBER, seq(0, 1)], ANY, (b"12",)), b"12 13", success(2, 0, "inf"))
 case("a keyword is no number", grammar([NUMBER], ANY, (b"12",)), b"12", FAILURE)
 case("a keyword is no word", grammar([WORD], ANY, (b"loss",)), b"loss", FAILURE)
 case("012 is not the keyword 12", grammar([NUMBER], ANY, (b"12",)), b"012", success(1, 0, "inf"))
@@ -580,8 +541,7 @@ case("nine single bytes", grammar([WORD, repeat(0)], ANY, ()), NINE, success(9, 
 case("nine single bytes as keywords",
      grammar([*(term(3 + i) for i in range(9)), seq(7, 8), *(seq(6 - i, 9 + i) for i in range(7))], ANY,
              [bytes([b]) for b in NINE]), NINE, success(9, 0, "inf"))
-case("single bytes inside words", grammar([WORD, repeat(0)], ANY, ()), b"a:b,c(d)e[f]g=h;i%j",
-     success(19, 0, "inf"))
+case("single bytes inside words", grammar([WORD, repeat(0)], ANY, ()), b"a:b,c(d)e[f]g=h;i%j", success(19, 0, "inf"))
 # "other tokens are longest runs of the remaining bytes": 94 from 33 to 126 less nine, and 128 from 128 on.
 RUN = bytes(b for b in range(33, 256) if b != 127 and b not in NINE)
 # The line's end "at the column and offset of the break or the end", in mode equal.
@@ -609,13 +569,10 @@ for name, text, column in (
     ("a tab and a break", b"\t\n", 0), ("breaks and a tab", b"\n\n\t", 8),
 ):
     case(f"column behind {name}", grammar([WORD], EQUAL, ()), text + b"w", success(1, column, column))
-    case(f"column behind {name} mode at least", grammar([WORD], AT_LEAST, ()), text + b"w",
-         success(1, 0, column))
-case("column behind a token and a tab", grammar([A, WORD, position(0, ANY), seq(2, 1)], EQUAL), b" :\tw",
-     success(2, 8, 8))
+    case(f"column behind {name} mode at least", grammar([WORD], AT_LEAST, ()), text + b"w", success(1, 0, column))
+case("column behind a token and a tab", grammar([A, WORD, position(0, ANY), seq(2, 1)], EQUAL), b" :\tw", success(2, 8, 8))
 # One line end for each line with a token, none for the others: x end y end.
-case("line ends", grammar([WORD, END, seq(0, 1), repeat(2)], ANY), b"\nx\n\n \t\n  y  \n\n",
-     success(4, 0, "inf"))
+case("line ends", grammar([WORD, END, seq(0, 1), repeat(2)], ANY), b"\nx\n\n \t\n  y  \n\n", success(4, 0, "inf"))
 case("no line end between two words", grammar([WORD, repeat(0)], ANY), b"x y z\n", success(3, 0, "inf"))
 SECOND = [WORD, END, seq(0, 1), position(2, ANY), seq(3, 0)]
 case("column on a second line", grammar(SECOND, EQUAL), b"abc\n  d", success(3, 2, 2))
@@ -655,8 +612,7 @@ case("column 65,535 under align", grammar([WORD, END, position(0, ANY), align(1)
 case("column 65,535 under indent greater",
      grammar([WORD, END, position(0, ANY), seq(2, 1), indent(3)], EQUAL), HIGH, success(2, 0, 65534))
 # 65,528 and seven bytes more.
-case("a run up to column 65,535", grammar(END_COLUMN, EQUAL), b"\t" * 8191 + b"w" * 7,
-     success(2, 65535, 65535))
+case("a run up to column 65,535", grammar(END_COLUMN, EQUAL), b"\t" * 8191 + b"w" * 7, success(2, 65535, 65535))
 # `w` at 0 and the line's end at 65,535: 8,191 tabs and 7 blanks.
 FAR = b"w" + b"\t" * 8191 + b" " * 7
 case("line end at 65,535 behind tabs", grammar(END_COLUMN, EQUAL), FAR, success(2, 65535, 65535))
@@ -673,8 +629,7 @@ for name, relation in (("equal", EQUAL), ("at least", AT_LEAST), ("any", ANY)):
 case("second line under greater in mode any",
      grammar([*FIRST, position(3, ANY), indent(4), seq(3, 5)], EQUAL), FAR2, success(4, 65535, 65535))
 case("second line under greater twice in mode any",
-     grammar([*FIRST, position(3, ANY), indent(4), indent(5), seq(3, 6)], EQUAL), FAR2,
-     success(4, 65535, 65535))
+     grammar([*FIRST, position(3, ANY), indent(4), indent(5), seq(3, 6)], EQUAL), FAR2, success(4, 65535, 65535))
 # 506 indents: from 66,041 on.
 case("second line under 506 indents in mode any",
      grammar([*FIRST, position(3, ANY), *(indent(i) for i in range(4, 510)), seq(3, 510)], EQUAL), FAR2,
@@ -684,8 +639,7 @@ for name, mode in (("at least", AT_LEAST), ("greater", GREATER)):
     case(f"second line under greater in mode {name}",
          grammar([*FIRST, position(1, mode), seq(2, 4), indent(5), seq(3, 6)], EQUAL), FAR2, FAILURE)
 # The aligned word must lie in 65,536 on.
-case("second line aligned under greater", grammar([*FIRST, align(2), indent(4), seq(3, 5)], EQUAL), FAR2,
-     FAILURE)
+case("second line aligned under greater", grammar([*FIRST, align(2), indent(4), seq(3, 5)], EQUAL), FAR2, FAILURE)
 # The word in mode any, then not the end in mode equal.
 case("second line under greater and no end",
      grammar([*FIRST, not_(1), seq(2, 4), indent(5), seq(3, 6)], EQUAL), FAR2, success(3, 65535, 65535))
@@ -799,8 +753,7 @@ for byte in NINE:
     case(f"keyword x and byte {byte}", with_keywords(b"x" + bytes([byte])), EXAMPLE, refused(2))
     case(f"keyword of byte {byte} twice", with_keywords(bytes([byte, byte])), EXAMPLE, refused(2))
     # Only keywords have that rule.
-    case(f"rule name x and byte {byte}", with_names(b"x" + bytes([byte])), EXAMPLE,
-         EMPTY_ANSWER)
+    case(f"rule name x and byte {byte}", with_names(b"x" + bytes([byte])), EXAMPLE, EMPTY_ANSWER)
 case("keyword twice", with_keywords(b"loss", b":", b"loss"), EXAMPLE, refused(2))
 case("single byte keyword twice", with_keywords(b":", b":"), EXAMPLE, refused(2))
 case("rule name twice", VERSION + R0 + rule(0, b"r1") + R0 + TAIL, EXAMPLE, refused(2))
@@ -814,14 +767,12 @@ for name, spelling in (
     ("32 bytes", b"x" * 32), ("byte 33", b"!"), ("byte 126", b"~"), ("bytes over 127", b"\x80\xc3\xa9\xff"),
     ("1 byte", b"q"), ("digits", b"-1.50"),
 ):
-    case(f"keyword that passes, {name}", grammar([term(3)], EQUAL, (spelling,)), b" " + spelling,
-         success(1, 1, 1))
+    case(f"keyword that passes, {name}", grammar([term(3)], EQUAL, (spelling,)), b" " + spelling, success(1, 1, 1))
     case(f"rule name that passes, {name}", with_names(spelling), b"", EMPTY_ANSWER)
 # Keywords that differ only in the last byte, or by one byte more.
 case("keywords alike up to the last byte", grammar([term(4)], ANY, (b"x" * 32, b"x" * 31 + b"y")),
      b"x" * 31 + b"y", success(1, 0, "inf"))
-case("keyword one byte longer than another", grammar([term(4)], ANY, (b"los", b"loss")), b"loss",
-     success(1, 0, "inf"))
+case("keyword one byte longer than another", grammar([term(4)], ANY, (b"los", b"loss")), b"loss", success(1, 0, "inf"))
 case("keyword one byte shorter than another", grammar([term(4)], ANY, (b"loss", b"los")), b"loss", FAILURE)
 case("33 bytes are not the keyword of 32", grammar([term(3)], ANY, (b"x" * 32,)), b"x" * 33, FAILURE)
 
@@ -845,14 +796,11 @@ case("511 indents and column 600", NEST, b" " * 600 + b"w", success(1, 0, 89))
 case("511 indents and column 511", NEST, b" " * 511 + b"w", success(1, 0, 0))
 case("511 indents and column 510", NEST, b" " * 510 + b"w", FAILURE)
 # The same chain from node 258: 258 indents. 300 - 258 = 42.
-case("258 indents and column 300", grammar(over([WORD], indent), EQUAL, first=258),
-     b" " * 300 + b"w", success(1, 0, 42))
+case("258 indents and column 300", grammar(over([WORD], indent), EQUAL, first=258), b" " * 300 + b"w", success(1, 0, 42))
 # 128 rules: node i is rule i + 1, node 127 a word, rule i stands for node i.
 CHAIN = [*(call(i + 1) for i in range(127)), WORD]
-case("128 rules, one through the other", grammar(CHAIN, AT_LEAST, rules=range(128), first=0), b"  w",
-     success(1, 0, 2))
-case("128 rules, from the last", grammar([*CHAIN, call(127)], AT_LEAST, rules=range(128)), b"  w",
-     success(1, 0, 2))
+case("128 rules, one through the other", grammar(CHAIN, AT_LEAST, rules=range(128), first=0), b"  w", success(1, 0, 2))
+case("128 rules, from the last", grammar([*CHAIN, call(127)], AT_LEAST, rules=range(128)), b"  w", success(1, 0, 2))
 case("129 rules", grammar(CHAIN, AT_LEAST, rules=[*range(128), 0], first=0), b"  w", refused(3))
 case("129 rules for one node", grammar([EMPTY], ANY, rules=[0] * 129), b"  w", refused(3))
 case("128 rules for one node", grammar([EMPTY], ANY, rules=[0] * 128), b"  w", EMPTY_ANSWER)
@@ -905,8 +853,7 @@ case("node 0 a repeat of 0", grammar([repeat(0)], ANY, ()), EXAMPLE, refused(4))
 case("node 0 a sequence of 0 and 0", grammar([seq(0, 0)], ANY, ()), EXAMPLE, refused(4))
 # There is no rule 0.
 case("node 0 a rule and no rule", grammar([call(0)], ANY, ()), EXAMPLE, refused(4))
-case("only the last of 512 nodes bad", grammar([EMPTY] * 511 + [term(256)], ANY, first=0), EXAMPLE,
-     refused(4))
+case("only the last of 512 nodes bad", grammar([EMPTY] * 511 + [term(256)], ANY, first=0), EXAMPLE, refused(4))
 # Terminal 255 may stand in a table with fewer keywords: no token has it.
 case("terminal 255 without keywords", grammar([term(255)], ANY, ()), EXAMPLE, FAILURE)
 
@@ -921,8 +868,7 @@ case("rule node 256", grammar([EMPTY, EMPTY], ANY, (), [256]), EXAMPLE, refused(
 case("rule node 512 of 512", grammar([EMPTY] * 512, ANY, (), [512]), EXAMPLE, refused(5))
 case("rule node 511 of 512", grammar([EMPTY] * 512, ANY, (), [511]), EXAMPLE, EMPTY_ANSWER)
 for first, count in ((1, 1), (2, 2), (256, 2), (512, 512), (65535, 1)):
-    case(f"start node {first:,} of {count}", grammar([EMPTY] * count, ANY, (), first=first), EXAMPLE,
-         refused(5))
+    case(f"start node {first:,} of {count}", grammar([EMPTY] * count, ANY, (), first=first), EXAMPLE, refused(5))
 for mode in (4, 35, 128, 255):
     case(f"start mode {mode}", grammar([EMPTY], mode, ()), EXAMPLE, refused(5))
 
@@ -990,10 +936,8 @@ for label, nodes, rules, bad in (
     # if it may fail"), x or empty ("if a may fail"), x then a ("a may succeed and b fail"). So a followed by
     # one of them may only fail, its not can't fail, not not can't succeed, and the repeat of that, rule 1,
     # passes with node 0; node 1 doesn't.
-    ("facts of a repeat of x", [call(1), call(0), repeat(1), A, seq(3, 2), not_(4), not_(5), repeat(6)],
-     [1, 7], 1),
-    ("facts of x or empty",
-     [call(1), call(0), EMPTY, choice(1, 2), A, seq(4, 3), not_(5), not_(6), repeat(7)], [1, 8], 1),
+    ("facts of a repeat of x", [call(1), call(0), repeat(1), A, seq(3, 2), not_(4), not_(5), repeat(6)], [1, 7], 1),
+    ("facts of x or empty", [call(1), call(0), EMPTY, choice(1, 2), A, seq(4, 3), not_(5), not_(6), repeat(7)], [1, 8], 1),
     ("facts of a repeat of (x, a)",
      [call(1), call(0), A, seq(1, 2), repeat(3), seq(2, 4), not_(5), not_(6), repeat(7)], [1, 8], 1),
     # Rule 0 = a or rule 0 may read something, never nothing, and not fail. "Repeat: something if the child
@@ -1006,8 +950,7 @@ for label, nodes, rules, bad in (
     case(f"not well formed, {label}", grammar(nodes, EQUAL, KEYS, rules, first=0), b":", refused(7, bad))
 for number in (9, 10, 99, 100, 256, 511):
     # The repeat of empty is the last node.
-    case(f"not well formed, node {number}", grammar([EMPTY] * number + [repeat(0)], ANY, ()), b"",
-         refused(7, number))
+    case(f"not well formed, node {number}", grammar([EMPTY] * number + [repeat(0)], ANY, ()), b"", refused(7, number))
 
 
 # --- Refused by 8: the text ---------------------------------------------------------------------------------
@@ -1036,10 +979,8 @@ case("65,534 blanks and a word", grammar(END_COLUMN, AT_LEAST), b" " * 65534 + b
 case("65,535 blanks and a word", grammar(END_COLUMN, AT_LEAST), b" " * 65535 + b"w", refused(8))
 # A number of 65,535 digits.
 case("a number of 65,535 digits", grammar([NUMBER], AT_LEAST), b"7" * 65535, success(1, 0, 0))
-case("a word before 65,534 breaks", grammar([WORD, END, seq(0, 1)], AT_LEAST), b"w" + b"\n" * 65534,
-     success(2, 0, 0))
-case("65,534 breaks and a word", grammar([WORD, END, seq(0, 1)], AT_LEAST), b"\n" * 65534 + b"w",
-     success(2, 0, 0))
+case("a word before 65,534 breaks", grammar([WORD, END, seq(0, 1)], AT_LEAST), b"w" + b"\n" * 65534, success(2, 0, 0))
+case("65,534 breaks and a word", grammar([WORD, END, seq(0, 1)], AT_LEAST), b"\n" * 65534 + b"w", success(2, 0, 0))
 case("65,534 blanks and a byte 0", NOTHING, b" " * 65534 + b"\x00", refused(8))
 case("a text of 65,536 zeros", NOTHING, bytes(65536), refused(8))
 case("a text of 131,072 blanks", NOTHING, b" " * 131072, refused(8))
@@ -1106,8 +1047,7 @@ case("too many tokens where the grammar fails", grammar([A], ANY), b"w " * 4096,
 # All of 4,096 tokens read, then one more is asked for: "A terminal also fails at the token count".
 case("4,096 tokens and one more wanted", grammar([WORD, END, choice(0, 1), repeat(2), seq(3, 1)], ANY),
      b"a\n" * 2048, FAILURE)
-case("4,096 tokens and no more wanted",
-     grammar([WORD, END, choice(0, 1), repeat(2), not_(2), seq(3, 4)], ANY),
+case("4,096 tokens and no more wanted", grammar([WORD, END, choice(0, 1), repeat(2), not_(2), seq(3, 4)], ANY),
      b"a\n" * 2048, success(4096, 0, "inf"))
 
 
@@ -1154,12 +1094,8 @@ FILES = (
     (7, "at an unreachable node", VERSION + EMPTY_FIELD * 3 + node(6, 2) + START, refused(7, 3)),
 )
 # A text in order, and texts refused by 8 (a byte, the length), by 9 and by 10.
-TEXTS = (
-    ("a text in order", EXAMPLE), ("a byte of 8", b"\x00"),
-)
-MORE_TEXTS = (
-    ("no text", b""), ("a length of 8", b" " * 65536), ("9", b"\t" * 8192 + b"a"), ("10", b":" * 4096),
-)
+TEXTS = (("a text in order", EXAMPLE), ("a byte of 8", b"\x00"))
+MORE_TEXTS = (("no text", b""), ("a length of 8", b" " * 65536), ("9", b"\t" * 8192 + b"a"), ("10", b":" * 4096))
 # The file's number is lower than the text's, so its line holds whatever the text is. The first two texts go
 # with each file, the others with the first file of each number.
 for name, text in TEXTS:
@@ -1173,8 +1109,7 @@ for name, text in MORE_TEXTS:
             case(f"{number} {kind}, with {name}", file, text, line)
 # Both inputs over length; the file just within it.
 case("a file and a text of 65,536 bytes", VERSION + keyword(b"abc") + MANY_NODES, b" " * 65536, refused(1))
-case("a file of 65,535 and a text of 65,536 bytes", VERSION + keyword(b"ab") + MANY_NODES, b" " * 65536,
-     refused(3))
+case("a file of 65,535 and a text of 65,536 bytes", VERSION + keyword(b"ab") + MANY_NODES, b" " * 65536, refused(3))
 # 8 before 9 and 10, whatever comes first in the text.
 case("8 by a byte behind 9", NOTHING, b"\t" * 8192 + b"a\x00", refused(8))
 case("8 by a byte before 9", NOTHING, b"\x00" + b"\t" * 8192 + b"a", refused(8))
@@ -1200,8 +1135,7 @@ case("4,096 tokens and a line end at 65,536", COUNT, b"\t" * 7680 + b":" * 4096,
 case("4,096 tokens and a line end at 65,535", COUNT, b"\t" * 7679 + b" " * 7 + b":" * 4096, refused(10))
 # Each before a failure or a success of the grammar: nothing runs.
 case("7 where the start would succeed", VERSION + EMPTY_FIELD + node(6) + start(0, 0), EXAMPLE, refused(7, 1))
-case("7 where the start would fail", grammar([A, EMPTY, repeat(1)], EQUAL, (), first=0), EXAMPLE,
-     refused(7, 2))
+case("7 where the start would fail", grammar([A, EMPTY, repeat(1)], EQUAL, (), first=0), EXAMPLE, refused(7, 2))
 
 
 if __name__ == "__main__":
