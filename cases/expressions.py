@@ -1,8 +1,8 @@
 """Expressions as trees, how they are written, and how a table is laid out from them.
 
-How they are written: a to z are terminals, a the first one said, else 1; capitals, also with a prime, are rules;
-`empty` is empty; p q, p / q, !p and p* as in 001; p^R is an indent, p_R a position and [p] an align, where R is =, >,
->= or any.
+How they are written: a to z are terminals, a the first one said, else 1; `number`, `word` and `end` are terminals 0
+to 2, as the scanner has them; capitals, also with a prime, are rules; `empty` is empty; p q, p / q, !p and p* as in
+001; p^R is an indent, p_R a position and [p] an align, where R is =, >, >= or any.
 """
 
 import re
@@ -16,6 +16,9 @@ EPS = ("empty",)
 
 def t(number):
     return ("terminal", number)
+
+
+PLAIN = {"empty": EPS, "number": t(0), "word": t(1), "end": t(2)}
 
 
 def r(name):
@@ -63,7 +66,7 @@ def al(e):
 class Table:
     """The nodes of expressions: children first, left before right; the rules in their order, then the start.
 
-    With `once` equal expressions are one node.
+    With `once` equal expressions are one node. The leaves given stand before all.
     """
 
     FORMS = {
@@ -79,9 +82,11 @@ class Table:
         "align": table_nodes.align,
     }
 
-    def __init__(self, rules, start, once=False):
+    def __init__(self, rules, start, once=False, leaves=()):
         self.nodes, self.seen, self.once = [], {}, once
         self.numbers = {name: number for number, name in enumerate(rules)}
+        for leaf in leaves:
+            self.put(leaf)
         self.rules = [self.put(e) for e in rules.values()]
         self.start = self.put(start)
 
@@ -101,7 +106,7 @@ class Table:
 class Written:
     """A written expression, read word by word."""
 
-    WORDS = re.compile(r"\s*(empty|any|>=|[=>/!*^_()\[\]]|[a-z]|[A-Z]'?)")
+    WORDS = re.compile(r"\s*(empty|number|word|end|any|>=|[=>/!*^_()\[\]]|[a-z]|[A-Z]'?)")
 
     def __init__(self, text, first):
         self.first = first
@@ -134,8 +139,8 @@ class Written:
 
     def primary(self):
         word = self.take()
-        if word == "empty":
-            return EPS
+        if word in PLAIN:
+            return PLAIN[word]
         if word in ("(", "["):
             tree = self.choice()
             assert self.take() == {"(": ")", "[": "]"}[word]

@@ -58,7 +58,7 @@ def success(answer, place):
 
 # --- Tables --------------------------------------------------------------------------------------
 
-A, B, C = terminal(1), terminal(2), terminal(3)
+A, B = terminal(1), terminal(2)
 KIND_10 = (10, 0, 0, 0)
 
 

@@ -80,8 +80,7 @@ NOTES = [
     "001 theorem 2.3 (1): the last law reads `(p_s)^*`; it is `(p_s)^r`, as (2) says again.",
     "001 theorem 2.4 (2): by the paper's own definition of composition the two relations must stand the "
     "other way round. For > and >= this makes no difference; the runs with any go by the clauses.",
-    "001 section 3: the rules of stage 1 have lost their bars. Read as "
-    "`B = b |AA / A!!c / !!cA / !!c!!c|^>`.",
+    "001 section 3: the rules of stage 1 have lost their bars. Read as `B = b |AA / A!!c / !!cA / !!c!!c|^>`.",
     "000 section 2.2: the star of the bracket grammar is shown as `1/2`.",
     "000 figures 4, 7 and 8 and the productions of suite and block are lost; the prose gives them. alts "
     "here has at least one alternative, else its repeat is refused.",
@@ -149,16 +148,11 @@ run("001 2.1 braces in mode at least", "001 section 2.1, token modes", "position
 # istmts: in 2.., s5 5..5; do4: do^> in 6.. has no 4, ends; out 1..2 with 0..4 = 1..2. Next |stmt| from
 # 1..2: do^> in 2.., flag: do4 4..4, out 1..2 with 0..3 = 1..2; s6: in 2.., 6..6, out 1..2. Out 0..0 with
 # 0..1.
-run("001 2.4 indented do under align", "001 sections 1 and 2.4 (3)",
-    "an indent inside align moves the baseline",
+run("001 2.4 indented do under align", "001 sections 1 and 2.4 (3)", "an indent inside align moves the baseline",
     "success 5 0 0 clear", r("doexp"), "do1 do3 s5 do4 s6", DO, DO_NAMES)
 # do is now a plain token in mode greater: do1 0..0; in 1.., flag: do3 3..3; in 4.., s5 5..5; do4 not in
 # 5..5; out 3..3 with 0..4 = 3..3. do4 is not in 3..3 either: the block ends. Out 0..0 with 0..2 = 0..0.
-MODE_DO = {
-    "doexp": seq(T_DO, r("istmts")),
-    "istmts": ind(GT, plus(al(r("stmt")))),
-    "stmt": alt(T_S, r("doexp")),
-}
+MODE_DO = {"doexp": seq(T_DO, r("istmts")), "istmts": ind(GT, plus(al(r("stmt")))), "stmt": alt(T_S, r("doexp"))}
 run("001 2.1 do in mode greater", "001 section 2.1, token modes", "with a token mode the nested do must align",
     "success 3 0 0 clear", r("doexp"), "do1 do3 s5 do4 s6", MODE_DO, DO_NAMES, mode=GT)
 # As before up to 3..3; do3 lies in it; in 4.., s6 6..6, out 3..3 with 0..5 = 3..3; out 0..0.
@@ -301,8 +295,7 @@ run("001 2.3 empty by itself", "001 theorem 2.3", "empty changes nothing", "succ
 # No tokens. Position any: only the mode changes. Indent any: in N, out N with N = N.
 # Align: set inside, clear before, so clear.
 for name, e in (("position", "empty_any"), ("indent", "empty^any"), ("align", "[empty]")):
-    run(f"001 2.3 empty under {name} without tokens", "001 theorem 2.3", "empty needs no token",
-        "success 0 0 inf clear", e)
+    run(f"001 2.3 empty under {name} without tokens", "001 theorem 2.3", "empty needs no token", "success 0 0 inf clear", e)
 # The right side again: N and clear stay.
 run("001 2.3 empty by itself without tokens", "001 theorem 2.3", "empty needs no token", "success 0 0 inf clear", "empty")
 # From place 1, where a5 stands unread. Position at least: only the mode changes.
@@ -458,8 +451,7 @@ run("001 2.3 indent over sequence right", SPLIT, "a baseline for each", "success
 # In 1.., a5 5..5, b3 fails.
 run("001 2.3 indent over falling sequence left", SPLIT, "one baseline for both", "failure", JOINT, "a5 b3")
 # a^>: out N with 0..4 = 0..4; b^>: in 1.., b3 3..3, out 0..4 with 0..2 = 0..2.
-run("001 2.3 indent over falling sequence right", SPLIT, "a baseline for each", "success 2 0 2 clear",
-    APART, "a5 b3")
+run("001 2.3 indent over falling sequence right", SPLIT, "a baseline for each", "success 2 0 2 clear", APART, "a5 b3")
 # In 3.., flag: a4 lies in it, 4..4, clear.
 # Mode at least: b3 is not in 4.., so the sequence and the indent fail.
 run("001 2.3 indent over falling sequence with flag left", SPLIT, "one baseline for both, flag set",
@@ -470,8 +462,7 @@ run("001 2.3 indent over falling sequence with flag right", SPLIT, "a baseline f
     "success 2 2 2 clear", APART, "a4 b3", low=2, high=6, flag=1, mode=GE)
 # In 1.., a1 1..1, b1 1..1, out N with 0..0 = 0..0.
 # Right: a^> gives 0..0, then in 1.., b1 1..1, out 0..0: here they agree.
-pair("indent over level sequence", SPLIT, "equal on tokens of one column", "success 2 0 0 clear",
-     JOINT, APART, "a1 b1")
+pair("indent over level sequence", SPLIT, "equal on tokens of one column", "success 2 0 0 clear", JOINT, APART, "a1 b1")
 # In 3.., flag: a4 4..4; b5 >= 4, 4..4 with 0..5 = 4..4; out 2..6 with 0..3 = 2..3.
 # Right: a^> 2..3 and clear; b^>: in 3.., 3.. with 0..5 = 3..5, out 2..3 with 0..4 = 2..3: they agree.
 pair("indent over rising sequence with flag", SPLIT, "equal where the first token sets the bound",
@@ -816,12 +807,10 @@ CASE = {
 # From 1..1: case3, x8, of10 each right of 1, 1..1 stays. { fails at id. In 2.., flag: Left5 5..5; y10,
 # ->12, y15 are in 6..; Right4 is not, nor in 5..5. Out 1..1 with 0..4 = 1..1. 7 read.
 run("000 4.3 derivation", "000 section 4.3, figure 7", "Right at 4 ends the alternatives that began at 5",
-    "success 7 1 1 clear", r("case"), "case3 id8 of10 id5 id10 ->12 id15 id4", CASE, CASE_NAMES, low=1,
-    high=1, mode=GT)
+    "success 7 1 1 clear", r("case"), "case3 id8 of10 id5 id10 ->12 id15 id4", CASE, CASE_NAMES, low=1, high=1, mode=GT)
 # Right5 is not in 6.. (so no argument) but in 5..5: a second alternative.
-run("000 4.3 aligned alternatives", "000 section 4.3", "Right at 5 begins the second alternative",
-    "success 11 1 1 clear", r("case"), "case3 id8 of10 id5 id10 ->12 id15 id5 id11 ->13 id16", CASE,
-    CASE_NAMES, low=1, high=1, mode=GT)
+run("000 4.3 aligned alternatives", "000 section 4.3", "Right at 5 begins the second alternative", "success 11 1 1 clear",
+    r("case"), "case3 id8 of10 id5 id10 ->12 id15 id5 id11 ->13 id16", CASE, CASE_NAMES, low=1, high=1, mode=GT)
 # The grammar word for word, > at every terminal, mode equal, by 001: in 2.., flag: id^> in 3.., Left5
 # 5..5, out 2.. with 0..4 = 2..4; y10, ->12, y15 keep 2..4; Right4: in 3.., 4..4, out 2..4 with 0..3 =
 # 2..3: read as an argument. Out 1..1 with 0..2 = 1..1. 000 would stop before Right.
@@ -843,20 +832,17 @@ run("000 3.1 explicit braces", "000 section 3.1.2, eAlts", "braces free the cont
     CASE_NAMES, low=1, high=1, mode=GT)
 # {0 is not in 2..; iAlts then reads no alternative: in 2.., |alts| fails at {, out 1..1 with 0.. = 1..1.
 run("000 3.1 opening brace too far left", "000 section 3.1.2, eAlts", "the opening brace keeps to the mode",
-    "success 3 1 1 clear", r("case"), "case3 id8 of10 {0 id2 ->4 id6 }0", CASE, CASE_NAMES, low=1, high=1,
-    mode=GT)
+    "success 3 1 1 clear", r("case"), "case3 id8 of10 {0 id2 ->4 id6 }0", CASE, CASE_NAMES, low=1, high=1, mode=GT)
 # The opening brace in mode any: {0 1..1; in N: id2 0..1, ->4, id6; out 1..1; }0.
 RELAXED_CASE = dict(CASE, eAlts=seq(pos(ANY, K_OPEN), ind(ANY, r("alts")), pos(ANY, K_CLOSE)))
-run("000 3.1 relaxed layout", "000 section 3.1.2, RelaxedLayout", "an opening brace at any column",
-    "success 8 1 1 clear", r("case"), "case3 id8 of10 {0 id2 ->4 id6 }0", RELAXED_CASE, CASE_NAMES,
-    low=1, high=1, mode=GT)
+run("000 3.1 relaxed layout", "000 section 3.1.2, RelaxedLayout", "an opening brace at any column", "success 8 1 1 clear",
+    r("case"), "case3 id8 of10 {0 id2 ->4 id6 }0", RELAXED_CASE, CASE_NAMES, low=1, high=1, mode=GT)
 # alts = [id] (; [id])* may read nothing, so its repeat is bad. Nodes: 0 id, 1 empty, 2 choice, 3 ;, 4
 # sequence, 5 repeat, 6 sequence (alts), 7 rule, 8 align, 9 repeat, 10 indent. All up to 8 pass, 9 repeats
 # what may read nothing.
 run("000 3.1 alternatives that may be empty", "000 section 3.1.2, side condition of case",
-    "a repeat of something that may read nothing", "refused 7 9",
-    ind(GT, star(al(r("alts")))), "id3", {"alts": seq(opt(K_ID), star(seq(K_SEMI, opt(K_ID))))}, CASE_NAMES,
-    mode=GT)
+    "a repeat of something that may read nothing", "refused 7 9", ind(GT, star(al(r("alts")))), "id3",
+    {"alts": seq(opt(K_ID), star(seq(K_SEMI, opt(K_ID))))}, CASE_NAMES, mode=GT)
 
 # ---- 000, section 4.2 and 5.1 ----
 
@@ -909,8 +895,7 @@ PROGRAM = plus(al(r("statement")))
 report("000 3.2 while block", "000 section 3.2.2, while_stmt and suite", "a block, then a line at the margin",
        "success 16 0 0 clear", PYTHON_KEYS, PROGRAM, "while x:\n    y = 1\n    z = 2\nw = 3\n", PYTHON)
 # z2 is neither in 4..4 nor in 0..0: both repeats end. 4 + 4 read.
-report("000 3.2 while block badly dedented", "000 section 3.2.2, suite",
-       "a line between two baselines is left over",
+report("000 3.2 while block badly dedented", "000 section 3.2.2, suite", "a line between two baselines is left over",
        "success 8 0 0 clear", PYTHON_KEYS, PROGRAM, "while x:\n    y = 1\n  z = 2\n", PYTHON)
 # y0 is not in 1.., and simple does not begin with a line end: both forms of suite fail, so the statement
 # does.
@@ -946,8 +931,7 @@ run("002 4.1 newer offside rule", "002 section 4.1.2, Amorim's wording", "the fi
 SUM = al(seq(NUMBER, opt(NL), t(3), opt(NL), NUMBER, NL))
 SUMS = "002 chapter 2 and section 5.1, the three sums"
 # flag: 1 at 0 0..0; +2, 1 at 4 in 1...
-report("002 2 sum on one line", SUMS, "the offside rule over lines", "success 4 0 0 clear", "+", SUM,
-       "1 + 1\n")
+report("002 2 sum on one line", SUMS, "the offside rule over lines", "success 4 0 0 clear", "+", SUM, "1 + 1\n")
 # 1 at 0, +2, end 3, 1 at 2, end 3.
 report("002 2 sum broken behind plus", SUMS, "a continuation line further right", "success 5 0 0 clear", "+",
        SUM, "1 +\n  1\n")
@@ -955,8 +939,7 @@ report("002 2 sum broken behind plus", SUMS, "a continuation line further right"
 report("002 2 sum broken before plus", SUMS, "a continuation line further right", "success 5 0 0 clear", "+",
        SUM, "1\n  + 1")
 # +0 is not in 1...
-report("002 2 sum at the margin", SUMS, "a line at the first column is no continuation", "failure", "+", SUM,
-       "1\n+ 1\n")
+report("002 2 sum at the margin", SUMS, "a line at the first column is no continuation", "failure", "+", SUM, "1\n+ 1\n")
 
 # Python-like definitions. Keywords def = 3, : = 4, ( = 5, ) = 6, print = 7, \ = 8.
 DEF, COLON_D, LP_D, RP_D, PRINT, JOIN = (t(k) for k in range(3, 9))
@@ -1017,8 +1000,7 @@ report("002 7.2 module block at the margin", "002 section 7.2.1", "the module's 
 report("002 7.2 module block indented", "002 section 7.2.1", "the module's block may be indented",
        "success 8 0 0 clear", "module where :", MODULE, "module M where\n  f : Int\n")
 # Greater: in 1.. has no 0.
-report("002 7.2 module block under greater", "002 section 7.2.1", "any other where needs an indented block",
-       "failure",
+report("002 7.2 module block under greater", "002 section 7.2.1", "any other where needs an indented block", "failure",
        "module where :", al(seq(t(3), WORD, t(4), NL, ind(GT, plus(al(seq(WORD, t(5), WORD, NL)))))),
        "module M where\nf : Int\n")
 
@@ -1078,9 +1060,8 @@ IFS = {
 # if0 0..0, x3 !5 =6 y8 :9, end (7). In 1.., flag: if4 4..4, x7 >9 0 at 11, :12, end (6). In 5.., flag: y8
 # 8..8, =10, x12, end (4). else0 is not in 4..4; out 0..0 with 0..3; else0 in 0..0, :4, end (3); in 1..,
 # y4 4..4, =6, -x8, end (4).
-report("003 1 dangling else", "003 section 1, figure 1(a)", "else belongs to the outer if",
-       "success 24 0 0 clear", "if else : =", plus(al(r("st"))),
-       "if x != y:\n    if x > 0:\n        y = x\nelse:\n    y = -x\n", IFS)
+report("003 1 dangling else", "003 section 1, figure 1(a)", "else belongs to the outer if", "success 24 0 0 clear",
+       "if else : =", plus(al(r("st"))), "if x != y:\n    if x > 0:\n        y = x\nelse:\n    y = -x\n", IFS)
 # else2 is neither in 4..4 nor in 0..0 and begins no statement: 7 + 6 + 4 read.
 report("003 1 else between two ifs", "003 section 1, the core idea", "else must start at the column of an if",
        "success 17 0 0 clear", "if else : =", plus(al(r("st"))),
@@ -1102,16 +1083,13 @@ haskell("003 2 three statements", "003 section 2, figure 2(a)", "a block of thre
 haskell("003 2 statement over two lines", "003 section 2, figure 2(c)", "a line further right goes on",
         "success 14 0 0 clear", "do print 1\n   print (11 + 12)\n     print 42\n")
 # With a line end as the end of a statement: a piece takes no line end, print5 is not in 3..3: 4 + 7 read.
-ONE_LINE = dict(HASKELL, piece=alt(NUMBER, WORD, H_IS, r("paren")),
-                st=seq(alt(plus(r("piece")), r("opened")), EOL))
-haskell("003 2 single line statements", "003 section 2, figure 2(b)",
-        "print 42 can not be a statement of its own",
+ONE_LINE = dict(HASKELL, piece=alt(NUMBER, WORD, H_IS, r("paren")), st=seq(alt(plus(r("piece")), r("opened")), EOL))
+haskell("003 2 single line statements", "003 section 2, figure 2(b)", "print 42 can not be a statement of its own",
         "success 11 0 0 clear", "do print 1\n   print (11 + 12)\n     print 42\n", rules=ONE_LINE)
 # do0 0..0; in 1.., flag: (3 3..3; any: in N, mode at least: do4 0..4; in 1.., print7 7..7, 11, end;
 # print7, ( ... ), and ) is no piece: the block ends; out 0..4 with 0..6 = 0..4; out 3..3; )22 any, end;
 # print3 in 3..3. 6 + 8 + 3.
-haskell("003 2 statement ends at a parenthesis", "003 section 2, figure 3(a)",
-        "the block ends where no piece fits",
+haskell("003 2 statement ends at a parenthesis", "003 section 2, figure 3(a)", "the block ends where no piece fits",
         "success 17 0 0 clear", "do (do print 11\n       print (11 + 12))\n   print 13\n")
 ONE_ST = seq(al(r("st")), H_EOF)
 # print0 0..0, (6 and its contents, )14, end (7); *4 in 1.., 13 at 6, end (3).
@@ -1124,8 +1102,7 @@ haskell("003 3 statement at the margin", "003 section 3, second print program", 
 # at least: print8 0..8, 14; ;16, end (6); print1 0..1, 15 at 7; out 3..3 with N; }10, end (4); print3 16,
 # end (3). Out 0..0.
 haskell("003 3 explicit block", "003 section 3, third print program", "ignore-layout inside a block",
-        "success 24 0 0 clear",
-        "do print (11 + 12)\n   print 13\n   do { print 14;\n print 15 }\n   print 16\n")
+        "success 24 0 0 clear", "do print (11 + 12)\n   print 13\n   do { print 14;\n print 15 }\n   print 16\n")
 NONDECREASING = "foo = do\n  print 16\n  do\n  print 17\n  print 18\n"
 # foo0 =4 do6, end; in 1.., print2 2..2, 16, end; do2 in 2..2, end; in 3.. has no 2: the inner block fails
 # and with it the statement; eof finds do.
@@ -1133,8 +1110,7 @@ haskell("003 5.3 nested block not indented", "003 section 5.3, NondecreasingInde
         "the offside rule turns it down", "failure", NONDECREASING, seq(H_PROGRAM, H_EOF))
 # print4 in 3.., 4..4, twice; out 2..2 with 0..3, out 0..0 with 0..1. 4 + 3 + 2 + 3 + 3.
 haskell("003 5.3 nested block indented", "003 section 5.3, pretty-printed", "the pretty-printed form passes",
-        "success 15 0 0 clear", "foo = do\n  print 16\n  do\n    print 17\n    print 18\n",
-        seq(H_PROGRAM, H_EOF))
+        "success 15 0 0 clear", "foo = do\n  print 16\n  do\n    print 17\n    print 18\n", seq(H_PROGRAM, H_EOF))
 # At least in place of greater: in 0.., print2 2..2; do2, end; in 2.., print2 2..2 twice; out 2..2 with
 # 0..2, out 0..0.
 haskell("003 5.3 nondecreasing indentation", "003 section 5.3, NondecreasingIndentation",
@@ -1154,13 +1130,11 @@ haskell("004 3.5 where block with tabs", "004 section 3.5, figure 42", "tab stop
 # foo0 0..0 (6); where1, end (2); in 1.., bar1 at 2 2..2, five more (6); where3 in 3.., end (2); in 3..,
 # bar1' at 4 4..4 (4); bar2 at 2 is not in 4..4; out 2..2 with 0..3; in it (4). Out 0..0 with 0..1.
 # Leading blanks are lost in the text.
-haskell("004 2.6 where inside where", "004 section 2.6.3, first program", "one blank a level",
-        "success 24 0 0 clear",
+haskell("004 2.6 where inside where", "004 section 2.6.3, first program", "one blank a level", "success 24 0 0 clear",
         "foo = bar1 + bar2\n where\n  bar1 = 2 * bar1'\n   where\n    bar1' = 3\n  bar2 = 2\n")
 # where2, bar1 at 8 8..8 (7); where10 in 9.., bar1' at 16 16..16 (5); bar2 at 8 in 8..8 (4); with line 1
 # (6).
-haskell("004 2.6 where on one line", "004 section 2.6.3, second program", "blocks behind where",
-        "success 22 0 0 clear",
+haskell("004 2.6 where on one line", "004 section 2.6.3, second program", "blocks behind where", "success 22 0 0 clear",
         "foo = bar1 + bar2\n  where bar1 = 2 * bar1'\n          where bar1' = 3\n        bar2 = 2\n")
 # bar2 at 12 is in neither 16..16, 8..8 nor 0..0, and behind where's block no piece may follow: 6 + 7 + 5
 # read.

@@ -189,8 +189,7 @@ walk(
 
 # A file byte by byte, written out: keywords `if` and `=`.
 WRITTEN = bytes.fromhex("01 0001 01 02 0002 6966 02 0001 3d 04 0006 00 0000 0000 00 05 0003 0000 02")
-reads("bytes written out", WRITTEN, b"if x=-1", [(3, 0, 0, 2), (1, 3, 3, 1), (4, 4, 4, 1), (0, 5, 5, 2), (2, 7, 7, 0)],
-      7)
+reads("bytes written out", WRITTEN, b"if x=-1", [(3, 0, 0, 2), (1, 3, 3, 1), (4, 4, 4, 1), (0, 5, 5, 2), (2, 7, 7, 0)], 7)
 
 # A report of several lines: a tab before text, an empty line, byte 13 before a break.
 LINES = b"splice 12:\n\tloss: 0.03\n\n\tnote: ok (a, b)\r\n"
@@ -493,8 +492,7 @@ for said, spelling in (
     reads_apart(f"32 bytes, {said}", LONGEST, (1, spelling))
 # Alike but for the first byte.
 FIRST = [bytes([first]) + b"y" * 31 for first in b"abcdefgh"]
-reads_apart("32 bytes, first differs", with_keywords(*FIRST), *[(3 + k, FIRST[k]) for k in range(8)],
-            (1, b"i" + b"y" * 31))
+reads_apart("32 bytes, first differs", with_keywords(*FIRST), *[(3 + k, FIRST[k]) for k in range(8)], (1, b"i" + b"y" * 31))
 # Two keywords side by side: neither both together nor the end of one with the start of the next is one.
 TWO = with_keywords(b"ab", b"cd")
 reads_apart("keywords side by side", TWO, (3, b"ab"), (4, b"cd"), (1, b"abcd"), (1, b"bc"))
@@ -683,8 +681,7 @@ reads("8192 tabs", PLAIN, T8192, [], 65536)
 reads("8192 tabs and a break", PLAIN, T8192 + b"\n", [], 0)
 reads("8192 tabs, a break and `a`", PLAIN, T8192 + b"\na", [(1, 0, 8193, 1), (2, 1, 8194, 0)], 1)
 reads("`a`, a break and 8192 tabs", PLAIN, b"a\n" + T8192, A, 65536)
-reads("`a`, a break, 8192 tabs, a break and `b`", PLAIN, b"a\n" + T8192 + b"\nb",
-      A + [(1, 0, 8195, 1), (2, 1, 8196, 0)], 1)
+reads("`a`, a break, 8192 tabs, a break and `b`", PLAIN, b"a\n" + T8192 + b"\nb", A + [(1, 0, 8195, 1), (2, 1, 8196, 0)], 1)
 reads("`a`, a break and 65533 tabs", PLAIN, b"a\n" + b"\t" * 65533, A, 524264)
 
 
