@@ -1,24 +1,19 @@
 """Runs taken from published papers on indentation-sensitive grammars.
 
-Writes crates/published/data/cases (records) and crates/published/stdout (the expected lines).
-With --table it prints the table of runs for the docs instead.
+Writes crates/published/data/cases (records), crates/published/stdout (the expected lines) and docs/PUBLISHED.md.
 
 Every expected line was worked by hand from the clauses of 001 (Nestra 2017) as 01 states them;
 the comment above a run gives the steps. "l..h" is an interval, "l.." has no upper end, N is 0.. .
 "flag: i..i" is a terminal under a set flag; "in" and "out" are an indent's way in and way out.
-A record is a header of 29 bytes, the label and three parts; all numbers are high byte first.
 """
-
-import sys
 
 import grammar_fields
 from expressions import Table, al, alt, ind, named_columns, no, opt, plus, pos, r, seq, star, t, written, written_rules
-from records import Cases, begin, wide
-from table_nodes import ANY
+from records import Cases, begin, wide, write
+from table_nodes import ANY, flat
 from table_nodes import AT_LEAST as GE
 from table_nodes import EQUAL as EQ
 from table_nodes import GREATER as GT
-from table_nodes import flat
 
 CASES = Cases("published")
 ROWS = []
@@ -52,18 +47,25 @@ def record(label, source, shows, expected, kind, parts, **start):
     CASES.add(label, expected, b"", wide(1, kind) + begin(**start) + wide(3, *map(len, parts)), *parts)
 
 
-def table():
-    """The runs as the docs have them."""
-    print("# Runs taken from published papers\n")
-    print(f"{len(ROWS)} runs, written by `cases/published.py`, whose comments give the steps of each.\n")
-    for paper in PAPERS:
-        print(f"- {paper}")
-    print("\n| label | source | what it shows | expected |\n|---|---|---|---|")
-    for row in ROWS:
-        print("| " + " | ".join(cell.replace("|", "\\|") for cell in row) + " |")
-    print("\n## Where a paper's text is garbled or its grammar changed\n")
-    for note in NOTES:
-        print(f"- {note}")
+def page():
+    """The runs as docs/PUBLISHED.md has them."""
+    rows = [" | ".join(cell.replace("|", "\\|") for cell in row) for row in ROWS]
+    return "\n".join([
+        "# Runs taken from published papers",
+        "",
+        f"{len(ROWS)} runs, written by `cases/published.py`, whose comments give the steps of each.",
+        "",
+        *[f"- {paper}" for paper in PAPERS],
+        "",
+        "| label | source | what it shows | expected |",
+        "|---|---|---|---|",
+        *[f"| {row} |" for row in rows],
+        "",
+        "## Where a paper's text is garbled or its grammar changed",
+        "",
+        *[f"- {note}" for note in NOTES],
+        "",
+    ])
 
 
 PAPERS = [
@@ -1161,7 +1163,5 @@ run("004 3.7 btype as a list", "004 section 3.7, figure 54(b)", "one or more aty
 
 
 if __name__ == "__main__":
-    if sys.argv[1:] == ["--table"]:
-        table()
-    else:
-        CASES.write()
+    CASES.write()
+    write({"docs/PUBLISHED.md": page().encode()})

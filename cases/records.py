@@ -6,7 +6,7 @@ README.md tells what stands in a record; the first comment of each program tells
 import pathlib
 import re
 
-CRATES = pathlib.Path(__file__).resolve().parent.parent / "crates"
+TOP = pathlib.Path(__file__).resolve().parent.parent
 
 
 def wide(size, *numbers):
@@ -23,10 +23,10 @@ def begin(node=0, place=0, lower=0, upper=None, flag=False, mode=0):
     return wide(1, flag, upper is not None) + wide(2, node, mode) + wide(4, place, lower, upper or 0)
 
 
-def write(crate, files):
-    """Writes files of a crate, given by their paths in it."""
+def write(files):
+    """Writes files, given by their paths from the top of the repository."""
     for path, content in files.items():
-        out = CRATES / crate / path
+        out = TOP / path
         out.parent.mkdir(parents=True, exist_ok=True)
         out.write_bytes(content)
 
@@ -48,7 +48,8 @@ class Cases:
 
     def write(self):
         data = b"".join(self.records)
-        write(self.program, {"data/cases": data, "stdout": "".join(self.lines).encode()})
+        crate = f"crates/{self.program}"
+        write({f"{crate}/data/cases": data, f"{crate}/stdout": "".join(self.lines).encode()})
         print(f"{self.program}: {len(self.records)} calls, {len(data)} bytes")
 
 

@@ -109,7 +109,7 @@ def step(label, file, report, before, answer, after=None, kind="n"):
     record(kind, label, at, column, mark, file, report, line + state(*after))
 
 
-def walk(label, file, report, steps):
+def walk(label, file, report, *steps):
     """A scan, and a step behind each token. The steps: what is handed out, then the offset, column and
     mark reached; the last hands out none."""
     reads(label, file, report, [token for token, _ in steps[:-1]], steps[-1][1][1])
@@ -174,18 +174,9 @@ reads("tab then `a`", PLAIN, b"\ta", [(1, 8, 1, 1), (2, 9, 2, 0)], 9)
 
 # "With keywords `loss` and `:` .. the text `  loss: 0.03` without a break".
 BENCH = with_keywords(b"loss", b":")
-walk(
-    "bench",
-    BENCH,
-    b"  loss: 0.03",
-    [
-        ((3, 2, 2, 4), (6, 6, True)),
-        ((4, 6, 6, 1), (7, 7, True)),
-        ((0, 8, 8, 4), (12, 12, True)),
-        ((2, 12, 12, 0), (12, 12, False)),
-        (None, (12, 12, False)),
-    ],
-)
+walk("bench", BENCH, b"  loss: 0.03",
+     ((3, 2, 2, 4), (6, 6, True)), ((4, 6, 6, 1), (7, 7, True)), ((0, 8, 8, 4), (12, 12, True)),
+     ((2, 12, 12, 0), (12, 12, False)), (None, (12, 12, False)))
 
 # A file byte by byte, written out: keywords `if` and `=`.
 WRITTEN = bytes.fromhex("01 0001 01 02 0002 6966 02 0001 3d 04 0006 00 0000 0000 00 05 0003 0000 02")
@@ -194,23 +185,10 @@ reads("bytes written out", WRITTEN, b"if x=-1", [(3, 0, 0, 2), (1, 3, 3, 1), (4,
 # A report of several lines: a tab before text, an empty line, byte 13 before a break.
 LINES = b"splice 12:\n\tloss: 0.03\n\n\tnote: ok (a, b)\r\n"
 LINES_TOKENS = [
-    (3, 0, 0, 6),
-    (0, 7, 7, 2),
-    (6, 9, 9, 1),
-    (2, 10, 10, 0),
-    (4, 8, 12, 4),
-    (6, 12, 16, 1),
-    (0, 14, 18, 4),
-    (2, 18, 22, 0),
-    (5, 8, 25, 4),
-    (6, 12, 29, 1),
-    (1, 14, 31, 2),
-    (1, 17, 34, 1),
-    (1, 18, 35, 1),
-    (1, 19, 36, 1),
-    (1, 21, 38, 1),
-    (1, 22, 39, 1),
-    (2, 24, 41, 0),
+    (3, 0, 0, 6), (0, 7, 7, 2), (6, 9, 9, 1), (2, 10, 10, 0),
+    (4, 8, 12, 4), (6, 12, 16, 1), (0, 14, 18, 4), (2, 18, 22, 0),
+    (5, 8, 25, 4), (6, 12, 29, 1), (1, 14, 31, 2), (1, 17, 34, 1), (1, 18, 35, 1),
+    (1, 19, 36, 1), (1, 21, 38, 1), (1, 22, 39, 1), (2, 24, 41, 0),
 ]
 LINES_FILE = with_keywords(b"splice", b"loss", b"note", b":")
 reads("lines of a report", LINES_FILE, LINES, LINES_TOKENS, 0)
@@ -730,48 +708,28 @@ for chosen in faults.choices(8, 9, 10, 1, 2, 3, 4, 5):
 # --- Single steps --------------------------------------------------------------------------------
 
 # "After a token the value stands right behind it .." and the two sentences after it.
-walk("steps, empty", PLAIN, b"", [(None, (0, 0, False))])
-walk("steps, blanks", PLAIN, b"  ", [(None, (2, 2, False))])
-walk("steps, empty lines", PLAIN, b"\n \n\t", [(None, (4, 8, False))])
-walk("steps, `a`", PLAIN, b"a", [((1, 0, 0, 1), (1, 1, True)), ((2, 1, 1, 0), (1, 1, False)), (None, (1, 1, False))])
+walk("steps, empty", PLAIN, b"", (None, (0, 0, False)))
+walk("steps, blanks", PLAIN, b"  ", (None, (2, 2, False)))
+walk("steps, empty lines", PLAIN, b"\n \n\t", (None, (4, 8, False)))
+walk("steps, `a`", PLAIN, b"a", ((1, 0, 0, 1), (1, 1, True)), ((2, 1, 1, 0), (1, 1, False)), (None, (1, 1, False)))
 walk("steps, `a` and a break", PLAIN, b"a\n",
-     [((1, 0, 0, 1), (1, 1, True)), ((2, 1, 1, 0), (2, 0, False)), (None, (2, 0, False))])
+     ((1, 0, 0, 1), (1, 1, True)), ((2, 1, 1, 0), (2, 0, False)), (None, (2, 0, False)))
 walk("steps, `a` and two blanks", PLAIN, b"a  ",
-     [((1, 0, 0, 1), (1, 1, True)), ((2, 3, 3, 0), (3, 3, False)), (None, (3, 3, False))])
+     ((1, 0, 0, 1), (1, 1, True)), ((2, 3, 3, 0), (3, 3, False)), (None, (3, 3, False)))
 walk("steps, `a`, a break and a tab", PLAIN, b"a\n\t",
-     [((1, 0, 0, 1), (1, 1, True)), ((2, 1, 1, 0), (2, 0, False)), (None, (3, 8, False))])
-walk(
-    "steps, byte 13 before the break",
-    PLAIN,
-    b"a\r\nb\r",
-    [
-        ((1, 0, 0, 1), (1, 1, True)),
-        ((2, 2, 2, 0), (3, 0, False)),
-        ((1, 0, 3, 1), (4, 1, True)),
-        ((2, 2, 5, 0), (5, 2, False)),
-        (None, (5, 2, False)),
-    ],
-)
-walk(
-    "steps, lines",
-    LOSS,
-    b"\n x:y\n\n\tloss -1\t\n 2",
-    [
-        ((1, 1, 2, 1), (3, 2, True)),
-        ((1, 2, 3, 1), (4, 3, True)),
-        ((1, 3, 4, 1), (5, 4, True)),
-        ((2, 4, 5, 0), (6, 0, False)),
-        ((3, 8, 8, 4), (12, 12, True)),
-        ((0, 13, 13, 2), (15, 15, True)),
-        ((2, 16, 16, 0), (17, 0, False)),
-        ((0, 1, 18, 1), (19, 2, True)),
-        ((2, 2, 19, 0), (19, 2, False)),
-        (None, (19, 2, False)),
-    ],
-)
+     ((1, 0, 0, 1), (1, 1, True)), ((2, 1, 1, 0), (2, 0, False)), (None, (3, 8, False)))
+walk("steps, byte 13 before the break", PLAIN, b"a\r\nb\r",
+     ((1, 0, 0, 1), (1, 1, True)), ((2, 2, 2, 0), (3, 0, False)), ((1, 0, 3, 1), (4, 1, True)),
+     ((2, 2, 5, 0), (5, 2, False)), (None, (5, 2, False)))
+walk("steps, lines", LOSS, b"\n x:y\n\n\tloss -1\t\n 2",
+     ((1, 1, 2, 1), (3, 2, True)), ((1, 2, 3, 1), (4, 3, True)), ((1, 3, 4, 1), (5, 4, True)),
+     ((2, 4, 5, 0), (6, 0, False)), ((3, 8, 8, 4), (12, 12, True)), ((0, 13, 13, 2), (15, 15, True)),
+     ((2, 16, 16, 0), (17, 0, False)), ((0, 1, 18, 1), (19, 2, True)), ((2, 2, 19, 0), (19, 2, False)),
+     (None, (19, 2, False)))
 walk("steps, 65535 letters", PLAIN, b"a" * 65535,
-     [((1, 0, 0, 65535), (65535, 65535, True)), ((2, 65535, 65535, 0), (65535, 65535, False)), (None, (65535, 65535, False))])
-walk("steps, 65535 tabs", PLAIN, b"\t" * 65535, [(None, (65535, 524280, False))])
+     ((1, 0, 0, 65535), (65535, 65535, True)), ((2, 65535, 65535, 0), (65535, 65535, False)),
+     (None, (65535, 65535, False)))
+walk("steps, 65535 tabs", PLAIN, b"\t" * 65535, (None, (65535, 524280, False)))
 
 # Steps don't know 10: tokens 4,096 and on are handed out as any.
 for at in (4094, 4095, 4096, 9998):

@@ -52,12 +52,14 @@ LINES = (
     + "report by keyword.bin\n" + "refused 2\n" * 2
 )
 
+FILES = {
+    "data/grammar.bin": GRAMMAR,
+    "data/keyword.bin": KEYWORD,
+    "data/report": REPORT,
+    "data/wide": WIDE,
+    "data/zero": ZERO,
+    "stdout": LINES.encode(),
+}
+
 if __name__ == "__main__":
-    write("scanner_value_cases", {
-        "data/grammar.bin": GRAMMAR,
-        "data/keyword.bin": KEYWORD,
-        "data/report": REPORT,
-        "data/wide": WIDE,
-        "data/zero": ZERO,
-        "stdout": LINES.encode(),
-    })
+    write({f"crates/scanner_value_cases/{path}": content for path, content in FILES.items()})
