@@ -27,11 +27,12 @@ SCRIPTS = (
 )
 
 
-def run(folder):
+def run(folder, out=None):
     """Runs the scripts of a folder, two at a time. The answer is whether all ended well."""
 
     def one(script):
-        return subprocess.run([sys.executable, "-B", folder / f"{script}.py"], check=False).returncode == 0
+        call = [sys.executable, "-B", folder / f"{script}.py"]
+        return subprocess.run(call, check=False, stdout=out).returncode == 0
 
     with concurrent.futures.ThreadPoolExecutor(2) as pool:
         return all(list(pool.map(one, SCRIPTS)))
@@ -41,7 +42,7 @@ def check():
     with tempfile.TemporaryDirectory() as top:
         top = pathlib.Path(top)
         shutil.copytree(CASES, top / "cases", ignore=shutil.ignore_patterns("__pycache__"))
-        good = run(top / "cases")
+        good = run(top / "cases", subprocess.DEVNULL)
         for path in sorted(top.rglob("*")):
             name = path.relative_to(top)
             stored = CASES.parent / name

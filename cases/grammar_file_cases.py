@@ -1,8 +1,5 @@
 #!/usr/bin/env python3
-"""Writes the calls that the program grammar_file_cases makes, and the lines that it must print.
-
-Run it at the top of the repository. It writes crates/grammar_file_cases/data/cases and
-crates/grammar_file_cases/stdout, the same bytes each time.
+"""Writes the calls that the program grammar_file_cases makes, and the lines that it must print (README.md).
 
 Nothing here reads a grammar file. Each call has its answer written beside the bytes that are put
 together for it; a family of calls has one answer for all, or the rule that gives each, in its loop or

@@ -1,16 +1,12 @@
 #!/usr/bin/env python3
-"""Writes the calls that the program interpreter_cases makes, and the lines that it must print.
-
-Run it at the top of the repository. It writes crates/interpreter_cases/data/cases and
-crates/interpreter_cases/stdout, the same bytes each time.
+"""Writes the calls that the program interpreter_cases makes, and the lines that it must print (README.md).
 
 Nothing here runs a grammar. Each call has its answer written beside it, worked out by hand; a family of
 calls has one answer for all, or the rule that gives each, in its loop or function. A comment quotes the
 words of document 01 or names the clause of document 001 that decide it.
 
-How expressions are written: a to z are terminals 1 to 26, capitals are rules, `empty` is empty; p q, p / q,
-!p and p* as in 001; p^R is an indent, p_R a position and [p] an align, where R is =, >, >= or any. A token is
-a letter and a column. An interval is its two ends, and an answer the tokens read, the interval and the flag.
+Expressions are written as expressions.py says: a to z are terminals 1 to 26. A token is a letter and a column. An
+interval is its two ends, and an answer the tokens read, the interval and the flag.
 """
 
 import faults
@@ -27,6 +23,12 @@ MODES = ("=", ">", ">=", "any")
 REST = (70000, 300)
 
 U32 = 4294967295
+
+# The answer of a run that reads nothing, from 0 without end and clear.
+SAME = "0 0 inf clear"
+
+A, B = terminal(1), terminal(2)
+KIND_10 = (10, 0, 0, 0)
 
 
 # --- Records and lines ---------------------------------------------------------------------------
@@ -56,10 +58,26 @@ def success(answer, place):
     return f"success {read} {lower} {upper} {flag} {place + int(read)}"
 
 
-# --- Tables --------------------------------------------------------------------------------------
+def refused(label, number, nodes, rules=(), tokens=(), **start):
+    """ "The answer is the number" """
+    assert number in (3, 4, 5, 11, 12)
+    record(label, nodes, rules, tokens, f"refused {number}", **start)
 
-A, B = terminal(1), terminal(2)
-KIND_10 = (10, 0, 0, 0)
+
+def bad(label, ill, nodes, rules=(), tokens=(), **start):
+    """ "The answer is the number, with the node for 7" """
+    record(label, nodes, rules, tokens, f"refused 7 {ill}", **start)
+
+
+def runs(label, answer, nodes, rules=(), tokens=(), **start):
+    """A run of nodes given as such, from node 0 and place 0 in mode at least unless said."""
+    line = answer if answer == "failure" else success(answer, start.get("place", 0))
+    record(label, nodes, rules, tokens, line, **start)
+
+
+def same(label, nodes, rules=(), tokens=(), **start):
+    """A run of an empty node: the start's state stays, which is 0 without end and clear."""
+    runs(label, SAME, nodes, rules, tokens, **start)
 
 
 def given(expression, mode, tokens, answer, rules="", start="0 inf", flag="clear", place=0, name=""):
@@ -119,31 +137,6 @@ given("a^> b^>", "=", "a1 b2", "2 0 0 clear", name="case of 001")
 
 
 # --- Number 3 ------------------------------------------------------------------------------------
-
-SAME = "0 0 inf clear"
-
-
-def refused(label, number, nodes, rules=(), tokens=(), **start):
-    """ "The answer is the number" """
-    assert number in (3, 4, 5, 11, 12)
-    record(label, nodes, rules, tokens, f"refused {number}", **start)
-
-
-def bad(label, ill, nodes, rules=(), tokens=(), **start):
-    """ "The answer is the number, with the node for 7" """
-    record(label, nodes, rules, tokens, f"refused 7 {ill}", **start)
-
-
-def runs(label, answer, nodes, rules=(), tokens=(), **start):
-    """A run of nodes given as such, from node 0 and place 0 in mode at least unless said."""
-    line = answer if answer == "failure" else success(answer, start.get("place", 0))
-    record(label, nodes, rules, tokens, line, **start)
-
-
-def same(label, nodes, rules=(), tokens=(), **start):
-    """A run of an empty node: the start's state stays, which is 0 without end and clear."""
-    runs(label, SAME, nodes, rules, tokens, **start)
-
 
 # "node words no multiple of 4, node or rule count ..", "1 to 512 nodes, 0 to 128 rules".
 refused("small 3, no node", 3, [])

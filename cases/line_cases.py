@@ -1,21 +1,20 @@
-"""Writes the stored cases for the line that 01's program prints: crates/line_cases/data/cases and its stdout.
+#!/usr/bin/env python3
+"""Writes the cases for the line that 01's program prints, and the lines of the program line_cases (README.md).
 
 Every single answer stands beside its inputs and was worked out by hand from the words of 01 that are quoted
 there; a family of cases has one answer for all, or the rule that gives each, in its loop. Nothing here reads a
 grammar file, scans a report or runs a grammar.
-
-A record has no kind and no numbers of its own: how the file is stored, how the report is, the label, the two.
 """
 
 import grammar_fields
+from expressions import Table, written, written_rules
 from grammar_fields import EMPTY as EMPTY_FIELD
 from grammar_fields import NINE, START, TAIL, VERSION, field, keyword, node, rule, start, with_keywords, with_names
-from expressions import Table, written, written_rules
 from records import Cases, Pairs, spaced
-from table_nodes import (
-    ANY, AT_LEAST, EMPTY, EQUAL, GREATER, align, choice, indent, not_, over, position, repeat, seq, terminal as term,
-)
+from table_nodes import ANY, AT_LEAST, EMPTY, EQUAL, GREATER
+from table_nodes import align, choice, indent, not_, over, position, repeat, seq
 from table_nodes import rule as call
+from table_nodes import terminal as term
 
 # 5: lines of four bytes and a break. 35: keywords of 32 bytes. 8200: two equal lines of 8,199 bytes.
 DISTANCES = (1, 2, 3, 4, 8, 9, 16, 5, 6, 7, 10, 35, 8200)
@@ -29,6 +28,9 @@ NUMBER, WORD, END = term(0), term(1), term(2)
 A, B = term(3), term(4)
 # Tokens by themselves can stand side by side: ` :,` is a at column 1 and b at column 2.
 KEYS = (b":", b",", b";")
+
+
+# --- Records and lines --------------------------------------------------------------------------------------
 
 
 def case(label, file, report, line):

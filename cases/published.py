@@ -1,6 +1,6 @@
-"""Runs taken from published papers on indentation-sensitive grammars.
-
-Writes crates/published/data/cases (records), crates/published/stdout (the expected lines) and docs/PUBLISHED.md.
+#!/usr/bin/env python3
+"""Writes the runs taken from published papers on indentation-sensitive grammars, the lines of the program published
+(README.md), and docs/PUBLISHED.md.
 
 Every expected line was worked by hand from the clauses of 001 (Nestra 2017) as 01 states them;
 the comment above a run gives the steps. "l..h" is an interval, "l.." has no upper end, N is 0.. .
@@ -17,6 +17,8 @@ from table_nodes import GREATER as GT
 
 CASES = Cases("published")
 ROWS = []
+
+# ---- Records and lines ----
 
 
 def run(label, source, shows, expected, start, tokens="", rules=None, names="a b c d e",

@@ -1,8 +1,5 @@
 #!/usr/bin/env python3
-"""Writes the calls that the program scanner_cases makes, and the lines that it must print.
-
-Run it at the top of the repository. It writes crates/scanner_cases/data/cases and
-crates/scanner_cases/stdout, the same bytes each time.
+"""Writes the calls that the program scanner_cases makes, and the lines that it must print (README.md).
 
 Nothing here scans a report. Each call has its tokens written beside the bytes that are put together
 for it; a family of calls has the rule that gives its tokens, in its loop or function. A comment quotes

@@ -1,3 +1,4 @@
+#!/usr/bin/env python3
 """Writes the files that the program scanner_value_cases reads, and the lines that it must print.
 
 Nothing here scans a report: each answer was worked out by hand from the words of 01 that are quoted.

@@ -1,14 +1,10 @@
 #!/usr/bin/env python3
-"""Writes the calls that the program well_formed_cases makes, and the lines that it must print.
-
-Run it at the top of the repository. It writes crates/well_formed_cases/data/cases and
-crates/well_formed_cases/stdout, the same bytes each time.
+"""Writes the calls that the program well_formed_cases makes, and the lines that it must print (README.md).
 
 Nothing here decides whether a table is well formed. Each table has its verdict written beside it; a
 family of tables has one verdict for all, or the rule that gives each, in its loop or function. A
-comment quotes the words of document 01 that decide it. N, S and F stand for
-the three facts: may succeed reading nothing, may succeed reading something, may fail. X, Y and Z are
-rules, a and b terminals.
+comment quotes the words of document 01 that decide it. N, S and F stand for the three facts: may succeed reading
+nothing, may succeed reading something, may fail. X, Y and Z are rules, a and b terminals.
 """
 
 import faults
