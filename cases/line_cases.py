@@ -22,6 +22,8 @@ CASES = Cases("line_cases")
 PAIRS = Pairs(100, DISTANCES)
 
 MODES = (("equal", EQUAL), ("greater", GREATER), ("at least", AT_LEAST), ("any", ANY))
+# The same four as relations, written.
+SIGNS = (("equal", "="), ("greater", ">"), ("at least", ">="), ("any", "any"))
 
 # "3 + k where the spelling equals keyword k ..; else 0 for a number .. else 1"; a line's end is 2.
 NUMBER, WORD, END = term(0), term(1), term(2)
@@ -86,7 +88,6 @@ EMPTY_ANSWER = success(0, 0, "inf")
 # "With keywords `loss` and `:` .. it prints `success 4 0 1 clear`".
 LOSS = (b"loss", b":")
 LOSS_NODES = [term(3), term(4), NUMBER, END, seq(2, 3), seq(1, 4), seq(0, 5)]
-LOSS_LEFT = [term(3), term(4), NUMBER, END, seq(0, 1), seq(4, 2), seq(5, 3)]
 EXAMPLE = b"  loss: 0.03"
 
 
@@ -97,7 +98,8 @@ def loss_file(mode):
 
 case("example", loss_file(GREATER), EXAMPLE, success(4, 0, 1))
 # The same, the sequence's pairs bracketed from the left: "Sequence: a, then b from where a ended."
-case("example bracketed from the left", grammar(LOSS_LEFT, GREATER, LOSS), EXAMPLE, success(4, 0, 1))
+case("example bracketed from the left", grammar("((a b) number) end", GREATER, LOSS, leaves="a b number end"), EXAMPLE,
+     success(4, 0, 1))
 # loss2 :6 number8 end12. Equal: loss makes 2 to 2, and 6 isn't "l to h".
 case("example mode equal", loss_file(EQUAL), EXAMPLE, FAILURE)
 # At least: "0 to h" of 2 to 2, the later columns are higher.
@@ -158,9 +160,9 @@ for name, text in (("no text", b""), ("a break", b"\n"), ("breaks", b"\n\n\n"), 
 # ..", and for indent greater "Without end less 1 is without end": over empty the state is as before.
 case("empty under a rule", grammar("X", EQUAL, rules="X = empty"), b"", EMPTY_ANSWER)
 case("empty under align", grammar("[empty]", EQUAL), b"", EMPTY_ANSWER)
-for name, relation in MODES:
-    case(f"empty under indent {name}", grammar([EMPTY, indent(0, relation)], EQUAL), b"", EMPTY_ANSWER)
-    case(f"empty under position {name}", grammar([EMPTY, position(0, relation)], EQUAL), b"", EMPTY_ANSWER)
+for name, sign in SIGNS:
+    case(f"empty under indent {name}", grammar(f"empty^{sign}", EQUAL), b"", EMPTY_ANSWER)
+    case(f"empty under position {name}", grammar(f"empty_{sign}", EQUAL), b"", EMPTY_ANSWER)
 case("empty twice", grammar("empty empty", EQUAL), b"", EMPTY_ANSWER)
 case("repeat of a on no text", grammar("a*", EQUAL), b"", EMPTY_ANSWER)
 case("not a on no text", grammar("!a", EQUAL), b"", EMPTY_ANSWER)
@@ -265,10 +267,9 @@ INDENTED = {
     ("any", "equal"): (0, "inf"), ("any", "greater"): (0, "inf"), ("any", "at least"): (0, "inf"),
     ("any", "any"): (0, "inf"),
 }
-for name, relation in MODES:
+for name, sign in SIGNS:
     for mode_name, mode in MODES:
-        case(f"indent {name} mode {mode_name}", grammar([A, indent(0, relation)], mode), b"     :",
-             success(1, *INDENTED[name, mode_name]))
+        case(f"indent {name} mode {mode_name}", grammar(f"a^{sign}", mode), b"     :", success(1, *INDENTED[name, mode_name]))
 # Greater in mode greater begins at 2: a1 fails, a2 gives 1 to 1 and out 0 to 0.
 case("indent greater mode greater at 1", grammar("a^>", GREATER), b" :", FAILURE)
 case("indent greater mode greater at 2", grammar("a^>", GREATER), b"  :", success(1, 0, 0))
@@ -376,17 +377,15 @@ case("align of indented a then b", grammar("[a^> b]", AT_LEAST, leaves="a b"), b
 
 # "Position changes the mode for its child, through rules too."
 ONE = {"equal": (5, 5), "greater": (0, 4), "at least": (0, 5), "any": (0, "inf")}
-for name, relation in MODES:
-    other = ANY if relation != ANY else EQUAL
-    case(f"position {name} of a", grammar([A, position(0, relation)], other), b"     :", success(1, *ONE[name]))
-    case(f"position {name} of a rule", grammar([A, call(0), position(1, relation)], other, rules=[0]),
-         b"     :", success(1, *ONE[name]))
+for name, sign in SIGNS:
+    other, other_sign = (ANY, "any") if name != "any" else (EQUAL, "=")
+    case(f"position {name} of a", grammar(f"a_{sign}", other), b"     :", success(1, *ONE[name]))
+    case(f"position {name} of a rule", grammar(f"X_{sign}", other, rules="X = a"), b"     :", success(1, *ONE[name]))
     # 001: of two positions the inner one holds.
-    case(f"position {name} inside another", grammar([A, position(0, relation), position(1, other)], EQUAL),
-         b"     :", success(1, *ONE[name]))
+    case(f"position {name} inside another", grammar(f"a_{sign}_{other_sign}", EQUAL), b"     :", success(1, *ONE[name]))
     # With the flag set the mode has no part.
-    case(f"align of position {name}", grammar([A, position(0, relation), align(1)], other), b"     :", success(1, 5, 5))
-    case(f"position {name} of align", grammar([A, align(0), position(1, relation)], other), b"     :", success(1, 5, 5))
+    case(f"align of position {name}", grammar(f"[a_{sign}]", other), b"     :", success(1, 5, 5))
+    case(f"position {name} of align", grammar(f"[a]_{sign}", other), b"     :", success(1, 5, 5))
 # The mode is the child's only: b3 stands in the file's mode again, equal.
 case("position any of a then b", grammar("a_any b", EQUAL, leaves="a b"), b"  :,", success(2, 3, 3))
 # At least: a2 leaves 0 to 2, and 3 is outside.
@@ -442,16 +441,23 @@ case("brackets of 1,000", VALUES_FILE, b"(" * 1000 + b")" * 1000, success(2000, 
 case("rules above and below", grammar([call(0), A, call(1), seq(0, 2)], AT_LEAST, rules=[1, 1]), b"  ::", success(2, 0, 2))
 # Rule 0 = a, then (rule 0 or empty) under greater. Mode equal: each token stands to
 # the right of the one before.
+DEEPER = "a (X / empty)^>"
+
+
+def deeper(mode):
+    return grammar(DEEPER, mode, rules=f"X = {DEEPER}")
+
+
 # a3, a4, a5: 3 to 3; 4 on, 4 to 4; and so on. Out: "0 to h-1" holds 3.
-case("ever deeper mode equal", grammar("a (X / empty)^>", EQUAL, rules="X = a (X / empty)^>"), b"   :::", success(3, 3, 3))
+case("ever deeper mode equal", deeper(EQUAL), b"   :::", success(3, 3, 3))
 # a3: 0 to 3. 1 on, a4: 1 to 4. 2 on, a5: 2 to 5. Out 0 to 4 met with 1 to 4, out 0 to 3.
-case("ever deeper mode at least", grammar("a (X / empty)^>", AT_LEAST, rules="X = a (X / empty)^>"), b"   :::", success(3, 0, 3))
+case("ever deeper mode at least", deeper(AT_LEAST), b"   :::", success(3, 0, 3))
 # a1: 0 to 0. 1 on, a2 in 2 on: 1 to 1. 2 on, a3 in 3 on: 2 to 2. Out 0 to 1, out 0 to 0.
-case("ever deeper mode greater", grammar("a (X / empty)^>", GREATER, rules="X = a (X / empty)^>"), b" :::", success(3, 0, 0))
-case("ever deeper mode any", grammar("a (X / empty)^>", ANY, rules="X = a (X / empty)^>"), b"   :::", success(3, 0, "inf"))
+case("ever deeper mode greater", deeper(GREATER), b" :::", success(3, 0, 0))
+case("ever deeper mode any", deeper(ANY), b"   :::", success(3, 0, "inf"))
 # 4,095 and the line's end are 4,096 tokens; the k-th token is at column k, and the
 # outermost interval is 0 to 0.
-case("ever deeper 4,095 times", grammar("a (X / empty)^>", EQUAL, rules="X = a (X / empty)^>"), b":" * 4095, success(4095, 0, 0))
+case("ever deeper 4,095 times", deeper(EQUAL), b":" * 4095, success(4095, 0, 0))
 # Rule 0 = a, then rule 0: may only fail. It passes the check, as a sequence "whose a is", and this a
 # never succeeds reading nothing.
 case("a rule that can't end", grammar("a X", ANY, rules="X = a X"), b":::", FAILURE)
@@ -612,37 +618,36 @@ FAR = b"w" + b"\t" * 8191 + b" " * 7
 case("line end at 65,535 behind tabs", grammar(END_COLUMN, EQUAL), FAR, success(2, 65535, 65535))
 # Two such lines: the first end makes 65,535 to 65,535. "Capping the lower end at 65,535 .."
 FAR2 = FAR + b"\n" + FAR
+
+
+def second(expression):
+    """The first line, its word in mode any and its end in mode equal, then the expression."""
+    return grammar(f"(word_any end) {expression}", EQUAL, leaves="word end")
+
+
 # Under greater 65,536 on: the word matches in mode any, the end at 65,535 not in mode equal.
-case("second line under greater", grammar("(word_any end) (word_any end)^>", EQUAL, leaves="word end"), FAR2, FAILURE)
+case("second line under greater", second("(word_any end)^>"), FAR2, FAILURE)
 # Under at least and equal 65,535 on or only; under any 0 on. The end makes 65,535 to 65,535.
-for name, relation in (("equal", EQUAL), ("at least", AT_LEAST), ("any", ANY)):
-    case(f"second line under {name}", grammar([*END_COLUMN, indent(3, relation), seq(3, 4)], EQUAL), FAR2,
-         success(4, 65535, 65535))
+for name, sign in (("equal", "="), ("at least", ">="), ("any", "any")):
+    case(f"second line under {name}", second(f"(word_any end)^{sign}"), FAR2, success(4, 65535, 65535))
 # 65,536 on, all in mode any: both match; out "0 on, without end" met with 65,535 to 65,535.
-case("second line under greater in mode any",
-     grammar("(word_any end) (word_any end)_any^>", EQUAL, leaves="word end"), FAR2, success(4, 65535, 65535))
-case("second line under greater twice in mode any",
-     grammar("(word_any end) (word_any end)_any^>^>", EQUAL, leaves="word end"), FAR2, success(4, 65535, 65535))
+case("second line under greater in mode any", second("(word_any end)_any^>"), FAR2, success(4, 65535, 65535))
+case("second line under greater twice in mode any", second("(word_any end)_any^>^>"), FAR2, success(4, 65535, 65535))
 # 506 indents: from 66,041 on.
 case("second line under 506 indents in mode any",
-     grammar([*END_COLUMN, position(3, ANY), *(indent(i) for i in range(4, 510)), seq(3, 510)], EQUAL), FAR2,
-     success(4, 65535, 65535))
+     grammar([*over([*END_COLUMN, position(3, ANY)], indent, 511), seq(3, 510)], EQUAL), FAR2, success(4, 65535, 65535))
 # The end at 65,535 isn't at least 65,536, nor greater.
-for name, mode in (("at least", AT_LEAST), ("greater", GREATER)):
-    case(f"second line under greater in mode {name}",
-         grammar([*END_COLUMN, position(1, mode), seq(2, 4), indent(5), seq(3, 6)], EQUAL), FAR2, FAILURE)
+for name, sign in (("at least", ">="), ("greater", ">")):
+    case(f"second line under greater in mode {name}", second(f"(word_any end_{sign})^>"), FAR2, FAILURE)
 # The aligned word must lie in 65,536 on.
-case("second line aligned under greater", grammar("(word_any end) [word_any]^>", EQUAL, leaves="word end"), FAR2, FAILURE)
+case("second line aligned under greater", second("[word_any]^>"), FAR2, FAILURE)
 # The word in mode any, then not the end in mode equal.
-case("second line under greater and no end",
-     grammar("(word_any end) (word_any !end)^>", EQUAL, leaves="word end"), FAR2, success(3, 65535, 65535))
-case("empty under greater behind 65,535", grammar("(word_any end) empty^>", EQUAL, leaves="word end"), FAR2,
-     success(2, 65535, 65535))
+case("second line under greater and no end", second("(word_any !end)^>"), FAR2, success(3, 65535, 65535))
+case("empty under greater behind 65,535", second("empty^>"), FAR2, success(2, 65535, 65535))
 # The second end in mode greater without an indent: "l+1 on" is 65,536 on.
-case("second line in mode greater", grammar("(word_any end) (word_any end)_>", EQUAL, leaves="word end"), FAR2, FAILURE)
+case("second line in mode greater", second("(word_any end)_>"), FAR2, FAILURE)
 # The same in mode at least: 65,535 is in "l on".
-case("second line end in mode at least",
-     grammar("(word_any end) word_any end_>=", EQUAL, leaves="word end"), FAR2, success(4, 65535, 65535))
+case("second line end in mode at least", second("word_any end_>="), FAR2, success(4, 65535, 65535))
 
 
 # --- Refused by 1: the file's fields ------------------------------------------------------------------------
