@@ -14,24 +14,15 @@ import tempfile
 
 CASES = pathlib.Path(__file__).resolve().parent
 
-# The slowest first.
-SCRIPTS = (
-    "scanner_cases",
-    "line_cases",
-    "interpreter_cases",
-    "well_formed_cases",
-    "grammar_file_cases",
-    "published",
-    "scanner_value_cases",
-    "reader_long_line",
-)
+# Every script here that can be run by itself.
+SCRIPTS = sorted(path.name for path in CASES.glob("*.py") if path.name != "all.py" and "__main__" in path.read_text())
 
 
 def run(folder, out=None):
     """Runs the scripts of a folder, two at a time. The answer is whether all ended well."""
 
     def one(script):
-        call = [sys.executable, "-B", folder / f"{script}.py"]
+        call = [sys.executable, "-B", folder / script]
         return subprocess.run(call, check=False, stdout=out).returncode == 0
 
     with concurrent.futures.ThreadPoolExecutor(2) as pool:
