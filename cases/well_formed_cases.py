@@ -53,6 +53,7 @@ def verdict(label, is_bad, node, nodes, rules=()):
 # --- Nodes ---------------------------------------------------------------------------------------
 
 A, B = terminal(1), terminal(2)
+FORMS = (("align", align), ("indent", indent), ("position", position))
 
 
 def moved(nodes, by):
@@ -347,21 +348,17 @@ for relation in (0, 1, 2, 3):
     bad(f"X = position {relation} X", 0, [rule(0), position(0, relation)], [1])
 bad("X = (not X) a", 1, [A, rule(0), not_(1), seq(2, 0)], [3])
 bad("X = X* a", 1, [A, rule(0), repeat(1), seq(2, 0)], [3])
-bad("X = (align X) a", 1, [A, rule(0), align(1), seq(2, 0)], [3])
-bad("X = (indent X) a", 1, [A, rule(0), indent(1), seq(2, 0)], [3])
-bad("X = (position X) a", 1, [A, rule(0), position(1), seq(2, 0)], [3])
+for said, form in FORMS:
+    bad(f"X = ({said} X) a", 1, [A, rule(0), form(1), seq(2, 0)], [3])
 passes("X = a (not X)", [A, rule(0), not_(1), seq(0, 2)], [3])
 # a X* : X may fail and reads something where it succeeds, so the repeat stands.
 passes("X = a X*", [A, rule(0), repeat(1), seq(0, 2)], [3])
-passes("X = a (align X)", [A, rule(0), align(1), seq(0, 2)], [3])
-passes("X = a (indent X)", [A, rule(0), indent(1), seq(0, 2)], [3])
-passes("X = a (position X)", [A, rule(0), position(1), seq(0, 2)], [3])
-bad("X = (align empty) X", 2, [EMPTY, align(0), rule(0), seq(1, 2)], [3])
-bad("X = (indent empty) X", 2, [EMPTY, indent(0), rule(0), seq(1, 2)], [3])
-bad("X = (position empty) X", 2, [EMPTY, position(0), rule(0), seq(1, 2)], [3])
-passes("X = (align a) X", [A, align(0), rule(0), seq(1, 2)], [3])
-passes("X = (indent a) X", [A, indent(0), rule(0), seq(1, 2)], [3])
-passes("X = (position a) X", [A, position(0), rule(0), seq(1, 2)], [3])
+for said, form in FORMS:
+    passes(f"X = a ({said} X)", [A, rule(0), form(1), seq(0, 2)], [3])
+for said, form in FORMS:
+    bad(f"X = ({said} empty) X", 2, [EMPTY, form(0), rule(0), seq(1, 2)], [3])
+for said, form in FORMS:
+    passes(f"X = ({said} a) X", [A, form(0), rule(0), seq(1, 2)], [3])
 bad("X = align indent position X", 0, [rule(0), position(0), indent(1), align(2)], [3])
 bad("X = a / align indent position (empty X)", 2,
     [A, EMPTY, rule(0), seq(1, 2), position(3), indent(4), align(5), choice(0, 6)], [7])
@@ -502,23 +499,25 @@ SETS = (
 )
 
 
-def seen(label, facts, nodes, rules=()):
-    """Four tables that show the facts of the last node, which is well formed.
+def shown(label, facts, last, number):
+    """Four forms over node `last`, which is well formed, that show its facts: the label, whether it is bad, at which
+    node, the nodes behind the last, and what their rule, of this number, stands for.
 
     A repeat of it is bad exactly if it has N: "a repeat whose child is and may not succeed reading
     nothing". Not of it has N exactly if it may fail, and not of that exactly if it may succeed. A
     rule behind it in its own sequence is bad exactly if it has N: "b too if a may read nothing".
     """
-    last = len(nodes) - 1
-    rules = list(rules)
-    more = nodes + [repeat(last)]
-    verdict(f"({label})*", "N" in facts, last + 1, more, rules)
-    more = nodes + [not_(last), repeat(last + 1)]
-    verdict(f"(not ({label}))*", "F" in facts, last + 2, more, rules)
-    more = nodes + [not_(last), not_(last + 1), repeat(last + 2)]
-    verdict(f"(not not ({label}))*", "N" in facts or "S" in facts, last + 3, more, rules)
-    more = nodes + [rule(len(rules)), seq(last, last + 1)]
-    verdict(f"Z = ({label}) Z", "N" in facts, last + 1, more, rules + [last + 2])
+    succeeds = "N" in facts or "S" in facts
+    yield f"({label})*", "N" in facts, last + 1, [repeat(last)], []
+    yield f"(not ({label}))*", "F" in facts, last + 2, [not_(last), repeat(last + 1)], []
+    yield f"(not not ({label}))*", succeeds, last + 3, [not_(last), not_(last + 1), repeat(last + 2)], []
+    yield f"Z = ({label}) Z", "N" in facts, last + 1, [rule(number), seq(last, last + 1)], [last + 2]
+
+
+def seen(label, facts, nodes, rules=()):
+    """Four tables that show the facts of the last node."""
+    for said, is_bad, ill, more, own in shown(label, facts, len(nodes) - 1, len(rules)):
+        verdict(said, is_bad, ill, nodes + more, [*rules, *own])
 
 
 # The six themselves, each with only the nodes up to it.
@@ -581,22 +580,12 @@ for a, said, facts in SETS:
 def seen_early(label, facts, number, hops):
     """As `seen`, of a node of BASE, where BASE stands last and `hops` rules in a row lead to it."""
 
-    def table(probe):
-        # The probe's node 0 is rule 0. Each rule but the last stands for a node that names the next.
-        first = len(probe)
-        names = [rule(i) for i in range(1, hops)]
-        base = first + len(names)
-        nodes = probe + names + moved(BASE, base)
-        return nodes, [*range(first, base), base + number]
-
-    nodes, rules = table([rule(0), repeat(0)])
-    verdict(f"({label})*, later", "N" in facts, 1, nodes, rules)
-    nodes, rules = table([rule(0), not_(0), repeat(1)])
-    verdict(f"(not ({label}))*, later", "F" in facts, 2, nodes, rules)
-    nodes, rules = table([rule(0), not_(0), not_(1), repeat(2)])
-    verdict(f"(not not ({label}))*, later", "N" in facts or "S" in facts, 3, nodes, rules)
-    nodes, rules = table([rule(0), rule(hops), seq(0, 1)])
-    verdict(f"Z = ({label}) Z, later", "N" in facts, 1, nodes, rules + [2])
+    for said, is_bad, ill, more, own in shown(label, facts, 0, hops):
+        # Node 0 is rule 0. Each rule but the last stands for a node that names the next.
+        probe = [rule(0)] + more
+        base = len(probe) + hops - 1
+        nodes = probe + [rule(i) for i in range(1, hops)] + moved(BASE, base)
+        verdict(f"{said}, later", is_bad, ill, nodes, [*range(len(probe), base), base + number, *own])
 
 
 # "a rule may stand for any node": also a higher one, and through rules in a row.
