@@ -35,8 +35,9 @@ SMALL, WIDE = (64, 16), (2100, 200)
 def reads(label, answer, file, lent=SMALL, words=None):
     """A file that is read. The answer: nodes, rules, keywords, start node, start mode.
 
-    words: the nodes and the rule words that are expected, to be printed too. Lent words past the written ones keep the marker:
-    "After success, words past those written are as before." A check of the file alone answers the same.
+    words: the nodes and the rule words that are expected, to be printed too. Lent words past the written
+    ones keep the marker: "After success, words past those written are as before." A check of the file
+    alone answers the same.
     """
     line = spaced("read", answer)
     if words is not None:
