@@ -17,6 +17,7 @@ use shape::shape_of;
 use spellings::right_spellings;
 use spellings::singles_alone;
 use table::Checked;
+use table::refusals;
 use tables::check_tables;
 use tables::number_in;
 use tables::write_nodes;
@@ -67,10 +68,10 @@ pub fn read(file: &[u8], nodes: &mut [u16], rules: &mut [u16]) -> FileRead
             let node_count = node_group.count;
             let rule_count = rule_group.count;
             if nodes.len() / 4 < node_count {
-                return FileRead::Refused(6);
+                return FileRead::Refused(refusals::ROOM);
             }
             if rules.len() < rule_count {
-                return FileRead::Refused(6);
+                return FileRead::Refused(refusals::ROOM);
             }
             write_nodes(file, node_group.at, node_count, nodes);
             write_rules(file, rule_group.at, rule_count, rules);
@@ -132,10 +133,10 @@ fn inspect(file: &[u8]) -> Inspected
 {
     let s = shape_of(file);
     if !s.right {
-        return Inspected::Refused(1);
+        return Inspected::Refused(refusals::FILE);
     }
     if names_wrong(file, s) {
-        return Inspected::Refused(2);
+        return Inspected::Refused(refusals::SPELLING);
     }
     let nodes = s.nodes;
     let rules = s.rules;
@@ -148,10 +149,10 @@ fn inspect(file: &[u8]) -> Inspected
     }
     let value = value_at(file, s.start);
     if number_in(value, 0) as usize >= nodes.count {
-        return Inspected::Refused(5);
+        return Inspected::Refused(refusals::TARGET);
     }
     if byte_in(value, 2) >= table::RELATIONS {
-        return Inspected::Refused(5);
+        return Inspected::Refused(refusals::TARGET);
     }
     Inspected::Whole(s)
 }

@@ -12,6 +12,7 @@ use file_fields::byte_in;
 use file_fields::next_at;
 use file_fields::value_at;
 use table::Checked;
+use table::refusals;
 
 // The two-byte number at an index of a value, high byte first.
 pub(crate) fn number_in(value: &[u8], i: usize) -> u16
@@ -77,10 +78,10 @@ pub(crate) fn check_tables(
         ⌝ }
 {
     if node_count > table::NODES {
-        return Checked::Refused(3);
+        return Checked::Refused(refusals::COUNT);
     }
     if rule_count > table::RULES {
-        return Checked::Refused(3);
+        return Checked::Refused(refusals::COUNT);
     }
     let mut nodes = [0u16; 2048];
     let mut rules = [0u16; 128];

@@ -9,6 +9,7 @@ use columns::Start;
 use columns::State;
 use limits::start_wrong;
 use limits::tokens_wrong;
+use table::refusals;
 use walk::expression;
 use well_formed::Verdict;
 ghost use mathlib.Core.Path.{_≡_};
@@ -51,10 +52,10 @@ fn begin(nodes: &[u16], rules: &[u16], tokens: &[u32], start: Start) -> Ran
     ensures { λ r. ⌜ Derived (now (nodes .entry)) (now (rules .entry)) (now (tokens .entry)) start r ⌝ }
 {
     if tokens_wrong(tokens) {
-        return Ran::Refused(11);
+        return Ran::Refused(refusals::TOKEN);
     }
     if start_wrong(nodes, tokens, start) {
-        return Ran::Refused(12);
+        return Ran::Refused(refusals::START);
     }
     let interval = start.interval;
     let from = start.place;

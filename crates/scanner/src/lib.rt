@@ -26,6 +26,7 @@ use find::find;
 use grammar_file::FileRead;
 use index::link;
 use index::starts;
+use table::refusals;
 use terminals::indexed;
 use terminals::terminal;
 
@@ -93,18 +94,18 @@ pub fn scan(file: &[u8], report: &[u8], tokens: &mut [u32]) -> Scanned
             mode: _,
         } => {
             if refused(report) {
-                return Scanned::Refused(8);
+                return Scanned::Refused(refusals::REPORT);
             }
             let m = measure(report);
             if m.over {
-                return Scanned::Refused(9);
+                return Scanned::Refused(refusals::COLUMN);
             }
             let count = m.count;
             if count > TOKENS {
-                return Scanned::Refused(10);
+                return Scanned::Refused(refusals::TOKEN_ROOM);
             }
             if tokens.len() / 4 < count {
-                return Scanned::Refused(10);
+                return Scanned::Refused(refusals::TOKEN_ROOM);
             }
             write(file, keywords, report, tokens);
             Scanned::Tokens(count)
@@ -130,17 +131,17 @@ pub fn next_token(file: &[u8], report: &[u8], at: usize, column: u32, mark: bool
             mode: _,
         } => {
             if refused(report) {
-                return stay(8, at, column, mark);
+                return stay(refusals::REPORT, at, column, mark);
             }
             if report.len() < at {
-                return stay(8, at, column, mark);
+                return stay(refusals::REPORT, at, column, mark);
             }
             if LAST_STEP < column {
-                return stay(8, at, column, mark);
+                return stay(refusals::REPORT, at, column, mark);
             }
             let f = find(report, at, column, mark);
             if too_wide(f) {
-                return stay(9, at, column, mark);
+                return stay(refusals::COLUMN, at, column, mark);
             }
             hand_out(file, keywords, report, f)
         }

@@ -4,6 +4,7 @@ use crate::cells::either;
 use crate::cells::first_child;
 use crate::cells::has;
 use crate::cells::learn;
+use table::kinds;
 ghost use mathlib.Core.Path.{_≡_};
 ghost use mathlib.Core.List.{[], _∷_};
 ghost use Prim.Native.Nat.{_<_};
@@ -114,16 +115,16 @@ fn by_form(kind: u16, a: Facts, b: Facts) -> Facts
         ⌝ }
 {
     match kind {
-        0 => facts_of(true, false, false),
-        1 => facts_of(false, true, true),
-        2 => a,
-        3 => sequence(a, b),
-        4 => choice(a, b),
-        5 => facts_of(a.fails, false, either(a.nothing, a.something)),
-        6 => facts_of(a.fails, a.something, false),
-        7 => a,
-        8 => a,
-        9 => a,
+        kinds::EMPTY => facts_of(true, false, false),
+        kinds::TERMINAL => facts_of(false, true, true),
+        kinds::RULE => a,
+        kinds::SEQUENCE => sequence(a, b),
+        kinds::CHOICE => choice(a, b),
+        kinds::NOT => facts_of(a.fails, false, either(a.nothing, a.something)),
+        kinds::REPEAT => facts_of(a.fails, a.something, false),
+        kinds::INDENT => a,
+        kinds::POSITION => a,
+        kinds::ALIGN => a,
         _ => facts_of(false, false, false),
     }
 }

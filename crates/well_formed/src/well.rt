@@ -4,6 +4,7 @@ use crate::cells::either;
 use crate::cells::first_child;
 use crate::cells::has;
 use crate::cells::learn;
+use table::kinds;
 ghost use mathlib.Core.Path.{_≡_};
 ghost use mathlib.Core.Bool.{false};
 ghost use mathlib.Core.List.{[], _∷_};
@@ -70,16 +71,16 @@ fn by_form(kind: u16, a: bool, nothing: bool, b: bool) -> bool
     ensures { λ r. ⌜ r ≡ passes-by (0 ∷ []) (λ (n : ℕ). nothing) (two a b) (decode kind 0 1 0) ⌝ }
 {
     match kind {
-        0 => true,
-        1 => true,
-        2 => a,
-        3 => both(a, either(!nothing, b)),
-        4 => both(a, b),
-        5 => a,
-        6 => both(a, !nothing),
-        7 => a,
-        8 => a,
-        9 => a,
+        kinds::EMPTY => true,
+        kinds::TERMINAL => true,
+        kinds::RULE => a,
+        kinds::SEQUENCE => both(a, either(!nothing, b)),
+        kinds::CHOICE => both(a, b),
+        kinds::NOT => a,
+        kinds::REPEAT => both(a, !nothing),
+        kinds::INDENT => a,
+        kinds::POSITION => a,
+        kinds::ALIGN => a,
         _ => false,
     }
 }

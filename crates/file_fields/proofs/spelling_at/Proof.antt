@@ -8,21 +8,6 @@ use Prim.Native.Nat.{_-_, _≤_}
 use lib.ListN.{length, drop, drop-of-length-le}
 use Rattle.file_fields.proofs.Lists.{take-rest}
 
-value-at-requires : tie.Need-value-at-requires
-value-at-requires c κs = tt
-
-sub-result : tie.Need-sub-result
-sub-result c = omega arith
-
-part-result-start : tie.Need-part-result-start
-part-result-start c = omega arith
-
-part-result-end : tie.Need-part-result-end
-part-result-end c = omega arith
-
-slice-aggregate-result : tie.Need-slice-aggregate-result
-slice-aggregate-result c = search needs
-
 returns : tie.Need-returns
 returns c =
     let value-at = c .before .before .value-at in
@@ -41,11 +26,5 @@ returns-2 c =
 pub spelling-at-spec : {M : Type 1} → statement M
 spelling-at-spec =
     tie.close
-    (tie.spec
-    value-at-requires
-    sub-result
-    part-result-start
-    part-result-end
-    slice-aggregate-result
-    returns
+    (tie.spec (λ c κs. tt) (λ c. omega arith) (λ c. omega arith) (λ c. omega arith) (λ c. search needs) returns
     returns-2)

@@ -5,15 +5,6 @@ use Rattle.grammar_file.proofs.check.Tie as tie
 use mathlib.Core.Path.{_∙_}
 use Rattle.grammar_file.proofs.ReadLaws.{refuses, parts, passes}
 
-inspect-requires : tie.Need-inspect-requires
-inspect-requires c κs = search needs
-
-enum-known-found : tie.Need-enum-known-found
-enum-known-found c = search needs
-
-enum-known-found-2 : tie.Need-enum-known-found-2
-enum-known-found-2 c = search needs
-
 counts-requires : tie.Need-counts-requires
 counts-requires c κs =
     let inspect = c .before .before .before .inspect in
@@ -42,10 +33,4 @@ returns-2 c =
 pub check-spec : {M : Type 1} → statement M
 check-spec =
     tie.close
-    (tie.spec
-    inspect-requires
-    enum-known-found
-    enum-known-found-2
-    counts-requires
-    returns
-    returns-2)
+    (tie.spec (λ c κs. search needs) (λ c. search needs) (λ c. search needs) counts-requires returns returns-2)

@@ -9,9 +9,6 @@ use Rattle.table.specs.Checks.{numbers as checkedNumbers}
 use Rattle.grammar_file.specs.File.{fileAnswer}
 use Rattle.grammar_file.proofs.PartLaws.{by-names, by-table, by-start, start-test, mode-test}
 
-shape-of-requires : tie.Need-shape-of-requires
-shape-of-requires c κs = search needs
-
 returns : tie.Need-returns
 unfolding fileAnswer
 returns c = rw (c .before .before .shape-of .ensures .wrong (not-true _ (c .if1 .taken))) refl
@@ -27,12 +24,6 @@ returns-2 c =
     (shape-of .ensures .right (not-false _ (c .before .before .if1 .left)))
     (sym (c .before .names-wrong .ensures) ∙ c .if2 .taken)
 
-check-tables-requires : tie.Need-check-tables-requires
-check-tables-requires c κs = search needs
-
-enum-known-table : tie.Need-enum-known-table
-enum-known-table c = search needs
-
 returns-3 : tie.Need-returns-3
 returns-3 c =
     let check-tables = c .before .before .before .check-tables in
@@ -47,15 +38,6 @@ returns-3 c =
 
 enum-told : tie.Need-enum-told
 enum-told c = search needs
-
-value-at-requires : tie.Need-value-at-requires
-value-at-requires c κs = search needs
-
-number-in-requires : tie.Need-number-in-requires
-number-in-requires c κs = search needs
-
-cast-if3 : tie.Need-cast-if3
-cast-if3 c = search needs
 
 returns-4 : tie.Need-returns-4
 returns-4 c =
@@ -73,9 +55,6 @@ returns-4 c =
     (start-test (start .args .file .now) (shape-of .result) (shape-of .ensures .right (not-false _ (if1 .left)))
     (value-at .ensures) (c .before .before .number-in .ensures)
     ∙ le-ltb _ _ (c .if3 .taken)) refl
-
-byte-in-requires : tie.Need-byte-in-requires
-byte-in-requires c κs = search needs
 
 returns-5 : tie.Need-returns-5
 returns-5 c =
@@ -124,19 +103,6 @@ returns-6 c =
 pub inspect-spec : {M : Type 1} → statement M
 inspect-spec =
     tie.close
-    (tie.spec
-    shape-of-requires
-    returns
-    names-wrong-requires
-    returns-2
-    check-tables-requires
-    enum-known-table
-    returns-3
-    enum-told
-    value-at-requires
-    number-in-requires
-    cast-if3
-    returns-4
-    byte-in-requires
-    returns-5
-    returns-6)
+    (tie.spec (λ c κs. search needs) returns names-wrong-requires returns-2 (λ c κs. search needs)
+    (λ c. search needs) returns-3 enum-told (λ c κs. search needs) (λ c κs. search needs) (λ c. search needs)
+    returns-4 (λ c κs. search needs) returns-5 returns-6)

@@ -6,17 +6,11 @@ use borrow.Author.Tests.{not-true, not-false}
 use mathlib.Core.Path.{refl, sym, _∙_}
 use Rattle.grammar_file.proofs.PartLaws.{names-by}
 
-right-spellings-requires : tie.Need-right-spellings-requires
-right-spellings-requires c κs = search needs
-
 returns : tie.Need-returns
 returns c =
     let start = c .before .before .before .before in
     names-by (start .args .file .now) (start .args .s) (start .pre)
     (sym (not-true _ (c .if1 .taken)) ∙ c .before .right-spellings .ensures) refl refl
-
-singles-alone-requires : tie.Need-singles-alone-requires
-singles-alone-requires c κs = search needs
 
 returns-2 : tie.Need-returns-2
 returns-2 c =
@@ -25,9 +19,6 @@ returns-2 c =
     names-by (start .args .file .now) (start .args .s) (start .pre)
     (sym (not-false _ (c .before .before .if1 .left)) ∙ right-spellings .ensures)
     (sym (not-true _ (c .if2 .taken)) ∙ c .before .singles-alone .ensures) refl
-
-right-spellings-requires-2 : tie.Need-right-spellings-requires-2
-right-spellings-requires-2 c κs = search needs
 
 returns-3 : tie.Need-returns-3
 returns-3 c =
@@ -42,10 +33,4 @@ returns-3 c =
 pub names-wrong-spec : {M : Type 1} → statement M
 names-wrong-spec =
     tie.close
-    (tie.spec
-    right-spellings-requires
-    returns
-    singles-alone-requires
-    returns-2
-    right-spellings-requires-2
-    returns-3)
+    (tie.spec (λ c κs. search needs) returns (λ c κs. search needs) returns-2 (λ c κs. search needs) returns-3)

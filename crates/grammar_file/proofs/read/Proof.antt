@@ -7,15 +7,6 @@ use lib.ListN.{length}
 use Rattle.grammar_file.specs.File.{readAnswer}
 use Rattle.grammar_file.proofs.ReadLaws.{read-refuses, parts, short-nodes, short-rules, enough, nodes-after, rules-after}
 
-inspect-requires : tie.Need-inspect-requires
-inspect-requires c κs = search needs
-
-enum-known-found : tie.Need-enum-known-found
-enum-known-found c = search needs
-
-enum-known-found-2 : tie.Need-enum-known-found-2
-enum-known-found-2 c = search needs
-
 returns : tie.Need-returns
 returns c =
     let found2 = c .before .before .before .before .found2 in
@@ -36,12 +27,6 @@ returns-2 c =
       (refl, refl),
     )
 
-write-nodes-requires : tie.Need-write-nodes-requires
-write-nodes-requires c κs = search needs
-
-write-rules-requires : tie.Need-write-rules-requires
-write-rules-requires c κs = search needs
-
 counts-requires : tie.Need-counts-requires
 counts-requires c κs =
     let found2 = c .before .before .before .before .before .before .before .before .before .before .before .before .before .found2 in
@@ -59,12 +44,6 @@ returns-3 c =
           (c .before .found .given .1) _ _,
       (refl, refl),
     )
-
-same-length : tie.Need-same-length
-same-length c = search needs
-
-same-length-2 : tie.Need-same-length-2
-same-length-2 c = search needs
 
 returns-4 : tie.Need-returns-4
 returns-4 c =
@@ -91,16 +70,6 @@ returns-4 c =
 pub read-spec : {M : Type 1} → statement M
 read-spec =
     tie.close
-    (tie.spec
-    inspect-requires
-    enum-known-found
-    enum-known-found-2
-    returns
-    returns-2
-    write-nodes-requires
-    write-rules-requires
-    counts-requires
-    returns-3
-    same-length
-    same-length-2
-    returns-4)
+    (tie.spec (λ c κs. search needs) (λ c. search needs) (λ c. search needs) returns returns-2
+    (λ c κs. search needs) (λ c κs. search needs) counts-requires returns-3 (λ c. search needs)
+    (λ c. search needs) returns-4)

@@ -8,27 +8,6 @@ use lib.ListN.{drop}
 use Rattle.file_fields.specs.Offsets.{valueAt}
 use Rattle.grammar_file.proofs.ReadLaws.{no-name, name-at, name-past}
 
-inspect-requires : tie.Need-inspect-requires
-inspect-requires c κs = search needs
-
-enum-told : tie.Need-enum-told
-enum-told c = search needs
-
-slice-aggregate-result : tie.Need-slice-aggregate-result
-slice-aggregate-result c = search needs
-
-enum-known-found : tie.Need-enum-known-found
-enum-known-found c = search needs
-
-offset-of-requires : tie.Need-offset-of-requires
-offset-of-requires c κs = search needs
-
-spelling-at-requires : tie.Need-spelling-at-requires
-spelling-at-requires c κs = search needs
-
-slice-aggregate-result-2 : tie.Need-slice-aggregate-result-2
-slice-aggregate-result-2 c = search needs
-
 returns : tie.Need-returns
 returns c =
     let inspect = c .before .before .before .inspect in
@@ -56,14 +35,5 @@ returns-3 c =
 pub rule-name-spec : {M : Type 1} → statement M
 rule-name-spec =
     tie.close
-    (tie.spec
-    inspect-requires
-    enum-told
-    slice-aggregate-result
-    enum-known-found
-    offset-of-requires
-    spelling-at-requires
-    slice-aggregate-result-2
-    returns
-    returns-2
-    returns-3)
+    (tie.spec (λ c κs. search needs) (λ c. search needs) (λ c. search needs) (λ c. search needs)
+    (λ c κs. search needs) (λ c κs. search needs) (λ c. search needs) returns returns-2 returns-3)

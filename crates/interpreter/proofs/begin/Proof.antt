@@ -6,9 +6,6 @@ use mathlib.Core.Path.{sym, _∙_}
 use native.Mathlib.Omega.{arith}
 use Rattle.interpreter.proofs.RunLaws.{refused-11, refused-12, begin-ready, answer-failure, success-onward, answer-success}
 
-tokens-wrong-requires : tie.Need-tokens-wrong-requires
-tokens-wrong-requires c κs = tt
-
 returns : tie.Need-returns
 returns c =
     let start = c .before .before .before .before .before in (
@@ -16,9 +13,6 @@ returns c =
           (start .pre) (sym (c .before .tokens-wrong .ensures) ∙ c .if1 .taken),
       tt,
     )
-
-start-wrong-requires : tie.Need-start-wrong-requires
-start-wrong-requires c κs = tt
 
 returns-2 : tie.Need-returns-2
 returns-2 c =
@@ -38,12 +32,6 @@ expression-requires c κs =
     begin-ready (start .args .nodes .now) (start .args .rules .now) (start .args .tokens .now) (start .args .start)
     (start .pre) (sym (tokens-wrong .ensures) ∙ if1 .left)
     (sym (c .before .before .start-wrong .ensures) ∙ c .before .if2 .left)
-
-enum-told : tie.Need-enum-told
-enum-told c = search needs
-
-enum-known-x : tie.Need-enum-known-x
-enum-known-x c = search needs
 
 sub-read : tie.Need-sub-read
 sub-read c =
@@ -87,14 +75,5 @@ returns-4 c =
 pub begin-spec : {M : Type 1} → statement M
 begin-spec =
     tie.close
-    (tie.spec
-    tokens-wrong-requires
-    returns
-    start-wrong-requires
-    returns-2
-    expression-requires
-    enum-told
-    enum-known-x
-    sub-read
-    returns-3
-    returns-4)
+    (tie.spec (λ c κs. tt) returns (λ c κs. tt) returns-2 expression-requires (λ c. search needs)
+    (λ c. search needs) sub-read returns-3 returns-4)

@@ -6,18 +6,6 @@ use mathlib.Core.Path.{sym, ap, _∙_}
 use Rattle.interpreter.proofs.RunLaws.{check-refuses, check-names}
 use Rattle.well_formed.specs.Check.{numbers as verdict-numbers}
 
-check-requires : tie.Need-check-requires
-check-requires c κs = tt
-
-enum-known-number : tie.Need-enum-known-number
-enum-known-number c = search needs
-
-enum-known-node : tie.Need-enum-known-node
-enum-known-node c = search needs
-
-enum-told : tie.Need-enum-told
-enum-told c = search needs
-
 begin-requires : tie.Need-begin-requires
 begin-requires c κs = sym (c .before .before .check .ensures .0) ∙ ap verdict-numbers (c .enum-told .given .1)
 
@@ -45,12 +33,5 @@ returns-3 c = c .begin .ensures
 pub run-spec : {M : Type 1} → statement M
 run-spec =
     tie.close
-    (tie.spec
-    check-requires
-    enum-known-number
-    enum-known-node
-    enum-told
-    begin-requires
-    returns
-    returns-2
-    returns-3)
+    (tie.spec (λ c κs. tt) (λ c. search needs) (λ c. search needs) (λ c. search needs) begin-requires returns
+    returns-2 returns-3)

@@ -9,21 +9,6 @@ use Rattle.line.proofs.PartLaws.{read-as, nodes-front, rules-front, rea
 use Rattle.table.specs.Answer.{afterwards}
 use Rattle.grammar_file.specs.File.{fieldsOf, nodeTable, ruleList, numbers as file-numbers}
 
-slice-aggregate-read : tie.Need-slice-aggregate-read
-slice-aggregate-read c = search needs
-
-slice-aggregate-read-2 : tie.Need-slice-aggregate-read-2
-slice-aggregate-read-2 c = search needs
-
-read-requires : tie.Need-read-requires
-read-requires c κs = tt
-
-enum-known-x : tie.Need-enum-known-x
-enum-known-x c = search needs
-
-enum-known-x-2 : tie.Need-enum-known-x-2
-enum-known-x-2 c = search needs
-
 mul-words : tie.Need-mul-words
 mul-words c =
     let read = c .before .before .before .before .before .read in
@@ -132,9 +117,6 @@ slice-aggregate-checked-2 c =
       mode = x2 .given .0 .1 .1 .1 .1 .0;
     }) (sym (ap file-numbers (x2 .given .1)) ∙ read .ensures .0) .all-rules)
 
-checked-requires : tie.Need-checked-requires
-checked-requires c κs = tt
-
 returns : tie.Need-returns
 returns c =
     let read = c .before .before .before .before .before .read in
@@ -185,17 +167,6 @@ returns-2 c =
 pub answer-spec : {M : Type 1} → statement M
 answer-spec =
     tie.close
-    (tie.spec
-    slice-aggregate-read
-    slice-aggregate-read-2
-    read-requires
-    enum-known-x
-    enum-known-x-2
-    mul-words
-    array-share-prefix-nodes
-    slice-aggregate-checked
-    array-share-prefix-rules
-    slice-aggregate-checked-2
-    checked-requires
-    returns
-    returns-2)
+    (tie.spec (λ c. search needs) (λ c. search needs) (λ c κs. tt) (λ c. search needs) (λ c. search needs)
+    mul-words array-share-prefix-nodes slice-aggregate-checked array-share-prefix-rules slice-aggregate-checked-2
+    (λ c κs. tt) returns returns-2)

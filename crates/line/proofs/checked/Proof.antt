@@ -6,21 +6,6 @@ use mathlib.Core.Path.{sym, ap, _∙_}
 use Rattle.line.proofs.PartLaws.{check-refuses, check-names, check-passes}
 use Rattle.well_formed.specs.Check.{numbers as verdict-numbers}
 
-check-requires : tie.Need-check-requires
-check-requires c κs = tt
-
-enum-known-number : tie.Need-enum-known-number
-enum-known-number c = search needs
-
-enum-known-bad : tie.Need-enum-known-bad
-enum-known-bad c = search needs
-
-enum-told : tie.Need-enum-told
-enum-told c = search needs
-
-scanned-requires : tie.Need-scanned-requires
-scanned-requires c κs = tt
-
 returns : tie.Need-returns
 returns c =
     let check = c .before .before .before .check in
@@ -48,12 +33,5 @@ returns-3 c =
 pub checked-spec : {M : Type 1} → statement M
 checked-spec =
     tie.close
-    (tie.spec
-    check-requires
-    enum-known-number
-    enum-known-bad
-    enum-told
-    scanned-requires
-    returns
-    returns-2
-    returns-3)
+    (tie.spec (λ c κs. tt) (λ c. search needs) (λ c. search needs) (λ c. search needs) (λ c κs. tt) returns
+    returns-2 returns-3)

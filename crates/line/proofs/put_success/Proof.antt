@@ -5,18 +5,6 @@ use Rattle.line.proofs.put_success.Tie as tie
 use native.Mathlib.Omega.{arith}
 use Rattle.line.proofs.PutLaws.{length-decimal, length-upper, success-line}
 
-slice-aggregate-put-word : tie.Need-slice-aggregate-put-word
-slice-aggregate-put-word c = search needs
-
-put-word-requires : tie.Need-put-word-requires
-put-word-requires c κs = omega arith
-
-put-decimal-requires : tie.Need-put-decimal-requires
-put-decimal-requires c κs = omega arith
-
-slice-aggregate-put-word-2 : tie.Need-slice-aggregate-put-word-2
-slice-aggregate-put-word-2 c = search needs
-
 put-word-requires-2 : tie.Need-put-word-requires-2
 put-word-requires-2 c κs =
     let start = c .before .before .before .before .before .before .before .before .before .before .before .before .before in
@@ -26,9 +14,6 @@ put-decimal-requires-2 : tie.Need-put-decimal-requires-2
 put-decimal-requires-2 c κs =
     let start = c .before .before .before .before .before .before .before .before .before .before .before .before .before .before .before .before .before in
     omega (arith, length-decimal 10 (start .args .read))
-
-slice-aggregate-put-word-3 : tie.Need-slice-aggregate-put-word-3
-slice-aggregate-put-word-3 c = search needs
 
 put-word-requires-3 : tie.Need-put-word-requires-3
 put-word-requires-3 c κs =
@@ -55,9 +40,6 @@ put-flag-requires c κs =
     let lower = length-decimal 10 (args .s .interval .lower) in
     let upper = length-upper (args .s .interval .upper) in
     omega (arith, read, lower, upper)
-
-same-length : tie.Need-same-length
-same-length c = omega arith
 
 returns : tie.Need-returns
 returns c =
@@ -88,16 +70,6 @@ returns c =
 pub put-success-spec : {M : Type 1} → statement M
 put-success-spec =
     tie.close
-    (tie.spec
-    slice-aggregate-put-word
-    put-word-requires
-    put-decimal-requires
-    slice-aggregate-put-word-2
-    put-word-requires-2
-    put-decimal-requires-2
-    slice-aggregate-put-word-3
-    put-word-requires-3
-    put-upper-requires
-    put-flag-requires
-    same-length
-    returns)
+    (tie.spec (λ c. search needs) (λ c κs. omega arith) (λ c κs. omega arith) (λ c. search needs)
+    put-word-requires-2 put-decimal-requires-2 (λ c. search needs) put-word-requires-3 put-upper-requires
+    put-flag-requires (λ c. omega arith) returns)

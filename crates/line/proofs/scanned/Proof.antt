@@ -10,18 +10,6 @@ use Rattle.table.specs.Answer.{afterwards}
 use Rattle.scanner.specs.Tokens.{wordsOf}
 use Rattle.scanner.specs.Scan.{scanTokens, numbers as scan-numbers}
 
-slice-aggregate-scan : tie.Need-slice-aggregate-scan
-slice-aggregate-scan c = search needs
-
-scan-requires : tie.Need-scan-requires
-scan-requires c κs = tt
-
-enum-known-x : tie.Need-enum-known-x
-enum-known-x c = search needs
-
-enum-known-x-2 : tie.Need-enum-known-x-2
-enum-known-x-2 c = search needs
-
 mul-words : tie.Need-mul-words
 mul-words c =
     let scan = c .before .before .before .before .scan in
@@ -61,9 +49,6 @@ slice-aggregate-run c =
     ∙ scan-whole (start .args .file .now) (start .args .report .now) (x2 .given .0 .0)
     (sym (ap scan-numbers (x2 .given .1)) ∙ scan .ensures .0))
 
-run-requires : tie.Need-run-requires
-run-requires c κs = tt
-
 returns : tie.Need-returns
 returns c =
     let scan = c .before .before .before .before .scan in
@@ -91,14 +76,5 @@ returns-2 c =
 pub scanned-spec : {M : Type 1} → statement M
 scanned-spec =
     tie.close
-    (tie.spec
-    slice-aggregate-scan
-    scan-requires
-    enum-known-x
-    enum-known-x-2
-    mul-words
-    array-share-prefix-tokens
-    slice-aggregate-run
-    run-requires
-    returns
-    returns-2)
+    (tie.spec (λ c. search needs) (λ c κs. tt) (λ c. search needs) (λ c. search needs) mul-words
+    array-share-prefix-tokens slice-aggregate-run (λ c κs. tt) returns returns-2)

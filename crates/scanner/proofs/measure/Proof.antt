@@ -28,9 +28,6 @@ returns c =
     (position (loop .at) (loop .column) (loop .mark)) (loop .inv) (find .result) (find .ensures)
     (not-true _ (c .if1 .taken))
 
-wider-requires : tie.Need-wider-requires Inv-loop μ-loop
-wider-requires c κs = tt
-
 add-count : tie.Need-add-count Inv-loop μ-loop
 add-count c =
     let start = c .before .before .before .before .before .before in
@@ -57,13 +54,4 @@ loop-again c =
 pub measure-spec : {M : Type 1} → statement M
 measure-spec =
     tie.close
-    (tie.spec
-    Inv-loop
-    μ-loop
-    loop-holds
-    find-requires
-    returns
-    wider-requires
-    add-count
-    loop-less
-    loop-again)
+    (tie.spec Inv-loop μ-loop loop-holds find-requires returns (λ c κs. tt) add-count loop-less loop-again)

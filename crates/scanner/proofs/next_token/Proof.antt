@@ -10,24 +10,6 @@ use Rattle.scanner.specs.Steps.{position}
 use Rattle.scanner.proofs.LoopLaws.{lies-inside}
 use Rattle.scanner.proofs.StepLaws.{short-report, step-file, step-8, step-9, step-on, step-8-text, step-8-offset, step-8-column, step-passes8}
 
-check-requires : tie.Need-check-requires
-check-requires c κs = search needs
-
-enum-known-read : tie.Need-enum-known-read
-enum-known-read c = search needs
-
-stay-requires : tie.Need-stay-requires
-stay-requires c κs = search needs
-
-enum-known-read-2 : tie.Need-enum-known-read-2
-enum-known-read-2 c = search needs
-
-refused-requires : tie.Need-refused-requires
-refused-requires c κs = search needs
-
-stay-requires-2 : tie.Need-stay-requires-2
-stay-requires-2 c κs = search needs
-
 returns : tie.Need-returns
 returns c =
     let read2 = c .before .before .before .before .read2 in
@@ -45,9 +27,6 @@ returns c =
     (step-8-text (entry .args .report .now) (position (entry .args .at) (entry .args .column) (entry .args .mark))
     (sym (c .before .before .refused .ensures) ∙ c .before .if1 .taken))
 
-stay-requires-3 : tie.Need-stay-requires-3
-stay-requires-3 c κs = search needs
-
 returns-2 : tie.Need-returns-2
 returns-2 c =
     let read2 = c .before .before .before .before .before .read2 in
@@ -64,9 +43,6 @@ returns-2 c =
     }) (ap fileNumbers (sym (read2 .given .1)) ∙ check .ensures .0) (c .stay3 .ensures)
     (step-8-offset (entry .args .report .now)
     (position (entry .args .at) (entry .args .column) (entry .args .mark)) (c .before .if2 .taken))
-
-stay-requires-4 : tie.Need-stay-requires-4
-stay-requires-4 c κs = search needs
 
 returns-3 : tie.Need-returns-3
 returns-3 c =
@@ -98,12 +74,6 @@ find-requires c κs =
         short-report (start .args .report .now) (sym (sym (refused .ensures) ∙ c .before .before .if1 .left)),
       );
     }
-
-too-wide-requires : tie.Need-too-wide-requires
-too-wide-requires c κs = search needs
-
-stay-requires-5 : tie.Need-stay-requires-5
-stay-requires-5 c κs = search needs
 
 returns-4 : tie.Need-returns-4
 returns-4 c =
@@ -191,22 +161,7 @@ returns-6 c =
 pub next-token-spec : {M : Type 1} → statement M
 next-token-spec =
     tie.close
-    (tie.spec
-    check-requires
-    enum-known-read
-    stay-requires
-    enum-known-read-2
-    refused-requires
-    stay-requires-2
-    returns
-    stay-requires-3
-    returns-2
-    stay-requires-4
-    returns-3
-    find-requires
-    too-wide-requires
-    stay-requires-5
-    returns-4
-    hand-out-requires
-    returns-5
-    returns-6)
+    (tie.spec (λ c κs. search needs) (λ c. search needs) (λ c κs. search needs) (λ c. search needs)
+    (λ c κs. search needs) (λ c κs. search needs) returns (λ c κs. search needs) returns-2
+    (λ c κs. search needs) returns-3 find-requires (λ c κs. search needs) (λ c κs. search needs) returns-4
+    hand-out-requires returns-5 returns-6)

@@ -12,18 +12,6 @@ use Rattle.table.specs.Answer.{given}
 use Rattle.scanner.specs.Scan.{fails9}
 use Rattle.scanner.proofs.StepLaws.{short-report, scan-file, scan-by, many-tokens, few-words, enough-words, words-after}
 
-check-requires : tie.Need-check-requires
-check-requires c κs = search needs
-
-enum-known-read : tie.Need-enum-known-read
-enum-known-read c = search needs
-
-enum-known-read-2 : tie.Need-enum-known-read-2
-enum-known-read-2 c = search needs
-
-refused-requires : tie.Need-refused-requires
-refused-requires c κs = search needs
-
 returns : tie.Need-returns
 unfolding fails9
 returns c =
@@ -137,9 +125,6 @@ returns-5 c =
       refl,
     )
 
-same-length : tie.Need-same-length
-same-length c = search needs
-
 returns-6 : tie.Need-returns-6
 unfolding fails9
 returns-6 c =
@@ -173,17 +158,5 @@ returns-6 c =
 pub scan-spec : {M : Type 1} → statement M
 scan-spec =
     tie.close
-    (tie.spec
-    check-requires
-    enum-known-read
-    enum-known-read-2
-    refused-requires
-    returns
-    measure-requires
-    returns-2
-    returns-3
-    returns-4
-    write-requires
-    returns-5
-    same-length
-    returns-6)
+    (tie.spec (λ c κs. search needs) (λ c. search needs) (λ c. search needs) (λ c κs. search needs) returns
+    measure-requires returns-2 returns-3 returns-4 write-requires returns-5 (λ c. search needs) returns-6)

@@ -149,27 +149,6 @@ loop-again c =
 pub write-all-spec : {M : Type 1} → statement M
 write-all-spec =
     tie.close
-    (tie.spec
-    Inv-loop
-    μ-loop
-    loop-holds
-    find-requires
-    same-length
-    returns
-    indexed-at-requires
-    mul-tokens
-    slice-write-tokens
-    add-tokens
-    mul-tokens-2
-    slice-write-tokens-2
-    cast-tokens
-    add-tokens-2
-    mul-tokens-3
-    slice-write-tokens-3
-    cast-tokens-2
-    add-tokens-3
-    mul-tokens-4
-    slice-write-tokens-4
-    add-to
-    loop-less
-    loop-again)
+    (tie.spec Inv-loop μ-loop loop-holds find-requires same-length returns indexed-at-requires mul-tokens
+    slice-write-tokens add-tokens mul-tokens-2 slice-write-tokens-2 cast-tokens add-tokens-2 mul-tokens-3
+    slice-write-tokens-3 cast-tokens-2 add-tokens-3 mul-tokens-4 slice-write-tokens-4 add-to loop-less loop-again)

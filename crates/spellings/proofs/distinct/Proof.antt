@@ -41,12 +41,6 @@ abbrev μ-loop : tie.MeasureT-loop
 loop-holds : tie.Need-loop-holds Inv-loop μ-loop
 loop-holds c = (passed-none, met-none)
 
-spelling-at-requires : tie.Need-spelling-at-requires Inv-loop μ-loop
-spelling-at-requires c κs = tt
-
-key-requires : tie.Need-key-requires Inv-loop μ-loop
-key-requires c κs = tt
-
 array-read-differs : tie.Need-array-read-differs Inv-loop μ-loop
 array-read-differs c = c .key .ensures .1
 
@@ -65,15 +59,6 @@ returns c =
 
 array-write-met : tie.Need-array-write-met Inv-loop μ-loop
 array-write-met c = c .before .before .key .ensures .1
-
-next-at-requires : tie.Need-next-at-requires Inv-loop μ-loop
-next-at-requires c κs = tt
-
-add-j : tie.Need-add-j Inv-loop μ-loop
-add-j c = omega arith
-
-loop-less : tie.Need-loop-less Inv-loop μ-loop
-loop-less c = omega arith
 
 loop-again : tie.Need-loop-again Inv-loop μ-loop
 loop-again c =
@@ -96,18 +81,5 @@ returns-2 c = rw length-spellings (passed-all (c .before .loop .inv .0) (c .loop
 pub distinct-spec : {M : Type 1} → statement M
 distinct-spec =
     tie.close
-    (tie.spec
-    Inv-loop
-    μ-loop
-    loop-holds
-    spelling-at-requires
-    key-requires
-    array-read-differs
-    differs-requires
-    returns
-    array-write-met
-    next-at-requires
-    add-j
-    loop-less
-    loop-again
-    returns-2)
+    (tie.spec Inv-loop μ-loop loop-holds (λ c κs. tt) (λ c κs. tt) array-read-differs differs-requires returns
+    array-write-met (λ c κs. tt) (λ c. omega arith) (λ c. omega arith) loop-again returns-2)

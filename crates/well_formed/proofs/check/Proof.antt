@@ -6,15 +6,6 @@ use mathlib.Core.Path.{refl, sym, ap, _∙_}
 use Rattle.table.specs.Checks.{numbers as table-numbers}
 use Rattle.well_formed.proofs.VerdictLaws.{answer-refused, answer-judged}
 
-check-requires : tie.Need-check-requires
-check-requires c κs = search needs
-
-enum-known-number : tie.Need-enum-known-number
-enum-known-number c = search needs
-
-enum-told : tie.Need-enum-told
-enum-told c = search needs
-
 judge-requires : tie.Need-judge-requires
 judge-requires c κs = sym (c .before .before .check .ensures) ∙ ap table-numbers (c .enum-told .given .1)
 
@@ -35,4 +26,4 @@ returns-2 c =
 pub check-spec : {M : Type 1} → statement M
 check-spec =
     tie.close
-    (tie.spec check-requires enum-known-number enum-told judge-requires returns returns-2)
+    (tie.spec (λ c κs. search needs) (λ c. search needs) (λ c. search needs) judge-requires returns returns-2)

@@ -24,9 +24,6 @@ returns : tie.Need-returns
 unfolding framedBy
 returns c = rw (lt-leb (length (c .before .before .args .file .now)) 65535 (c .if1 .taken)) refl
 
-right-at-requires : tie.Need-right-at-requires
-right-at-requires c κs = tt
-
 returns-2 : tie.Need-returns-2
 unfolding framedBy
 returns-2 c =
@@ -57,9 +54,6 @@ returns-3 c =
       ne-eqb _ _ (c .if3 .taken),
     ) refl
 
-right-at-requires-2 : tie.Need-right-at-requires-2
-right-at-requires-2 c κs = tt
-
 returns-4 : tie.Need-returns-4
 unfolding framedBy
 returns-4 c =
@@ -73,9 +67,6 @@ returns-4 c =
       eq-eqb _ _ (c .before .before .if3 .left),
       sym (c .before .right-at2 .ensures) ∙ not-true _ (c .if4 .taken),
     ) refl
-
-next-at-requires : tie.Need-next-at-requires
-next-at-requires c κs = tt
 
 returns-5 : tie.Need-returns-5
 unfolding framedBy
@@ -96,13 +87,5 @@ returns-5 c =
 pub framed-spec : {M : Type 1} → statement M
 framed-spec =
     tie.close
-    (tie.spec
-    returns
-    right-at-requires
-    returns-2
-    shared-slice-read-if3
-    returns-3
-    right-at-requires-2
-    returns-4
-    next-at-requires
-    returns-5)
+    (tie.spec returns (λ c κs. tt) returns-2 shared-slice-read-if3 returns-3 (λ c κs. tt) returns-4
+    (λ c κs. tt) returns-5)

@@ -31,12 +31,6 @@ loop-holds : tie.Need-loop-holds Inv-loop μ-loop
 unfolding offsetOf
 loop-holds c = (refl, (λ i h. absurd (omega arith)), omega arith)
 
-right-at-requires : tie.Need-right-at-requires Inv-loop μ-loop
-right-at-requires c κs = tt
-
-next-at-requires : tie.Need-next-at-requires Inv-loop μ-loop
-next-at-requires c κs = tt
-
 add-count : tie.Need-add-count Inv-loop μ-loop
 add-count c =
     let loop = c .before .before .before .loop in
@@ -75,13 +69,4 @@ returns c = record { ends = c .before .before .loop .inv .0; each = c .before .b
 pub run-of-spec : {M : Type 1} → statement M
 run-of-spec =
     tie.close
-    (tie.spec
-    Inv-loop
-    μ-loop
-    loop-holds
-    right-at-requires
-    next-at-requires
-    add-count
-    loop-less
-    loop-again
-    returns)
+    (tie.spec Inv-loop μ-loop loop-holds (λ c κs. tt) (λ c κs. tt) add-count loop-less loop-again returns)

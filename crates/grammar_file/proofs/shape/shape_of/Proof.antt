@@ -5,18 +5,6 @@ use Rattle.grammar_file.proofs.shape.shape_of.Tie as tie
 use mathlib.Core.Path.{sym, _∙_}
 use Rattle.grammar_file.proofs.ShapeLaws.{shaped-framed, shaped-unframed}
 
-run-of-requires : tie.Need-run-of-requires
-run-of-requires c κs = search needs
-
-run-of-requires-2 : tie.Need-run-of-requires-2
-run-of-requires-2 c κs = search needs
-
-run-of-requires-3 : tie.Need-run-of-requires-3
-run-of-requires-3 c κs = search needs
-
-framed-requires : tie.Need-framed-requires
-framed-requires c κs = search needs
-
 returns : tie.Need-returns
 returns c =
     let run-of3 = c .before .before .run-of3 in
@@ -38,10 +26,5 @@ returns-2 c =
 pub shape-of-spec : {M : Type 1} → statement M
 shape-of-spec =
     tie.close
-    (tie.spec
-    run-of-requires
-    run-of-requires-2
-    run-of-requires-3
-    framed-requires
-    returns
-    returns-2)
+    (tie.spec (λ c κs. search needs) (λ c κs. search needs) (λ c κs. search needs) (λ c κs. search needs)
+    returns returns-2)

@@ -28,24 +28,6 @@ returns-2 c =
     (rw (length-rules (start .args .file .now) (start .args .rules-at) (start .args .rule-count))
     (c .if2 .taken)))
 
-slice-aggregate-write-nodes : tie.Need-slice-aggregate-write-nodes
-slice-aggregate-write-nodes c = search needs
-
-write-nodes-requires : tie.Need-write-nodes-requires
-write-nodes-requires c κs = search needs
-
-slice-aggregate-write-rules : tie.Need-slice-aggregate-write-rules
-slice-aggregate-write-rules c = search needs
-
-write-rules-requires : tie.Need-write-rules-requires
-write-rules-requires c κs = search needs
-
-mul-words : tie.Need-mul-words
-mul-words c = search needs
-
-array-share-prefix-nodes : tie.Need-array-share-prefix-nodes
-array-share-prefix-nodes c = search needs
-
 slice-aggregate-check : tie.Need-slice-aggregate-check
 slice-aggregate-check c =
     let write-nodes = c .before .before .before .before .before .write-nodes in
@@ -56,9 +38,6 @@ slice-aggregate-check c =
     (write-nodes .ensures))
     ∙ length-nodes (start .args .file .now) (start .args .nodes-at) (start .args .node-count))
 
-array-share-prefix-rules : tie.Need-array-share-prefix-rules
-array-share-prefix-rules c = search needs
-
 slice-aggregate-check-2 : tie.Need-slice-aggregate-check-2
 slice-aggregate-check-2 c =
     let write-rules = c .before .before .before .write-rules in
@@ -68,9 +47,6 @@ slice-aggregate-check-2 c =
     (rules-front (start .args .file .now) (start .args .rules-at) (start .args .rule-count) _
     (write-rules .ensures))
     ∙ length-rules (start .args .file .now) (start .args .rules-at) (start .args .rule-count))
-
-check-requires : tie.Need-check-requires
-check-requires c κs = search needs
 
 returns-3 : tie.Need-returns-3
 returns-3 c =
@@ -87,17 +63,6 @@ returns-3 c =
 pub check-tables-spec : {M : Type 1} → statement M
 check-tables-spec =
     tie.close
-    (tie.spec
-    returns
-    returns-2
-    slice-aggregate-write-nodes
-    write-nodes-requires
-    slice-aggregate-write-rules
-    write-rules-requires
-    mul-words
-    array-share-prefix-nodes
-    slice-aggregate-check
-    array-share-prefix-rules
-    slice-aggregate-check-2
-    check-requires
-    returns-3)
+    (tie.spec returns returns-2 (λ c. search needs) (λ c κs. search needs) (λ c. search needs)
+    (λ c κs. search needs) (λ c. search needs) (λ c. search needs) slice-aggregate-check (λ c. search needs)
+    slice-aggregate-check-2 (λ c κs. search needs) returns-3)

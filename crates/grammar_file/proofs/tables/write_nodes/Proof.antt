@@ -36,18 +36,6 @@ loop-holds : tie.Need-loop-holds Inv-loop μ-loop
 unfolding fieldsFrom offsetOf eachWords
 loop-holds c = (omega arith, refl, refl)
 
-value-at-requires : tie.Need-value-at-requires Inv-loop μ-loop
-value-at-requires c κs = tt
-
-mul-to : tie.Need-mul-to Inv-loop μ-loop
-mul-to c = omega arith
-
-byte-in-requires : tie.Need-byte-in-requires Inv-loop μ-loop
-byte-in-requires c κs = tt
-
-mul-out : tie.Need-mul-out Inv-loop μ-loop
-mul-out c = omega arith
-
 slice-write-out : tie.Need-slice-write-out Inv-loop μ-loop
 slice-write-out c =
     let loop = c .before .before .before .loop in
@@ -59,15 +47,6 @@ slice-write-out c =
           (start .args .out .now) ((loop .i) * 4)
           (length-nodes (start .args .file .now) (start .args .first) (loop .i)) (omega arith)),
     )
-
-number-in-requires : tie.Need-number-in-requires Inv-loop μ-loop
-number-in-requires c κs = omega arith
-
-add-out : tie.Need-add-out Inv-loop μ-loop
-add-out c = omega arith
-
-mul-out-2 : tie.Need-mul-out-2 Inv-loop μ-loop
-mul-out-2 c = omega arith
 
 slice-write-out-2 : tie.Need-slice-write-out-2 Inv-loop μ-loop
 slice-write-out-2 c =
@@ -82,15 +61,6 @@ slice-write-out-2 c =
           (length-nodes (start .args .file .now) (start .args .first) (loop .i)) (omega arith)),
     ))
 
-number-in-requires-2 : tie.Need-number-in-requires-2 Inv-loop μ-loop
-number-in-requires-2 c κs = omega arith
-
-add-out-2 : tie.Need-add-out-2 Inv-loop μ-loop
-add-out-2 c = omega arith
-
-mul-out-3 : tie.Need-mul-out-3 Inv-loop μ-loop
-mul-out-3 c = omega arith
-
 slice-write-out-3 : tie.Need-slice-write-out-3 Inv-loop μ-loop
 slice-write-out-3 c =
     let loop = c .before .before .before .before .before .loop in
@@ -104,15 +74,6 @@ slice-write-out-3 c =
           (length-nodes (start .args .file .now) (start .args .first) (loop .i)) (omega arith)),
     ))
 
-byte-in-requires-2 : tie.Need-byte-in-requires-2 Inv-loop μ-loop
-byte-in-requires-2 c κs = tt
-
-add-out-3 : tie.Need-add-out-3 Inv-loop μ-loop
-add-out-3 c = omega arith
-
-mul-out-4 : tie.Need-mul-out-4 Inv-loop μ-loop
-mul-out-4 c = omega arith
-
 slice-write-out-4 : tie.Need-slice-write-out-4 Inv-loop μ-loop
 slice-write-out-4 c =
     let loop = c .before .before .before .before .before .before .loop in
@@ -125,15 +86,6 @@ slice-write-out-4 c =
           (start .args .out .now) ((loop .i) * 4)
           (length-nodes (start .args .file .now) (start .args .first) (loop .i)) (omega arith)),
     ))
-
-next-at-requires : tie.Need-next-at-requires Inv-loop μ-loop
-next-at-requires c κs = tt
-
-add-i : tie.Need-add-i Inv-loop μ-loop
-add-i c = omega arith
-
-loop-less : tie.Need-loop-less Inv-loop μ-loop
-loop-less c = omega arith
 
 loop-again : tie.Need-loop-again Inv-loop μ-loop
 loop-again c =
@@ -169,30 +121,8 @@ returns c = let e : (c .before .loop .i) ≡ c .before .before .before .before .
 pub write-nodes-spec : {M : Type 1} → statement M
 write-nodes-spec =
     tie.close
-    (tie.spec
-    Inv-loop
-    μ-loop
-    loop-holds
-    value-at-requires
-    mul-to
-    byte-in-requires
-    mul-out
-    slice-write-out
-    number-in-requires
-    add-out
-    mul-out-2
-    slice-write-out-2
-    number-in-requires-2
-    add-out-2
-    mul-out-3
-    slice-write-out-3
-    byte-in-requires-2
-    add-out-3
-    mul-out-4
-    slice-write-out-4
-    next-at-requires
-    add-i
-    loop-less
-    loop-again
-    same-length
-    returns)
+    (tie.spec Inv-loop μ-loop loop-holds (λ c κs. tt) (λ c. omega arith) (λ c κs. tt) (λ c. omega arith)
+    slice-write-out (λ c κs. omega arith) (λ c. omega arith) (λ c. omega arith) slice-write-out-2
+    (λ c κs. omega arith) (λ c. omega arith) (λ c. omega arith) slice-write-out-3 (λ c κs. tt)
+    (λ c. omega arith) (λ c. omega arith) slice-write-out-4 (λ c κs. tt) (λ c. omega arith) (λ c. omega arith)
+    loop-again same-length returns)

@@ -23,15 +23,6 @@ loop-holds : tie.Need-loop-holds Inv-loop μ-loop
 unfolding fieldsFrom offsetOf
 loop-holds c = (omega arith, refl, refl)
 
-value-at-requires : tie.Need-value-at-requires Inv-loop μ-loop
-value-at-requires c κs = tt
-
-number-in-requires : tie.Need-number-in-requires Inv-loop μ-loop
-number-in-requires c κs = omega arith
-
-mul-out : tie.Need-mul-out Inv-loop μ-loop
-mul-out c = omega arith
-
 slice-write-out : tie.Need-slice-write-out Inv-loop μ-loop
 slice-write-out c =
     let loop = c .before .before .before .loop in
@@ -43,15 +34,6 @@ slice-write-out c =
           (start .args .out .now) (loop .i) (length-rules (start .args .file .now) (start .args .first) (loop .i))
           (omega arith)),
     )
-
-next-at-requires : tie.Need-next-at-requires Inv-loop μ-loop
-next-at-requires c κs = tt
-
-add-i : tie.Need-add-i Inv-loop μ-loop
-add-i c = omega arith
-
-loop-less : tie.Need-loop-less Inv-loop μ-loop
-loop-less c = omega arith
 
 loop-again : tie.Need-loop-again Inv-loop μ-loop
 loop-again c =
@@ -82,17 +64,5 @@ returns c = let e : (c .before .loop .i) ≡ c .before .before .before .before .
 pub write-rules-spec : {M : Type 1} → statement M
 write-rules-spec =
     tie.close
-    (tie.spec
-    Inv-loop
-    μ-loop
-    loop-holds
-    value-at-requires
-    number-in-requires
-    mul-out
-    slice-write-out
-    next-at-requires
-    add-i
-    loop-less
-    loop-again
-    same-length
-    returns)
+    (tie.spec Inv-loop μ-loop loop-holds (λ c κs. tt) (λ c κs. omega arith) (λ c. omega arith) slice-write-out
+    (λ c κs. tt) (λ c. omega arith) (λ c. omega arith) loop-again same-length returns)

@@ -9,9 +9,6 @@ use Rattle.scanner.proofs.FindLaws.{found-end, found-run, found-break, 
 skip-requires : tie.Need-skip-requires
 skip-requires c κs = c .before .pre
 
-line-end-requires : tie.Need-line-end-requires
-line-end-requires c κs = search needs
-
 returns : tie.Need-returns
 returns c =
     let skip = c .before .before .skip in
@@ -22,17 +19,11 @@ returns c =
 shared-slice-read-b : tie.Need-shared-slice-read-b
 shared-slice-read-b c = omega (arith, c .before .before .skip .ensures .room .within)
 
-in-run-requires : tie.Need-in-run-requires
-in-run-requires c κs = search needs
-
 run-end-requires : tie.Need-run-end-requires
 run-end-requires c κs = c .before .before .before .before .skip .ensures .room
 
 sub-spelling : tie.Need-sub-spelling
 sub-spelling c = omega (arith, c .run-end .ensures .ends)
-
-spelling-requires : tie.Need-spelling-requires
-spelling-requires c κs = search needs
 
 returns-2 : tie.Need-returns-2
 returns-2 c =
@@ -44,16 +35,10 @@ returns-2 c =
     (skip .ensures) (omega (arith, skip .ensures .room .within, if1 .left))
     (sym (in-run .ensures) ∙ c .before .before .if2 .taken) (c .before .run-end .ensures) (c .spelling .ensures)
 
-is-break-requires : tie.Need-is-break-requires
-is-break-requires c κs = search needs
-
 add-line-end : tie.Need-add-line-end
 add-line-end c =
     let skip = c .before .before .before .before .before .before .skip in
     omega (arith, skip .ensures .room .within)
-
-line-end-requires-2 : tie.Need-line-end-requires-2
-line-end-requires-2 c κs = search needs
 
 returns-3 : tie.Need-returns-3
 returns-3 c =
@@ -74,9 +59,6 @@ column-after-requires c κs =
     let skip = c .before .before .before .before .before .before .skip in
     omega (arith, skip .ensures .room .within, skip .ensures .room .fits)
 
-spelling-requires-2 : tie.Need-spelling-requires-2
-spelling-requires-2 c κs = search needs
-
 returns-4 : tie.Need-returns-4
 returns-4 c =
     let is-break = c .before .before .before .is-break in
@@ -93,21 +75,6 @@ returns-4 c =
 pub find-spec : {M : Type 1} → statement M
 find-spec =
     tie.close
-    (tie.spec
-    skip-requires
-    line-end-requires
-    returns
-    shared-slice-read-b
-    in-run-requires
-    run-end-requires
-    sub-spelling
-    spelling-requires
-    returns-2
-    is-break-requires
-    add-line-end
-    line-end-requires-2
-    returns-3
-    add-spelling
-    column-after-requires
-    spelling-requires-2
-    returns-4)
+    (tie.spec skip-requires (λ c κs. search needs) returns shared-slice-read-b (λ c κs. search needs)
+    run-end-requires sub-spelling (λ c κs. search needs) returns-2 (λ c κs. search needs) add-line-end
+    (λ c κs. search needs) returns-3 add-spelling column-after-requires (λ c κs. search needs) returns-4)

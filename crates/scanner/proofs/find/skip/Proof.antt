@@ -19,12 +19,6 @@ abbrev μ-loop : tie.MeasureT-loop
 loop-holds : tie.Need-loop-holds Inv-loop μ-loop
 loop-holds c = (c .before .pre, refl)
 
-shared-slice-read-passes : tie.Need-shared-slice-read-passes Inv-loop μ-loop
-shared-slice-read-passes c = omega arith
-
-passes-requires : tie.Need-passes-requires Inv-loop μ-loop
-passes-requires c κs = tt
-
 returns : tie.Need-returns Inv-loop μ-loop
 returns c =
     let loop = c .before .before .before .before .loop in
@@ -34,19 +28,10 @@ returns c =
       stops = λ _. sym (c .before .passes .ensures) ∙ not-true _ (c .if1 .taken);
     }
 
-shared-slice-read-column-after : tie.Need-shared-slice-read-column-after Inv-loop μ-loop
-shared-slice-read-column-after c = omega arith
-
 column-after-requires : tie.Need-column-after-requires Inv-loop μ-loop
 column-after-requires c κs =
     let loop = c .before .before .before .before .before .loop in
     omega (arith, loop .inv .0 .fits, loop .inv .0 .within)
-
-add-at : tie.Need-add-at Inv-loop μ-loop
-add-at c = omega arith
-
-loop-less : tie.Need-loop-less Inv-loop μ-loop
-loop-less c = omega arith
 
 loop-again : tie.Need-loop-again Inv-loop μ-loop
 loop-again c =
@@ -71,16 +56,5 @@ returns-2 c = record { room = c .before .loop .inv .0; same = c .before .loop .i
 pub skip-spec : {M : Type 1} → statement M
 skip-spec =
     tie.close
-    (tie.spec
-    Inv-loop
-    μ-loop
-    loop-holds
-    shared-slice-read-passes
-    passes-requires
-    returns
-    shared-slice-read-column-after
-    column-after-requires
-    add-at
-    loop-less
-    loop-again
-    returns-2)
+    (tie.spec Inv-loop μ-loop loop-holds (λ c. omega arith) (λ c κs. tt) returns (λ c. omega arith)
+    column-after-requires (λ c. omega arith) (λ c. omega arith) loop-again returns-2)

@@ -27,22 +27,10 @@ loop-holds c =
           (rw length-keywords (start .pre .1 .1 .1)),
     )
 
-sub-k : tie.Need-sub-k Inv-loop μ-loop
-sub-k c = omega arith
-
-mul-value-at : tie.Need-mul-value-at Inv-loop μ-loop
-mul-value-at c = search needs
-
 shared-slice-read-value-at : tie.Need-shared-slice-read-value-at Inv-loop μ-loop
 shared-slice-read-value-at c =
     let start = c .before .before .before .before .before .before .before in
     omega (arith, start .pre .1 .0 .room)
-
-value-at-requires : tie.Need-value-at-requires Inv-loop μ-loop
-value-at-requires c κs = tt
-
-key-requires : tie.Need-key-requires Inv-loop μ-loop
-key-requires c κs = tt
 
 slice-read-nexts : tie.Need-slice-read-nexts Inv-loop μ-loop
 slice-read-nexts c =
@@ -64,9 +52,6 @@ slice-write-firsts : tie.Need-slice-write-firsts Inv-loop μ-loop
 slice-write-firsts c =
     let loop = c .before .before .before .before .before .loop in
     omega (arith, loop .inv .2 .keys, c .before .key .ensures .1)
-
-loop-less : tie.Need-loop-less Inv-loop μ-loop
-loop-less c = omega arith
 
 loop-again : tie.Need-loop-again Inv-loop μ-loop
 loop-again c =
@@ -97,21 +82,6 @@ returns c =
 pub link-spec : {M : Type 1} → statement M
 link-spec =
     tie.close
-    (tie.spec
-    Inv-loop
-    μ-loop
-    loop-holds
-    sub-k
-    mul-value-at
-    shared-slice-read-value-at
-    value-at-requires
-    key-requires
-    slice-read-nexts
-    slice-write-nexts
-    cast-firsts
-    slice-write-firsts
-    loop-less
-    loop-again
-    same-length
-    same-length-2
-    returns)
+    (tie.spec Inv-loop μ-loop loop-holds (λ c. omega arith) (λ c. search needs) shared-slice-read-value-at
+    (λ c κs. tt) (λ c κs. tt) slice-read-nexts slice-write-nexts cast-firsts slice-write-firsts
+    (λ c. omega arith) loop-again same-length same-length-2 returns)

@@ -16,9 +16,6 @@ Inv-loop file count offsets firsts nexts s k₀ k = Reached (keywordsFrom file c
 abbrev μ-loop : tie.MeasureT-loop
 μ-loop file count offsets firsts nexts s k₀ k = count - k
 
-key-requires : tie.Need-key-requires Inv-loop μ-loop
-key-requires c κs = tt
-
 shared-slice-read-k : tie.Need-shared-slice-read-k Inv-loop μ-loop
 shared-slice-read-k c =
     let start = c .before .before .before .before .before .before .before in
@@ -32,19 +29,10 @@ loop-holds c =
     let start = c .before .before .before .before .before .before .before in
     search-start (start .pre) (start .args .s .now) (c .before .key .ensures .0) (c .before .key .ensures .1)
 
-mul-value-at : tie.Need-mul-value-at Inv-loop μ-loop
-mul-value-at c = search needs
-
 shared-slice-read-value-at : tie.Need-shared-slice-read-value-at Inv-loop μ-loop
 shared-slice-read-value-at c =
     let start = c .before .before .before .before .before .before .before .before .before .before in
     omega (arith, start .pre .starts .room)
-
-value-at-requires : tie.Need-value-at-requires Inv-loop μ-loop
-value-at-requires c κs = tt
-
-same-requires : tie.Need-same-requires Inv-loop μ-loop
-same-requires c κs = tt
 
 keyword-terminal-requires : tie.Need-keyword-terminal-requires Inv-loop μ-loop
 keyword-terminal-requires c κs =
@@ -93,9 +81,6 @@ loop-again c =
     search-next (start .pre) (start .args .s .now) (loop .inv) (loop-test .taken) (value-at .ensures)
     (c .before .before .same .ensures) (c .before .if1 .left)
 
-no-keyword-requires : tie.Need-no-keyword-requires Inv-loop μ-loop
-no-keyword-requires c κs = tt
-
 returns-2 : tie.Need-returns-2 Inv-loop μ-loop
 returns-2 c =
     let loop = c .before .before .loop in
@@ -109,22 +94,6 @@ returns-2 c =
 pub indexed-spec : {M : Type 1} → statement M
 indexed-spec =
     tie.close
-    (tie.spec
-    Inv-loop
-    μ-loop
-    key-requires
-    shared-slice-read-k
-    cast-k
-    loop-holds
-    mul-value-at
-    shared-slice-read-value-at
-    value-at-requires
-    same-requires
-    keyword-terminal-requires
-    returns
-    shared-slice-read-k-2
-    cast-k-2
-    loop-less
-    loop-again
-    no-keyword-requires
-    returns-2)
+    (tie.spec Inv-loop μ-loop (λ c κs. tt) shared-slice-read-k cast-k loop-holds (λ c. search needs)
+    shared-slice-read-value-at (λ c κs. tt) (λ c κs. tt) keyword-terminal-requires returns shared-slice-read-k-2
+    cast-k-2 loop-less loop-again (λ c κs. tt) returns-2)

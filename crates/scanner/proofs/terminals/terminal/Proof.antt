@@ -24,15 +24,6 @@ loop-holds : tie.Need-loop-holds Inv-loop μ-loop
 unfolding offsetOf
 loop-holds c = (omega arith, refl, refl)
 
-value-at-requires : tie.Need-value-at-requires Inv-loop μ-loop
-value-at-requires c κs = tt
-
-same-requires : tie.Need-same-requires Inv-loop μ-loop
-same-requires c κs = tt
-
-keyword-terminal-requires : tie.Need-keyword-terminal-requires Inv-loop μ-loop
-keyword-terminal-requires c κs = omega arith
-
 returns : tie.Need-returns Inv-loop μ-loop
 returns c =
     let value-at = c .before .before .before .value-at in
@@ -44,15 +35,6 @@ returns c =
     (loop .inv .2
     ∙ step (start .args .file .now) (start .args .count) (loop .k) (start .args .s .now) (loop .inv .1)
     (loop-test .taken) (value-at .ensures) (sym (c .before .if1 .taken) ∙ c .before .before .same .ensures))
-
-next-at-requires : tie.Need-next-at-requires Inv-loop μ-loop
-next-at-requires c κs = tt
-
-add-k : tie.Need-add-k Inv-loop μ-loop
-add-k c = omega arith
-
-loop-less : tie.Need-loop-less Inv-loop μ-loop
-loop-less c = omega arith
 
 loop-again : tie.Need-loop-again Inv-loop μ-loop
 loop-again c =
@@ -67,9 +49,6 @@ loop-again c =
           (loop-test .taken) (value-at .ensures) (sym (c .before .if1 .left) ∙ c .before .before .same .ensures),
     )
 
-no-keyword-requires : tie.Need-no-keyword-requires Inv-loop μ-loop
-no-keyword-requires c κs = tt
-
 returns-2 : tie.Need-returns-2 Inv-loop μ-loop
 returns-2 c =
     let loop = c .before .before .loop in
@@ -83,17 +62,5 @@ returns-2 c =
 pub terminal-spec : {M : Type 1} → statement M
 terminal-spec =
     tie.close
-    (tie.spec
-    Inv-loop
-    μ-loop
-    loop-holds
-    value-at-requires
-    same-requires
-    keyword-terminal-requires
-    returns
-    next-at-requires
-    add-k
-    loop-less
-    loop-again
-    no-keyword-requires
-    returns-2)
+    (tie.spec Inv-loop μ-loop loop-holds (λ c κs. tt) (λ c κs. tt) (λ c κs. omega arith) returns
+    (λ c κs. tt) (λ c. omega arith) (λ c. omega arith) loop-again (λ c κs. tt) returns-2)

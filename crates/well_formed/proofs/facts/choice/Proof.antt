@@ -6,24 +6,6 @@ use mathlib.Core.Path.{refl, _∙_}
 use Rattle.well_formed.specs.Rounds.{gives}
 use Rattle.well_formed.proofs.FormLaws.{by-fact}
 
-both-requires : tie.Need-both-requires
-both-requires c κs = search needs
-
-either-requires : tie.Need-either-requires
-either-requires c κs = search needs
-
-both-requires-2 : tie.Need-both-requires-2
-both-requires-2 c κs = search needs
-
-either-requires-2 : tie.Need-either-requires-2
-either-requires-2 c κs = search needs
-
-both-requires-3 : tie.Need-both-requires-3
-both-requires-3 c κs = search needs
-
-facts-of-requires : tie.Need-facts-of-requires
-facts-of-requires c κs = search needs
-
 returns : tie.Need-returns
 unfolding gives
 returns c =
@@ -37,11 +19,5 @@ returns c =
 pub choice-spec : {M : Type 1} → statement M
 choice-spec =
     tie.close
-    (tie.spec
-    both-requires
-    either-requires
-    both-requires-2
-    either-requires-2
-    both-requires-3
-    facts-of-requires
-    returns)
+    (tie.spec (λ c κs. search needs) (λ c κs. search needs) (λ c κs. search needs) (λ c κs. search needs)
+    (λ c κs. search needs) (λ c κs. search needs) returns)

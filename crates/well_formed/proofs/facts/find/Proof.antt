@@ -29,15 +29,6 @@ loop-holds c =
 pass-requires : tie.Need-pass-requires Inv-loop μ-loop
 pass-requires c κs = c .before .before .before .loop .inv .0
 
-same-length : tie.Need-same-length Inv-loop μ-loop
-same-length c = omega arith
-
-same-length-2 : tie.Need-same-length-2 Inv-loop μ-loop
-same-length-2 c = omega arith
-
-same-length-3 : tie.Need-same-length-3 Inv-loop μ-loop
-same-length-3 c = omega arith
-
 returns : tie.Need-returns Inv-loop μ-loop
 returns c =
     let pass = c .before .before .before .before .before .before .before .pass in
@@ -68,14 +59,5 @@ loop-again c =
 pub find-spec : {M : Type 1} → statement M
 find-spec =
     tie.close
-    (tie.spec
-    Inv-loop
-    μ-loop
-    loop-holds
-    pass-requires
-    same-length
-    same-length-2
-    same-length-3
-    returns
-    loop-less
-    loop-again)
+    (tie.spec Inv-loop μ-loop loop-holds pass-requires (λ c. omega arith) (λ c. omega arith) (λ c. omega arith)
+    returns loop-less loop-again)

@@ -7,49 +7,10 @@ use Prim.Native.Nat.{_*_, _+_}
 use Rattle.well_formed.proofs.FormLaws.{node-gives}
 use Rattle.well_formed.specs.InternalPasses.{known, three, factOf}
 
-mul-at : tie.Need-mul-at
-mul-at c = omega arith
-
-mul-kind : tie.Need-mul-kind
-mul-kind c = omega arith
-
-shared-slice-read-kind : tie.Need-shared-slice-read-kind
-shared-slice-read-kind c = omega arith
-
-add-first-child : tie.Need-add-first-child
-add-first-child c = omega arith
-
-mul-first-child : tie.Need-mul-first-child
-mul-first-child c = omega arith
-
-shared-slice-read-first-child : tie.Need-shared-slice-read-first-child
-shared-slice-read-first-child c = omega arith
-
-first-child-requires : tie.Need-first-child-requires
-first-child-requires c κs = tt
-
-facts-at-requires : tie.Need-facts-at-requires
-facts-at-requires c κs = tt
-
-add-facts-at : tie.Need-add-facts-at
-add-facts-at c = omega arith
-
-mul-facts-at : tie.Need-mul-facts-at
-mul-facts-at c = omega arith
-
-shared-slice-read-facts-at : tie.Need-shared-slice-read-facts-at
-shared-slice-read-facts-at c = omega arith
-
 cast-facts-at : tie.Need-cast-facts-at
 cast-facts-at c =
     let start = c .before .before .before .before .before .before .before .before .before .before in
     omega (arith, c .shared-slice-known8 .given (start .args .n * 4 + 2))
-
-facts-at-requires-2 : tie.Need-facts-at-requires-2
-facts-at-requires-2 c κs = tt
-
-by-form-requires : tie.Need-by-form-requires
-by-form-requires c κs = tt
 
 returns : tie.Need-returns
 returns c =
@@ -69,19 +30,6 @@ returns c =
 pub gives-spec : {M : Type 1} → statement M
 gives-spec =
     tie.close
-    (tie.spec
-    mul-at
-    mul-kind
-    shared-slice-read-kind
-    add-first-child
-    mul-first-child
-    shared-slice-read-first-child
-    first-child-requires
-    facts-at-requires
-    add-facts-at
-    mul-facts-at
-    shared-slice-read-facts-at
-    cast-facts-at
-    facts-at-requires-2
-    by-form-requires
-    returns)
+    (tie.spec (λ c. omega arith) (λ c. omega arith) (λ c. omega arith) (λ c. omega arith) (λ c. omega arith)
+    (λ c. omega arith) (λ c κs. tt) (λ c κs. tt) (λ c. omega arith) (λ c. omega arith) (λ c. omega arith)
+    cast-facts-at (λ c κs. tt) (λ c κs. tt) returns)

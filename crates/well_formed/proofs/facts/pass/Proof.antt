@@ -26,33 +26,6 @@ loop-holds c =
     let start = c .before .before .before .before .before in
     (omega arith, refl, refl, refl, started _ _ _ _ (start .pre .true-ones) _ (λ k l. omega arith))
 
-gives-requires : tie.Need-gives-requires Inv-loop μ-loop
-gives-requires c κs = omega arith
-
-learn-requires : tie.Need-learn-requires Inv-loop μ-loop
-learn-requires c κs = omega arith
-
-learn-requires-2 : tie.Need-learn-requires-2 Inv-loop μ-loop
-learn-requires-2 c κs = omega arith
-
-learn-requires-3 : tie.Need-learn-requires-3 Inv-loop μ-loop
-learn-requires-3 c κs = omega arith
-
-either-requires : tie.Need-either-requires Inv-loop μ-loop
-either-requires c κs = tt
-
-either-requires-2 : tie.Need-either-requires-2 Inv-loop μ-loop
-either-requires-2 c κs = tt
-
-either-requires-3 : tie.Need-either-requires-3 Inv-loop μ-loop
-either-requires-3 c κs = tt
-
-add-n : tie.Need-add-n Inv-loop μ-loop
-add-n c = omega arith
-
-loop-less : tie.Need-loop-less Inv-loop μ-loop
-loop-less c = omega arith
-
 loop-again : tie.Need-loop-again Inv-loop μ-loop
 loop-again c =
     let learn3 = c .before .before .before .before .before .learn3 in
@@ -97,21 +70,6 @@ returns c = looked-also _ _ _ (λ k l. omega arith) (c .before .loop .inv .4)
 pub pass-spec : {M : Type 1} → statement M
 pass-spec =
     tie.close
-    (tie.spec
-    Inv-loop
-    μ-loop
-    loop-holds
-    gives-requires
-    learn-requires
-    learn-requires-2
-    learn-requires-3
-    either-requires
-    either-requires-2
-    either-requires-3
-    add-n
-    loop-less
-    loop-again
-    same-length
-    same-length-2
-    same-length-3
-    returns)
+    (tie.spec Inv-loop μ-loop loop-holds (λ c κs. omega arith) (λ c κs. omega arith) (λ c κs. omega arith)
+    (λ c κs. omega arith) (λ c κs. tt) (λ c κs. tt) (λ c κs. tt) (λ c. omega arith) (λ c. omega arith)
+    loop-again same-length same-length-2 same-length-3 returns)

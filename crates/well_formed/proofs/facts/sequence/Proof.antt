@@ -6,33 +6,6 @@ use mathlib.Core.Path.{refl, _∙_}
 use Rattle.well_formed.specs.Rounds.{gives}
 use Rattle.well_formed.proofs.FormLaws.{by-fact}
 
-either-requires : tie.Need-either-requires
-either-requires c κs = search needs
-
-either-requires-2 : tie.Need-either-requires-2
-either-requires-2 c κs = search needs
-
-both-requires : tie.Need-both-requires
-both-requires c κs = search needs
-
-both-requires-2 : tie.Need-both-requires-2
-both-requires-2 c κs = search needs
-
-both-requires-3 : tie.Need-both-requires-3
-both-requires-3 c κs = search needs
-
-either-requires-3 : tie.Need-either-requires-3
-either-requires-3 c κs = search needs
-
-both-requires-4 : tie.Need-both-requires-4
-both-requires-4 c κs = search needs
-
-either-requires-4 : tie.Need-either-requires-4
-either-requires-4 c κs = search needs
-
-facts-of-requires : tie.Need-facts-of-requires
-facts-of-requires c κs = search needs
-
 returns : tie.Need-returns
 unfolding gives
 returns c =
@@ -51,14 +24,6 @@ returns c =
 pub sequence-spec : {M : Type 1} → statement M
 sequence-spec =
     tie.close
-    (tie.spec
-    either-requires
-    either-requires-2
-    both-requires
-    both-requires-2
-    both-requires-3
-    either-requires-3
-    both-requires-4
-    either-requires-4
-    facts-of-requires
-    returns)
+    (tie.spec (λ c κs. search needs) (λ c κs. search needs) (λ c κs. search needs) (λ c κs. search needs)
+    (λ c κs. search needs) (λ c κs. search needs) (λ c κs. search needs) (λ c κs. search needs)
+    (λ c κs. search needs) returns)

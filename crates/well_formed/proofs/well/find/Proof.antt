@@ -23,9 +23,6 @@ loop-holds c = (c .before .before .before .before .pre, refl)
 pass-requires : tie.Need-pass-requires Inv-loop μ-loop
 pass-requires c κs = c .before .loop .inv .0
 
-same-length : tie.Need-same-length Inv-loop μ-loop
-same-length c = omega arith
-
 returns : tie.Need-returns Inv-loop μ-loop
 returns c = last-pass _ _ _ (λ k l. l) (not-true (c .before .before .before .pass .result) (c .if1 .taken)) (c .before .before .before .pass .ensures)
 
@@ -53,4 +50,4 @@ loop-again c =
 pub find-spec : {M : Type 1} → statement M
 find-spec =
     tie.close
-    (tie.spec Inv-loop μ-loop loop-holds pass-requires same-length returns loop-less loop-again)
+    (tie.spec Inv-loop μ-loop loop-holds pass-requires (λ c. omega arith) returns loop-less loop-again)

@@ -19,21 +19,6 @@ abbrev μ-loop : tie.MeasureT-loop
 loop-holds : tie.Need-loop-holds Inv-loop μ-loop
 loop-holds c = (omega arith, refl, started _ _ _ _ (c .before .before .before .before .pre .true-ones) _ (λ k l. omega arith))
 
-passes-requires : tie.Need-passes-requires Inv-loop μ-loop
-passes-requires c κs = omega arith
-
-learn-requires : tie.Need-learn-requires Inv-loop μ-loop
-learn-requires c κs = omega arith
-
-either-requires : tie.Need-either-requires Inv-loop μ-loop
-either-requires c κs = tt
-
-add-n : tie.Need-add-n Inv-loop μ-loop
-add-n c = omega arith
-
-loop-less : tie.Need-loop-less Inv-loop μ-loop
-loop-less c = omega arith
-
 loop-again : tie.Need-loop-again Inv-loop μ-loop
 loop-again c =
     let learn = c .before .before .before .learn in
@@ -57,15 +42,5 @@ returns c = looked-also _ _ _ (λ k l. omega arith) (c .before .loop .inv .2)
 pub pass-spec : {M : Type 1} → statement M
 pass-spec =
     tie.close
-    (tie.spec
-    Inv-loop
-    μ-loop
-    loop-holds
-    passes-requires
-    learn-requires
-    either-requires
-    add-n
-    loop-less
-    loop-again
-    same-length
-    returns)
+    (tie.spec Inv-loop μ-loop loop-holds (λ c κs. omega arith) (λ c κs. omega arith) (λ c κs. tt)
+    (λ c. omega arith) (λ c. omega arith) loop-again same-length returns)
