@@ -133,7 +133,7 @@ fn inspect(file: &[u8]) -> Inspected
 {
     let s = shape_of(file);
     if !s.right {
-        return Inspected::Refused(refusals::FILE);
+        return Inspected::Refused(refusals::FIELDS);
     }
     if names_wrong(file, s) {
         return Inspected::Refused(refusals::SPELLING);
@@ -149,10 +149,10 @@ fn inspect(file: &[u8]) -> Inspected
     }
     let value = value_at(file, s.start);
     if number_in(value, 0) as usize >= nodes.count {
-        return Inspected::Refused(refusals::TARGET);
+        return Inspected::Refused(refusals::RULE);
     }
     if byte_in(value, 2) >= table::RELATIONS {
-        return Inspected::Refused(refusals::TARGET);
+        return Inspected::Refused(refusals::RULE);
     }
     Inspected::Whole(s)
 }

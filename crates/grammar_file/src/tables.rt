@@ -78,10 +78,10 @@ pub(crate) fn check_tables(
         ⌝ }
 {
     if node_count > table::NODES {
-        return Checked::Refused(refusals::COUNT);
+        return Checked::Refused(refusals::COUNTS);
     }
     if rule_count > table::RULES {
-        return Checked::Refused(refusals::COUNT);
+        return Checked::Refused(refusals::COUNTS);
     }
     let mut nodes = [0u16; 2048];
     let mut rules = [0u16; 128];

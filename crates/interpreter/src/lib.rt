@@ -52,7 +52,7 @@ fn begin(nodes: &[u16], rules: &[u16], tokens: &[u32], start: Start) -> Ran
     ensures { λ r. ⌜ Derived (now (nodes .entry)) (now (rules .entry)) (now (tokens .entry)) start r ⌝ }
 {
     if tokens_wrong(tokens) {
-        return Ran::Refused(refusals::TOKEN);
+        return Ran::Refused(refusals::TOKENS);
     }
     if start_wrong(nodes, tokens, start) {
         return Ran::Refused(refusals::START);

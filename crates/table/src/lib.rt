@@ -29,13 +29,13 @@ pub fn check(nodes: &[u16], rules: &[u16]) -> Checked
     ensures { λ r. ⌜ numbers r ≡ tableAnswer (now (nodes .entry)) (now (rules .entry)) ⌝ }
 {
     if counts_wrong(nodes, rules) {
-        return Checked::Refused(refusals::COUNT);
+        return Checked::Refused(refusals::COUNTS);
     }
     if node_wrong(nodes, rules) {
         return Checked::Refused(refusals::NODE);
     }
     if rule_wrong(nodes, rules) {
-        return Checked::Refused(refusals::TARGET);
+        return Checked::Refused(refusals::RULE);
     }
     Checked::Passes
 }

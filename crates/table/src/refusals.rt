@@ -1,19 +1,19 @@
 // The numbers of the checks that turn a call down (01, "Turned-down calls").
 
 // The grammar file: its length, fields, tags and number of keywords.
-pub const FILE: u8 = 1;
+pub const FIELDS: u8 = 1;
 
 // A keyword or a name breaks its rules.
 pub const SPELLING: u8 = 2;
 
 // The counts of node words, nodes or rules.
-pub const COUNT: u8 = 3;
+pub const COUNTS: u8 = 3;
 
 // A node's words.
 pub const NODE: u8 = 4;
 
 // A rule's node, or a file's start.
-pub const TARGET: u8 = 5;
+pub const RULE: u8 = 5;
 
 // A lent slice is too short for the table or its rules.
 pub const ROOM: u8 = 6;
@@ -31,7 +31,7 @@ pub const COLUMN: u8 = 9;
 pub const TOKEN_ROOM: u8 = 10;
 
 // The lent tokens.
-pub const TOKEN: u8 = 11;
+pub const TOKENS: u8 = 11;
 
 // The start of a run.
 pub const START: u8 = 12;
