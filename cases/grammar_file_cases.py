@@ -1,8 +1,5 @@
 #!/usr/bin/env python3
-"""Writes the calls that the program grammar_file_cases makes, and the lines that it must print.
-
-Run it at the top of the repository. It writes crates/grammar_file_cases/data/cases and
-crates/grammar_file_cases/stdout, the same bytes each time.
+"""Writes the calls that the program grammar_file_cases makes, and the lines that it must print (README.md).
 
 Nothing here reads a grammar file. Each call has its answer written beside the bytes that are put
 together for it; a family of calls has one answer for all, or the rule that gives each, in its loop or
@@ -10,17 +7,16 @@ function. A comment quotes the words of document 01 that decide it.
 """
 
 import itertools
-import os
-import pathlib
 
-from grammar_fields import EMPTY, START, TAIL, VERSION, field, keyword, node, rule, start, with_keywords
+import faults
+import grammar_fields
+from grammar_fields import EMPTY, EVERY_KIND, NINE, START, TAIL, VERSION
+from grammar_fields import field, keyword, node, rule, start, with_keywords, with_names
+from records import Cases, Payloads, spaced, wide
+from table_nodes import flat
 
-CRATE = pathlib.Path(__file__).resolve().parent.parent / "crates" / "grammar_file_cases"
-
-records = []
-lines = []
-labels = set()
-payload_before = b""
+CASES = Cases("grammar_file_cases")
+BEFORE = Payloads()
 
 
 # --- Records and lines ---------------------------------------------------------------------------
@@ -28,46 +24,30 @@ payload_before = b""
 
 def record(kind, label, x, y, payload, line):
     """One call and the line expected of it. The layout is that of the program's first comment."""
-    global payload_before
-    assert label not in labels, label
-    labels.add(label)
-    same = len(os.path.commonprefix([payload_before, payload]))
-    payload_before = payload
-    name = label.encode()
-    records.append(
-        kind.encode()
-        + bytes([len(name)])
-        + x.to_bytes(2, "big")
-        + y.to_bytes(2, "big")
-        + same.to_bytes(3, "big")
-        + len(payload).to_bytes(3, "big")
-        + name
-        + payload[same:]
-    )
-    lines.append(f"{label}: {line}\n")
+    same, rest = BEFORE.front(payload)
+    CASES.add(label, line, kind.encode(), wide(2, x, y) + wide(3, same, len(payload)), rest)
 
 
-def spaced(head, numbers):
-    return " ".join([head] + [str(n) for n in numbers])
+# Node words and rule words lent.
+SMALL, WIDE = (64, 16), (2100, 200)
 
 
-def reads(label, answer, file, lent=(64, 16), words=None):
+def reads(label, answer, file, lent=SMALL, words=None):
     """A file that is read. The answer: nodes, rules, keywords, start node, start mode.
 
-    words: the node words, four to a node, and the rule words that are expected, to be printed too.
-    Lent words past the written ones keep the marker: "After success, words past those written are as
-    before." A check of the file alone answers the same.
+    words: the nodes and the rule words that are expected, to be printed too. Lent words past the written
+    ones keep the marker: "After success, words past those written are as before." A check of the file
+    alone answers the same.
     """
     line = spaced("read", answer)
     if words is not None:
-        node_words, rule_words = words
-        flat = [word for node_ in node_words for word in node_]
-        line += spaced(" | nodes", flat) + spaced(" | rules", rule_words)
+        nodes, rules = words
+        line += spaced(" | nodes", flat(nodes)) + spaced(" | rules", rules)
     line += " | kept | check " + spaced("read", answer)
     record("r" if words is None else "R", label, *lent, file, line)
 
 
-def refused(label, number, file, lent=(64, 16)):
+def refused(label, number, file, lent=SMALL):
     """A file that is refused by one of 1 to 5. "Nothing is written." """
     assert 1 <= number <= 5
     record("r", label, *lent, file, f"refused {number} | kept | check refused {number}")
@@ -83,19 +63,25 @@ def part(kind, label, number, file, expected):
     record(kind, label, number, 0, file, f'"{expected}" {len(expected.encode())}')
 
 
-def table(label, node_words, rule_words, expected):
+def spelled(label, number, *texts):
+    """The texts as keywords, then as names: files that are read (None) or refused. The label has {} for which."""
+    for kind, build, answer in SPELLED:
+        if number is None:
+            reads(label.format(kind), answer(len(texts)), build(*texts))
+        else:
+            refused(label.format(kind), number, build(*texts))
+
+
+SPELLED = (
+    ("keyword", with_keywords, lambda count: (1, 0, count, 0, 0)),
+    ("name", with_names, lambda count: (1, count, 0, 0, 0)),
+)
+
+
+def table(label, nodes, rules, expected):
     """A check of a table by itself, by 3 to 5."""
-    words = list(node_words) + list(rule_words)
-    payload = b"".join(word.to_bytes(2, "big") for word in words)
-    record("t", label, len(node_words), len(rule_words), payload, expected)
-
-
-# --- Fields --------------------------------------------------------------------------------------
-
-
-def with_names(*names):
-    """A file of one empty node and a rule for each name, all of them node 0."""
-    return VERSION + b"".join(rule(0, n) for n in names) + TAIL
+    words = flat(nodes)
+    record("t", label, len(words), len(rules), wide(2, *words, *rules), expected)
 
 
 # --- The small inputs of the table of numbers ----------------------------------------------------
@@ -110,20 +96,9 @@ short("small 6, 1 node and 3 words", (1, 0, 0, 0, 0), VERSION + EMPTY + START, (
 
 # The same files with the fault put right.
 reads("smallest file", (1, 0, 0, 0, 0), VERSION + EMPTY + START, (4, 0), ([(0, 0, 0, 0)], []))
-reads(
-    "repeat of an earlier node",
-    (2, 0, 0, 1, 0),
-    VERSION + EMPTY + node(6, 0) + start(1),
-    (8, 0),
-    ([(0, 0, 0, 0), (6, 0, 0, 0)], []),
-)
-reads(
-    "rule 0 is node 0 of 1",
-    (1, 1, 0, 0, 0),
-    VERSION + rule(0, b"r") + EMPTY + START,
-    (4, 1),
-    ([(0, 0, 0, 0)], [0]),
-)
+reads("repeat of an earlier node", (2, 0, 0, 1, 0), VERSION + EMPTY + node(6, 0) + start(1), (8, 0),
+      ([(0, 0, 0, 0), (6, 0, 0, 0)], []))
+reads("rule 0 is node 0 of 1", (1, 1, 0, 0, 0), VERSION + rule(0, b"r") + EMPTY + START, (4, 1), ([(0, 0, 0, 0)], [0]))
 
 # A file byte by byte, written out: the two-byte numbers are high byte first.
 reads(
@@ -144,34 +119,20 @@ reads(
 
 # --- A file with every kind ----------------------------------------------------------------------
 
-FULL_NODES = [
-    (0, 0, 0, 0),
-    (1, 3, 0, 0),
-    (2, 2, 0, 0),
-    (3, 1, 2, 0),
-    (4, 3, 0, 0),
-    (5, 1, 0, 0),
-    (6, 1, 0, 0),
-    (7, 4, 0, 1),
-    (8, 7, 0, 2),
-    (9, 8, 0, 0),
-    (7, 9, 0, 3),
-    (8, 10, 0, 0),
-]
 FULL_RULES = [(11, b"report"), (3, b"line"), (0, b"loss")]
 FULL_KEYWORDS = [b"loss", b":", "na\u00efve".encode()]
 FULL_FIELDS = (
     [VERSION]
     + [keyword(k) for k in FULL_KEYWORDS]
     + [rule(n, name) for n, name in FULL_RULES]
-    + [node(*n) for n in FULL_NODES]
+    + [node(*n) for n in EVERY_KIND]
     + [start(9, 1)]
 )
 FULL = b"".join(FULL_FIELDS)
 FULL_ANSWER = (12, 3, 3, 9, 1)
 
-reads("full", FULL_ANSWER, FULL, (48, 3), (FULL_NODES, [11, 3, 0]))
-reads("full, more room", FULL_ANSWER, FULL, (2100, 200), (FULL_NODES, [11, 3, 0]))
+reads("full", FULL_ANSWER, FULL, (48, 3), (EVERY_KIND, [11, 3, 0]))
+reads("full, more room", FULL_ANSWER, FULL, (2100, 200), (EVERY_KIND, [11, 3, 0]))
 
 # "a field cut short, tag missing": no proper start of a file has its last field, tag 5, whole.
 for size in range(len(FULL)):
@@ -215,13 +176,7 @@ refused("keyword length low byte first", 1, VERSION + b"\x02\x01\x00a" + TAIL)
 
 # --- Order, number and lengths of fields ---------------------------------------------------------
 
-FIVE = {
-    1: VERSION,
-    2: keyword(b"k"),
-    3: rule(0, b"r"),
-    4: EMPTY,
-    5: START,
-}
+FIVE = {1: VERSION, 2: keyword(b"k"), 3: rule(0, b"r"), 4: EMPTY, 5: START}
 
 
 def tags(order):
@@ -303,9 +258,8 @@ reads(
 for tag in (0, 6, 7, 64, 128, 255):
     for place in range(6):
         for value in (b"", b"\x01"):
-            fields = [FIVE[1], FIVE[2], FIVE[3], FIVE[4], FIVE[5]]
-            fields.insert(place, field(tag, value))
-            refused(f"tag {tag} at {place}, {len(value)} bytes", 1, b"".join(fields))
+            whole = tags(range(1, place + 1)) + field(tag, value) + tags(range(place + 1, 6))
+            refused(f"tag {tag} at {place}, {len(value)} bytes", 1, whole)
 
 # "wrong value length" and "tag 1's value not 1": tag 1 has "value the byte 1".
 for value in (b"", b"\x01\x00", b"\x01\x01", b"\x00\x01", b"\x01\x01\x01", bytes(256) + b"\x01"):
@@ -333,7 +287,6 @@ for size in (0, 1, 2, 4, 5, 259):
 
 # --- Limits --------------------------------------------------------------------------------------
 
-WIDE = (2100, 200)
 EMPTY_WORDS = (0, 0, 0, 0)
 
 # "1 to 512 nodes": past it "node .. count outside the limits".
@@ -344,13 +297,7 @@ for count in (513, 514, 520, 768, 1024, 1025):
 
 # 512 nodes, all different: terminals 0 to 255, then sequences.
 MANY = [(1, i, 0, 0) for i in range(256)] + [(3, i - 1, i - 256, 0) for i in range(256, 512)]
-reads(
-    "512 different nodes",
-    (512, 0, 0, 511, 3),
-    VERSION + b"".join(node(*n) for n in MANY) + start(511, 3),
-    (2048, 0),
-    (MANY, []),
-)
+reads("512 different nodes", (512, 0, 0, 511, 3), grammar_fields.file(MANY, 511, 3), (2048, 0), (MANY, []))
 
 # "0 to 128 rules": past it "rule count outside the limits".
 NAMES = [b"rule%d" % i for i in range(400)]
@@ -358,13 +305,9 @@ reads("127 rules", (1, 127, 0, 0, 0), with_names(*NAMES[:127]), WIDE, ([EMPTY_WO
 reads("128 rules", (1, 128, 0, 0, 0), with_names(*NAMES[:128]), WIDE, ([EMPTY_WORDS], [0] * 128))
 for count in (129, 130, 255, 256, 257, 384):
     refused(f"{count} rules", 3, with_names(*NAMES[:count]), WIDE)
-reads(
-    "128 rules of different nodes",
-    (130, 128, 0, 0, 0),
-    VERSION + b"".join(rule(129 - i, NAMES[i]) for i in range(128)) + EMPTY * 130 + START,
-    (520, 128),
-    ([EMPTY_WORDS] * 130, [129 - i for i in range(128)]),
-)
+reads("128 rules of different nodes", (130, 128, 0, 0, 0),
+      grammar_fields.file([EMPTY_WORDS] * 130, pairs=[(129 - i, NAMES[i]) for i in range(128)]), (520, 128),
+      ([EMPTY_WORDS] * 130, [129 - i for i in range(128)]))
 
 # "At most 253 keywords"; "over 253 keywords" is 1.
 SPELLINGS = [b"word%d" % i for i in range(520)]
@@ -374,23 +317,15 @@ for count in (254, 255, 256, 257, 509, 512, 513):
     refused(f"{count} keywords", 1, with_keywords(*SPELLINGS[:count]))
 
 # All limits at once: 253 keywords and 128 names of 32 bytes, 512 nodes.
-LARGEST = (
-    VERSION
-    + b"".join(keyword(b"%032d" % i) for i in range(253))
-    + b"".join(rule(511 - i, b"%032d" % i) for i in range(128))
-    + b"".join(node(*n) for n in MANY)
-    + start(511, 3)
-)
+LARGEST = grammar_fields.largest(MANY)
 reads("largest", (512, 128, 253, 511, 3), LARGEST, (2048, 128), (MANY, [511 - i for i in range(128)]))
 reads("largest, more room", (512, 128, 253, 511, 3), LARGEST, WIDE)
 
 # "Keywords and names have 1 to 32 bytes"; "keyword or name breaks its rules, length too" is 2.
 for size in (1, 2, 31, 32):
-    reads(f"keyword of {size} bytes", (1, 0, 1, 0, 0), with_keywords(b"a" * size))
-    reads(f"name of {size} bytes", (1, 1, 0, 0, 0), with_names(b"a" * size))
+    spelled(f"{{}} of {size} bytes", None, b"a" * size)
 for size in (0, 33, 34, 64, 255, 256, 257, 288):
-    refused(f"keyword of {size} bytes", 2, with_keywords(b"a" * size))
-    refused(f"name of {size} bytes", 2, with_names(b"a" * size))
+    spelled(f"{{}} of {size} bytes", 2, b"a" * size)
 refused("keyword of 0 bytes between two", 2, with_keywords(b"a", b"", b"b"))
 refused("keyword of 33 bytes last", 2, with_keywords(b"a", b"b" * 33))
 refused("name of 0 bytes between two", 2, with_names(b"a", b"", b"b"))
@@ -417,23 +352,18 @@ for byte in (0, 1, 9, 10, 13, 31, 32, 127):
         ("last of 32", b"a" * 31 + bytes([byte])),
         ("in the middle", b"ab" + bytes([byte]) + b"cd"),
     ):
-        refused(f"byte {byte} {said} in a keyword", 2, with_keywords(text))
-        refused(f"byte {byte} {said} in a name", 2, with_names(text))
+        spelled(f"byte {byte} {said} in a {{}}", 2, text)
 
 # Every other byte is fine. Tried are 33 and 126, some from 128 on, and neighbours of the nine single
 # bytes `: , ( ) [ ] = ; %` among signs, digits and letters.
 FINE = b"!\"$&'*+-./09<>AZ\\^_`az{|}~" + bytes([128, 129, 160, 186, 254, 255])
 for byte in FINE:
-    for said, text in (
-        ("alone", bytes([byte])),
-        ("first", bytes([byte]) + b"a"),
-        ("last", b"a" + bytes([byte])),
-    ):
-        reads(f"byte {byte} {said} in a keyword", (1, 0, 1, 0, 0), with_keywords(text))
-        reads(f"byte {byte} {said} in a name", (1, 1, 0, 0, 0), with_names(text))
+    spelled(f"byte {byte} alone in a {{}}", None, bytes([byte]))
+    spelled(f"byte {byte} first in a {{}}", None, bytes([byte]) + b"a")
+    spelled(f"byte {byte} last in a {{}}", None, b"a" + bytes([byte]))
 
 # "A keyword that holds one of the nine single bytes .." Names have no such rule.
-for byte in b":,()[]=;%":
+for byte in NINE:
     sign = bytes([byte])
     said = sign.decode()
     reads(f"keyword `{said}`", (1, 0, 1, 0, 0), with_keywords(sign))
@@ -446,28 +376,16 @@ for byte in b":,()[]=;%":
     reads(f"name `a{said}`", (1, 1, 0, 0, 0), with_names(b"a" + sign))
     reads(f"name `{said}a`", (1, 1, 0, 0, 0), with_names(sign + b"a"))
     reads(f"name `{said}{said}`", (1, 1, 0, 0, 0), with_names(sign + sign))
-reads(
-    "the nine single bytes as keywords",
-    (1, 0, 9, 0, 0),
-    with_keywords(b":", b",", b"(", b")", b"[", b"]", b"=", b";", b"%"),
-)
-reads("the nine single bytes in one name", (1, 1, 0, 0, 0), with_names(b":,()[]=;%"))
+reads("the nine single bytes as keywords", (1, 0, 9, 0, 0), with_keywords(*[bytes([byte]) for byte in NINE]))
+reads("the nine single bytes in one name", (1, 1, 0, 0, 0), with_names(NINE))
 
 # One bad spelling among good ones, at every place.
-for place in range(4):
-    texts = [b"one", b"two", b"three"]
-    texts.insert(place, b"a b")
-    refused(f"bad keyword at {place} of 4", 2, with_keywords(*texts))
-    refused(f"bad name at {place} of 4", 2, with_names(*texts))
+for place, texts in faults.places([b"one", b"two", b"three"], b"a b"):
+    spelled(f"bad {{}} at {place} of 4", 2, *texts)
 
 # A rule's node number is no part of its name: its bytes may be anything.
-reads(
-    "rule with node bytes 0 and 32",
-    (33, 1, 0, 0, 0),
-    VERSION + rule(32, b"r") + EMPTY * 33 + START,
-    (140, 1),
-    ([EMPTY_WORDS] * 33, [32]),
-)
+reads("rule with node bytes 0 and 32", (33, 1, 0, 0, 0), VERSION + rule(32, b"r") + EMPTY * 33 + START, (140, 1),
+      ([EMPTY_WORDS] * 33, [32]))
 
 
 # --- Distinct within their tag -------------------------------------------------------------------
@@ -475,10 +393,7 @@ reads(
 LETTERS = b"abcdefghijklmnopqrstuvwxyz012345"
 
 # "and are distinct within their tag".
-for kind, build, answer in (
-    ("keyword", with_keywords, lambda n: (1, 0, n, 0, 0)),
-    ("name", with_names, lambda n: (1, n, 0, 0, 0)),
-):
+for kind, build, answer in SPELLED:
     refused(f"equal {kind}s", 2, build(b"a", b"a"))
     refused(f"equal {kind}s of 32 bytes", 2, build(b"a" * 32, b"a" * 32))
     refused(f"equal {kind}s first and last", 2, build(b"a", b"b", b"c", b"a"))
@@ -514,11 +429,7 @@ for kind, build, answer in (
         refused(f"{kind}s {i} and {j} of 128 equal", 2, build(*texts), WIDE)
 
 # A keyword may equal a name: only "within their tag".
-reads(
-    "keyword equal to a name",
-    (1, 1, 1, 0, 0),
-    VERSION + keyword(b"same") + rule(0, b"same") + TAIL,
-)
+reads("keyword equal to a name", (1, 1, 1, 0, 0), VERSION + keyword(b"same") + rule(0, b"same") + TAIL)
 # Two rules of one node are two rules; equal names of different nodes are equal names.
 reads("two rules of one node", (1, 2, 0, 0, 0), VERSION + rule(0, b"r") + rule(0, b"s") + TAIL)
 refused("equal names of different nodes", 2, VERSION + rule(0, b"r") + rule(1, b"r") + EMPTY + TAIL)
@@ -545,16 +456,15 @@ refused("128 alike names, first two equal", 2, with_names(LONG[1], *LONG[1:128])
 def tried(label, words, number):
     """A node that passes (None), or that a file and the table by itself are refused for by the number. A file
     is tried where the words have room in its bytes."""
-    kind, a, b, relation = words
+    kind, _, _, relation = words
     nodes = [(0, 0, 0, 0), (1, 9, 0, 0), words, (0, 0, 0, 0)]
-    flat = [word for node_ in nodes for word in node_]
     if kind < 256 and relation < 256:
-        file = VERSION + rule(3, b"r") + b"".join(node(*n) for n in nodes) + start(2)
+        file = grammar_fields.file(nodes, 2, pairs=[(3, b"r")])
         if number is None:
             reads(label, (4, 1, 0, 2, 0), file, (17, 2), (nodes, [3]))
         else:
             refused(label, number, file)
-    table(f"table, {label}", flat, [3], "passes" if number is None else f"refused {number}")
+    table(f"table, {label}", nodes, [3], "passes" if number is None else f"refused {number}")
 
 
 # Kind 0, empty: uses no word. "unused word not 0".
@@ -623,56 +533,32 @@ for relation in (256, 259, 65535):
 for kind in (3, 4, 5, 6, 7, 8, 9):
     refused(f"node 0 of kind {kind} with child 0", 4, VERSION + node(kind) + START)
     table(f"table, node 0 of kind {kind} with child 0", [kind, 0, 0, 0], [], "refused 4")
-reads(
-    "node 0 a terminal",
-    (1, 0, 0, 0, 0),
-    VERSION + node(1, 255) + START,
-    (4, 0),
-    ([(1, 255, 0, 0)], []),
-)
+reads("node 0 a terminal", (1, 0, 0, 0, 0), VERSION + node(1, 255) + START, (4, 0), ([(1, 255, 0, 0)], []))
 # "no such rule": there is none at all.
 refused("rule 0 of none", 4, VERSION + node(2, 0) + START)
 table("table, rule 0 of none", (2, 0, 0, 0), [], "refused 4")
 
 # One bad node, at every place.
-for place in range(5):
-    nodes = [EMPTY] * 4
-    nodes.insert(place, node(10))
-    refused(f"bad node at {place} of 5", 4, VERSION + b"".join(nodes) + START)
+for place, nodes in faults.places([EMPTY_WORDS] * 4, (10, 0, 0, 0)):
+    refused(f"bad node at {place} of 5", 4, grammar_fields.file(nodes))
 
 # Rule 127 of 128 is there, rule 128 is not.
-RULES_128 = b"".join(rule(0, name) for name in NAMES[:128])
+RULES_128 = grammar_fields.rules((0, name) for name in NAMES[:128])
 reads("rule 127 of 128", (1, 128, 0, 0, 0), VERSION + RULES_128 + node(2, 127) + START, WIDE)
 refused("rule 128 of 128", 4, VERSION + RULES_128 + node(2, 128) + START, WIDE)
 reads("rule 1 of 2", (1, 2, 0, 0, 0), VERSION + rule(0, b"r") + rule(0, b"s") + node(2, 1) + START)
 
 # "a rule may stand for any node", also a later one or the one that names it. Well-formedness, 7, is
 # none of the file reader's: it "uses 1 to 6".
-reads(
-    "rule of a later node",
-    (2, 1, 0, 0, 0),
-    VERSION + rule(1, b"r") + node(2, 0) + EMPTY + START,
-    (8, 1),
-    ([(2, 0, 0, 0), (0, 0, 0, 0)], [1]),
-)
-reads(
-    "rule of itself",
-    (1, 1, 0, 0, 0),
-    VERSION + rule(0, b"r") + node(2, 0) + START,
-    (4, 1),
-    ([(2, 0, 0, 0)], [0]),
-)
+reads("rule of a later node", (2, 1, 0, 0, 0), VERSION + rule(1, b"r") + node(2, 0) + EMPTY + START, (8, 1),
+      ([(2, 0, 0, 0), (0, 0, 0, 0)], [1]))
+reads("rule of itself", (1, 1, 0, 0, 0), VERSION + rule(0, b"r") + node(2, 0) + START, (4, 1), ([(2, 0, 0, 0)], [0]))
 
 # "Two-byte numbers inside values are high byte first": 256 is 01 00 and 258 is 01 02. With the bytes
 # changed over they would be 1 and 513; 1 changed over is 256.
 HIGH = [(0, 0, 0, 0)] * 297 + [(3, 256, 258, 0), (4, 258, 1, 0), (6, 256, 0, 0)]
-reads(
-    "children 256 and 258 of 300",
-    (300, 2, 0, 258, 1),
-    VERSION + rule(256, b"r") + rule(258, b"s") + b"".join(node(*n) for n in HIGH) + start(258, 1),
-    (1200, 2),
-    (HIGH, [256, 258]),
-)
+reads("children 256 and 258 of 300", (300, 2, 0, 258, 1),
+      grammar_fields.file(HIGH, 258, 1, pairs=[(256, b"r"), (258, b"s")]), (1200, 2), (HIGH, [256, 258]))
 for child, last in ((256, 257), (255, 256), (299, 300), (510, 511)):
     file = VERSION + EMPTY * last + node(5, child) + START
     reads(f"child {child} of node {last}", (last + 1, 0, 0, 0, 0), file, WIDE)
@@ -702,10 +588,8 @@ for number in (256, 258, 299):
     reads(f"start node {number} of 300", (300, 0, 0, number, 2), file, WIDE)
 
 # One rule of a node that is not there, at every place.
-for place in range(4):
-    wanted = [rule(0, b"a"), rule(0, b"b"), rule(0, b"c")]
-    wanted.insert(place, rule(1, b"d"))
-    refused(f"bad rule node at {place} of 4", 5, VERSION + b"".join(wanted) + EMPTY + START)
+for place, pairs in faults.places([(0, b"a"), (0, b"b"), (0, b"c")], (1, b"d")):
+    refused(f"bad rule node at {place} of 4", 5, grammar_fields.file([EMPTY_WORDS], pairs=pairs))
 
 # "file's mode over 3".
 for mode in (0, 1, 2, 3):
@@ -753,47 +637,26 @@ short("largest, 2048 and 127 words lent", (512, 128, 253, 511, 3), LARGEST, (204
 # --- Rising order --------------------------------------------------------------------------------
 
 # "Checks run in rising number", each over the whole file.
-SMALL = (64, 16)
-RULES_129 = VERSION + b"".join(rule(0, name) for name in NAMES[:129])
+RULES_129 = VERSION + RULES_128 + rule(0, NAMES[128])
 for number, said, file, lent in (
     (1, "1 before 2, keyword `a b` and the last field cut", with_keywords(b"a b")[:-1], SMALL),
     (1, "1 before 2, keyword `a b` and no tag 5", with_keywords(b"a b")[:-6], SMALL),
     (1, "1 before 2, 254 keywords, first bad", with_keywords(b"a b", *SPELLINGS[:253]), SMALL),
     (1, "1 before 2, 254 keywords, last bad", with_keywords(*SPELLINGS[:253], b"a b"), SMALL),
     (1, "1 before 2, 254 keywords, all equal", with_keywords(*[b"a"] * 254), SMALL),
-    (
-        1,
-        "1 before 2, keyword of 33 bytes and an unknown tag",
-        VERSION + keyword(b"a" * 33) + field(6, b"") + TAIL,
-        SMALL,
-    ),
-    (
-        1,
-        "1 before 2, empty name and a tag 3 of 1 byte",
-        VERSION + rule(0, b"") + field(3, b"\0") + TAIL,
-        SMALL,
-    ),
+    (1, "1 before 2, keyword of 33 bytes and an unknown tag", VERSION + keyword(b"a" * 33) + field(6, b"") + TAIL, SMALL),
+    (1, "1 before 2, empty name and a tag 3 of 1 byte", VERSION + rule(0, b"") + field(3, b"\0") + TAIL, SMALL),
     (1, "1 before 3, no node and no tag 5", VERSION, SMALL),
     (1, "1 before 3, 513 nodes and a byte more", VERSION + EMPTY * 513 + START + b"\0", WIDE),
     (1, "1 before 3, 129 rules and a keyword", RULES_129 + keyword(b"k") + TAIL, WIDE),
-    (
-        1,
-        "1 before 4, kind 10 and a node of 7 bytes",
-        VERSION + node(10) + field(4, bytes(7)) + START,
-        SMALL,
-    ),
+    (1, "1 before 4, kind 10 and a node of 7 bytes", VERSION + node(10) + field(4, bytes(7)) + START, SMALL),
     (1, "1 before 5, mode 9 and a byte more", VERSION + EMPTY + start(0, 9) + b"\x05", SMALL),
     (1, "1 before 6, no word lent and a byte more", ONE_NODE + b"\0", (0, 0)),
     (2, "2 before 3, 129 rules, one name bad", with_names(*NAMES[:128], b"a b"), WIDE),
     (2, "2 before 3, 129 rules, two names equal", with_names(*NAMES[:128], NAMES[0]), WIDE),
     (2, "2 before 3, 384 rules, last name bad", with_names(*NAMES[:383], b"\x7f"), WIDE),
     (2, "2 before 3, equal keywords, no node", VERSION + keyword(b"k") * 2 + START, SMALL),
-    (
-        2,
-        "2 before 3, bad keyword and 513 nodes",
-        VERSION + keyword(b"a:") + EMPTY * 513 + START,
-        WIDE,
-    ),
+    (2, "2 before 3, bad keyword and 513 nodes", VERSION + keyword(b"a:") + EMPTY * 513 + START, WIDE),
     (2, "2 before 4, bad name and kind 10", VERSION + rule(0, b"a b") + node(10) + START, SMALL),
     (2, "2 before 5, bad name of a node not there", VERSION + rule(9, b"a b") + TAIL, SMALL),
     (2, "2 before 6, bad keyword and no word lent", with_keywords(b""), (0, 0)),
@@ -807,12 +670,7 @@ for number, said, file, lent in (
     (3, "3 before 6, 513 nodes and 2051 words", VERSION + EMPTY * 513 + START, (2051, 0)),
     (3, "3 before 6, 129 rules and 128 words", with_names(*NAMES[:129]), (4, 128)),
     (4, "4 before 5, kind 10 and a bad rule node", VERSION + rule(1, b"r") + node(10) + START, SMALL),
-    (
-        4,
-        "4 before 5, last node bad and a bad first rule node",
-        VERSION + rule(9, b"r") + EMPTY + node(6, 1) + START,
-        SMALL,
-    ),
+    (4, "4 before 5, last node bad and a bad first rule node", VERSION + rule(9, b"r") + EMPTY + node(6, 1) + START, SMALL),
     (4, "4 before 5, kind 10 and mode 9", VERSION + node(10) + start(0, 9), SMALL),
     (4, "4 before 6, kind 10 and no word lent", VERSION + node(10) + START, (0, 0)),
     (5, "5 before 6, bad start and no word lent", VERSION + EMPTY + start(1), (0, 0)),
@@ -824,9 +682,9 @@ for number, said, file, lent in (
 # Every choice of faults from six, one of each number: the answer is the lowest number chosen.
 
 
-def faults(said, chosen, answer, file, lent):
-    """A file with the faults chosen, one of each number: read if there are none, else refused by the lowest."""
-    label = spaced(f"{said} faults", chosen or ("none",))
+def ordered(said, chosen, answer, file, lent):
+    """A file with the faults chosen: read if there are none, else refused by the lowest."""
+    label = faults.label(said, chosen)
     if not chosen:
         reads(label, answer, file, lent)
     elif chosen == (6,):
@@ -835,25 +693,10 @@ def faults(said, chosen, answer, file, lent):
         refused(label, min(chosen), file, lent)
 
 
-# Two sets of faults. In the first those of higher numbers stand earlier in the file, as far as the
-# order of tags allows; in the second those of lower numbers do.
-for taken in itertools.product((False, True), repeat=6):
-    chosen = tuple(number for number in (1, 2, 3, 4, 5, 6) if taken[number - 1])
-    file = VERSION + keyword(b"k")
-    file += rule(7 if 5 in chosen else 0, b"first")
-    file += b"".join(rule(0, name) for name in NAMES[: 127 if 3 in chosen else 2])
-    file += rule(0, b"" if 2 in chosen else b"last")
-    file += node(200 if 4 in chosen else 0) + EMPTY
-    file += START[:-1] if 1 in chosen else START
-    faults("late", chosen, (2, 4, 1, 0, 0), file, (7 if 6 in chosen else 8, 200))
-for taken in itertools.product((False, True), repeat=6):
-    chosen = tuple(number for number in (1, 2, 3, 4, 5, 6) if taken[number - 1])
-    file = field(1, b"\x02" if 1 in chosen else b"\x01")
-    file += keyword(b"a:" if 2 in chosen else b"a") + rule(1, b"r") + EMPTY
-    file += EMPTY * (511 if 3 in chosen else 1)
-    file += node(8, 0, 0, 4 if 4 in chosen else 3)
-    file += start(0, 4 if 5 in chosen else 3)
-    faults("early", chosen, (3, 1, 1, 0, 3), file, (2100, 0 if 6 in chosen else 1))
+for chosen in faults.choices(1, 2, 3, 4, 5, 6):
+    ordered("late", chosen, (2, 4, 1, 0, 0), faults.late_file(chosen), (7 if 6 in chosen else 8, 200))
+for chosen in faults.choices(1, 2, 3, 4, 5, 6):
+    ordered("early", chosen, (3, 1, 1, 0, 3), faults.early_file(chosen), (2100, 0 if 6 in chosen else 1))
 
 
 # --- Keywords and names handed out ---------------------------------------------------------------
@@ -881,7 +724,7 @@ for number, text in ((0, "abcdefghijklmnopqrstuvwxyz012345"), (1, "b"), (2, ""))
     part("k", f"keywords of 32 and 1 bytes, keyword {number}", number, file, text)
     file = with_names(LETTERS, b"b")
     part("n", f"names of 32 and 1 bytes, name {number}", number, file, text)
-part("n", "name of the nine single bytes", 0, with_names(b":,()[]=;%"), ":,()[]=;%")
+part("n", "name of the nine single bytes", 0, with_names(NINE), NINE.decode())
 for number, text in ((0, "word0"), (1, "word1"), (252, "word252"), (253, ""), (254, "")):
     part("k", f"253 keywords, keyword {number}", number, with_keywords(*SPELLINGS[:253]), text)
 for number, text in ((0, "rule0"), (1, "rule1"), (127, "rule127"), (128, ""), (129, "")):
@@ -933,7 +776,7 @@ table("table, rule of node 65535", [0] * 4, [65535], "refused 5")
 table("table, rule of node 256 of 1", [0] * 4, [256], "refused 5")
 table("table, rule of node 511 of 512", [0] * 2048, [511], "passes")
 table("table, rule of node 512 of 512", [0] * 2048, [512], "refused 5")
-table("table, full", [word for n in FULL_NODES for word in n], [11, 3, 0], "passes")
+table("table, full", EVERY_KIND, [11, 3, 0], "passes")
 # Well-formedness, 7, is asked elsewhere.
 table("table, rule 0 is node 0 is rule 0", [2, 0, 0, 0], [0], "passes")
 
@@ -948,7 +791,5 @@ table("table, kind 10 and a bad rule node", [10, 0, 0, 0], [1], "refused 4")
 table("table, last node bad and a bad first rule node", [0] * 4 + [6, 1, 0, 0], [2, 0], "refused 4")
 
 
-(CRATE / "data").mkdir(parents=True, exist_ok=True)
-(CRATE / "data" / "cases").write_bytes(b"".join(records))
-(CRATE / "stdout").write_bytes("".join(lines).encode())
-print(f"{len(records)} calls, {sum(map(len, records))} bytes")
+if __name__ == "__main__":
+    CASES.write()

@@ -1,30 +1,22 @@
 #!/usr/bin/env python3
-"""Writes the calls that the program interpreter_cases makes, and the lines that it must print.
-
-Run it at the top of the repository. It writes crates/interpreter_cases/data/cases and
-crates/interpreter_cases/stdout, the same bytes each time.
+"""Writes the calls that the program interpreter_cases makes, and the lines that it must print (README.md).
 
 Nothing here runs a grammar. Each call has its answer written beside it, worked out by hand; a family of
 calls has one answer for all, or the rule that gives each, in its loop or function. A comment quotes the
 words of document 01 or names the clause of document 001 that decide it.
 
-How expressions are written: a to z are terminals 1 to 26, capitals are rules, `empty` is empty; p q, p / q,
-!p and p* as in 001; p^R is an indent, p_R a position and [p] an align, where R is =, >, >= or any. A token is
-a letter and a column. An interval is its two ends, and an answer the tokens read, the interval and the flag.
+Expressions are written as expressions.py says: a to z are terminals 1 to 26. A token is a letter and a column. An
+interval is its two ends, and an answer the tokens read, the interval and the flag.
 """
 
-import itertools
-import os
-import pathlib
-import re
+import faults
+from expressions import RELATIONS, Table, named_columns, written, written_rules
+from records import Cases, Payloads, begin, wide
+from table_nodes import EMPTY, align, choice, flat, indent, not_, over, position, repeat, rule, seq, terminal
 
-from stored_bytes import stored
-from table_nodes import EMPTY, align, choice, indent, not_, position, repeat, rule, seq
+CASES = Cases("interpreter_cases")
+TABLE_BYTES, TOKEN_BYTES = Payloads(), Payloads(100, (4, 16, 32))
 
-CRATE = pathlib.Path(__file__).resolve().parent.parent / "crates" / "interpreter_cases"
-
-# "Relations: 0 equal, 1 greater, 2 at least, 3 any", "The same four numbers are token modes."
-RELATIONS = {"=": 0, ">": 1, ">=": 2, "any": 3}
 MODES = ("=", ">", ">=", "any")
 
 # Words 2 and 3 of a token. "The interpreter uses only the first two words": these break the limits of both.
@@ -32,58 +24,30 @@ REST = (70000, 300)
 
 U32 = 4294967295
 
-records = []
-lines = []
-labels = set()
-table_before = b""
-tokens_before = b""
+# The answer of a run that reads nothing, from 0 without end and clear.
+SAME = "0 0 inf clear"
+
+A, B = terminal(1), terminal(2)
+KIND_10 = (10, 0, 0, 0)
 
 
 # --- Records and lines ---------------------------------------------------------------------------
 
 
-def words(width, numbers):
-    return b"".join(n.to_bytes(width, "big") for n in numbers)
-
-
-def record(label, node_words, rules, token_words, start, line):
-    """One call and the line expected of it. The layout is that of the program's first comment. A start is
-    node, place, lower end, upper end (None is without end), flag, mode."""
-    global table_before, tokens_before
-    assert label not in labels, label
-    labels.add(label)
-    node, place, lower, upper, flag, mode = start
-    table = words(2, [*node_words, *rules])
-    same = len(os.path.commonprefix([table_before, table]))
-    text = words(4, token_words)
-    numbers, rest = stored(tokens_before, text, 100, (4, 16, 32))
-    table_before = table
-    tokens_before = text
-    name = label.encode()
-    records.append(
-        bytes([len(name), flag, upper is not None])
-        + words(2, (node, mode))
-        + words(4, (place, lower, upper or 0))
-        + words(2, (len(node_words), len(rules), same))
-        + words(3, numbers)
-        + name
-        + table[same:]
-        + rest
-    )
-    lines.append(f"{label}: {line}\n")
+def record(label, nodes, rules, tokens, line, mode=2, **start):
+    """One call and the line expected of it. The layout is that of the program's first comment. Tokens are written, or
+    are words. The start is told as in `begin`; unless said it is node 0, place 0, from 0 without end, flag clear,
+    mode at least."""
+    node_words = flat(nodes)
+    same_bytes, table = TABLE_BYTES.front(wide(2, *node_words, *rules))
+    numbers, rest = TOKEN_BYTES.stretch(wide(4, *(token_words(tokens) if isinstance(tokens, str) else tokens)))
+    header = begin(mode=mode, **start) + wide(2, len(node_words), len(rules), same_bytes) + wide(3, *numbers)
+    CASES.add(label, line, b"", header, table, rest)
 
 
 def token_words(text, rest=REST):
     """The words of tokens written as `a2 b3`."""
-    out = []
-    for token in text.split():
-        out += [ord(token[0]) - 96, int(token[1:]), *rest]
-    return out
-
-
-def ends(text):
-    lower, upper = text.split()
-    return int(lower), None if upper == "inf" else int(upper)
+    return [word for name, column in named_columns(text) for word in (ord(name) - 96, column, *rest)]
 
 
 def success(answer, place):
@@ -94,105 +58,43 @@ def success(answer, place):
     return f"success {read} {lower} {upper} {flag} {place + int(read)}"
 
 
-# --- Tables --------------------------------------------------------------------------------------
-
-# "four words a node: kind, a, b, relation", "Unused words are 0".
-A = (1, 1, 0, 0)
-B = (1, 2, 0, 0)
-C = (1, 3, 0, 0)
-KIND_10 = (10, 0, 0, 0)
+def refused(label, number, nodes, rules=(), tokens=(), **start):
+    """ "The answer is the number" """
+    assert number in (3, 4, 5, 11, 12)
+    record(label, nodes, rules, tokens, f"refused {number}", **start)
 
 
-def flat(nodes):
-    return [word for node in nodes for word in node]
+def bad(label, ill, nodes, rules=(), tokens=(), **start):
+    """ "The answer is the number, with the node for 7" """
+    record(label, nodes, rules, tokens, f"refused 7 {ill}", **start)
 
 
-class Writer:
-    """Turns written expressions into nodes. "A child node has a lower number than its parent." """
+def runs(label, answer, nodes, rules=(), tokens=(), **start):
+    """A run of nodes given as such, from node 0 and place 0 in mode at least unless said."""
+    line = answer if answer == "failure" else success(answer, start.get("place", 0))
+    record(label, nodes, rules, tokens, line, **start)
 
-    WORDS = re.compile(r"\s*(empty|any|>=|[=>/!*^_()\[\]]|[a-zA-Z])")
 
-    def __init__(self, rules):
-        self.nodes = []
-        named = [r.split("=", 1) for r in rules.split(";")] if rules else []
-        self.names = [name.strip() for name, _ in named]
-        self.rules = [self.expression(text) for _, text in named]
-
-    def expression(self, text):
-        self.left = self.WORDS.findall(text)
-        assert "".join(self.left) == re.sub(r"\s", "", text), text
-        node = self.choice()
-        assert not self.left, text
-        return node
-
-    def add(self, *node):
-        self.nodes.append(node)
-        return len(self.nodes) - 1
-
-    def next(self):
-        return self.left[0] if self.left else ""
-
-    def choice(self):
-        node = self.sequence()
-        if self.next() == "/":
-            self.left.pop(0)
-            node = self.add(*choice(node, self.choice()))
-        return node
-
-    def sequence(self):
-        node = self.prefix()
-        if self.next() not in ("", "/", ")", "]"):
-            node = self.add(*seq(node, self.sequence()))
-        return node
-
-    def prefix(self):
-        if self.next() == "!":
-            self.left.pop(0)
-            return self.add(*not_(self.prefix()))
-        node = self.primary()
-        while self.next() in ("*", "^", "_"):
-            sign = self.left.pop(0)
-            if sign == "*":
-                node = self.add(*repeat(node))
-            else:
-                form = indent if sign == "^" else position
-                node = self.add(*form(node, RELATIONS[self.left.pop(0)]))
-        return node
-
-    def primary(self):
-        word = self.left.pop(0)
-        if word == "empty":
-            return self.add(*EMPTY)
-        if word in "([":
-            node = self.choice()
-            assert self.left.pop(0) == {"(": ")", "[": "]"}[word]
-            return node if word == "(" else self.add(*align(node))
-        if word.isupper():
-            return self.add(*rule(self.names.index(word)))
-        assert word.islower()
-        return self.add(1, ord(word) - 96, 0, 0)
+def same(label, nodes, rules=(), tokens=(), **start):
+    """A run of an empty node: the start's state stays, which is 0 without end and clear."""
+    runs(label, SAME, nodes, rules, tokens, **start)
 
 
 def given(expression, mode, tokens, answer, rules="", start="0 inf", flag="clear", place=0, name=""):
-    """A run of an expression. Tokens are written, or a list of pairs of a terminal and a column."""
-    table = Writer(rules)
-    node = table.expression(expression)
-    lower, upper = ends(start)
+    """A run of an expression. Without a name, or behind the name of a case, the label tells all."""
+    table = Table(written_rules(rules), written(expression))
+    lower, upper = start.split()
     label = name
     if not name or name.startswith("case"):
         label += (", " if name else "") + expression
         label += f" where {rules}" if rules else ""
         label += f", mode {mode}, {tokens or 'no token'}"
-        label += f", from {lower} to {start.split()[1]}" if start != "0 inf" else ""
+        label += f", from {lower} to {upper}" if start != "0 inf" else ""
         label += ", flag set" if flag == "set" else ""
         label += f", place {place}" if place else ""
-    if isinstance(tokens, str):
-        tokens = token_words(tokens)
-    else:
-        tokens = [word for token in tokens for word in (*token, *REST)]
-    begin = (node, place, lower, upper, flag == "set", RELATIONS[mode])
     line = answer if answer == "failure" else success(answer, place)
-    record(label, flat(table.nodes), table.rules, tokens, begin, line)
+    record(label, table.nodes, table.rules, tokens, line, RELATIONS[mode], node=table.start, place=place,
+           lower=int(lower), upper=None if upper == "inf" else int(upper), flag=flag == "set")
 
 
 def row(expression, mode, start, answers, flag="clear", first=0):
@@ -200,6 +102,11 @@ def row(expression, mode, start, answers, flag="clear", first=0):
     for column, cell in enumerate(answers.split(), first):
         answer = "failure" if cell == "-" else f"1 {cell.replace('-', ' ')} clear"
         given(expression, mode, f"a{column}", answer, start=start, flag=flag)
+
+
+def by_mode(*rows):
+    """Rows of answers, one for each mode."""
+    return dict(zip(MODES, rows))
 
 
 # --- Bench cases ---------------------------------------------------------------------------------
@@ -236,37 +143,10 @@ given("a^> b^>", "=", "a1 b2", "2 0 0 clear", name="case of 001")
 
 # --- Number 3 ------------------------------------------------------------------------------------
 
-
-def refused(label, number, node_words, rules=(), tokens=(), start=(0, 0, 0, None, False, 2)):
-    """ "The answer is the number" """
-    assert number in (3, 4, 5, 11, 12)
-    record(label, node_words, rules, tokens, start, f"refused {number}")
-
-
-def bad(label, node, nodes, rules=(), tokens=(), start=(0, 0, 0, None, False, 2)):
-    """ "The answer is the number, with the node for 7" """
-    record(label, flat(nodes), rules, tokens, start, f"refused 7 {node}")
-
-
-def runs(label, answer, nodes, rules=(), tokens=(), start=(0, 0, 0, None, False, 2)):
-    """A run of nodes given as such, from place 0 in mode at least unless said."""
-    line = answer if answer == "failure" else success(answer, start[1])
-    record(label, flat(nodes), rules, tokens, start, line)
-
-
 # "node words no multiple of 4, node or rule count ..", "1 to 512 nodes, 0 to 128 rules".
 refused("small 3, no node", 3, [])
-runs("one node", "0 0 inf clear", [EMPTY])
-for count in (1, 2, 3, 5, 6, 7, 2045, 2046, 2047, 2049, 2050, 2051):
-    refused(f"{count} node words", 3, [0] * count)
-for count in (2, 511, 512):
-    runs(f"{count} nodes", "0 0 inf clear", [EMPTY] * count)
-for count in (513, 514, 525):
-    refused(f"{count} nodes", 3, flat([EMPTY] * count))
-for count in (1, 127, 128):
-    runs(f"{count} rules", "0 0 inf clear", [EMPTY], [0] * count)
-for count in (129, 130, 200):
-    refused(f"{count} rules", 3, flat([EMPTY]), [0] * count)
+same("one node", [EMPTY])
+faults.counts(refused, same, nodes=(2, 511, 512), rules=(1, 127, 128))
 refused("no node and a rule", 3, [], [0])
 
 
@@ -274,71 +154,39 @@ refused("no node and a rule", 3, [], [0])
 
 # "kind over 9, child not lower .. unused word not 0". The node stands behind a and b, with two rules; the run
 # starts at a, so that the node is not walked.
-refused("small 4, node 0 a repeat of 0", 4, flat([repeat(0)]))
+refused("small 4, node 0 a repeat of 0", 4, [repeat(0)])
 for node in (
-    # "kind over 9"
-    (10, 0, 0, 0),
-    (65535, 0, 0, 0),
-    # "terminal over 255"
-    (1, 256, 0, 0),
-    (1, 257, 0, 0),
-    # "no such rule": rules 0 and 1 are there
-    (2, 2, 0, 0),
-    (2, 65535, 0, 0),
+    # "kind over 9"; "terminal over 255"; "no such rule": rules 0 and 1 are there
+    (10, 0, 0, 0), (65535, 0, 0, 0), (1, 256, 0, 0), (1, 257, 0, 0), (2, 2, 0, 0), (2, 65535, 0, 0),
     # "child not lower": the node itself is 2
-    (3, 2, 0, 0),
-    (3, 0, 2, 0),
-    (4, 2, 0, 0),
-    (4, 0, 3, 0),
-    (5, 2, 0, 0),
-    (6, 2, 0, 0),
-    (7, 2, 0, 1),
-    (8, 3, 0, 1),
+    (3, 2, 0, 0), (3, 0, 2, 0), (4, 2, 0, 0), (4, 0, 3, 0), (5, 2, 0, 0), (6, 2, 0, 0), (7, 2, 0, 1), (8, 3, 0, 1),
     (9, 2, 0, 0),
     # "relation over 3"
-    (7, 0, 0, 4),
-    (7, 0, 0, 65535),
-    (8, 0, 0, 4),
-    (8, 0, 0, 256),
+    (7, 0, 0, 4), (7, 0, 0, 65535), (8, 0, 0, 4), (8, 0, 0, 256),
     # "unused word not 0"
-    (0, 1, 0, 0),
-    (0, 0, 1, 0),
-    (0, 0, 0, 1),
-    (1, 1, 1, 0),
-    (1, 1, 0, 1),
-    (2, 0, 1, 0),
-    (2, 0, 0, 1),
-    (3, 0, 1, 1),
-    (4, 0, 1, 1),
-    (5, 0, 1, 0),
-    (5, 0, 0, 1),
-    (6, 0, 1, 0),
-    (6, 0, 0, 1),
-    (7, 0, 1, 1),
-    (8, 0, 1, 1),
-    (9, 0, 1, 0),
+    (0, 1, 0, 0), (0, 0, 1, 0), (0, 0, 0, 1), (1, 1, 1, 0), (1, 1, 0, 1), (2, 0, 1, 0), (2, 0, 0, 1), (3, 0, 1, 1),
+    (4, 0, 1, 1), (5, 0, 1, 0), (5, 0, 0, 1), (6, 0, 1, 0), (6, 0, 0, 1), (7, 0, 1, 1), (8, 0, 1, 1), (9, 0, 1, 0),
     (9, 0, 0, 1),
 ):
-    refused(f"node 2 is {node}", 4, flat([A, B, node]), [0, 1], token_words("a2"))
+    refused(f"node 2 is {node}", 4, [A, B, node], [0, 1], "a2")
 # The same with nothing wrong: a at 2 in mode at least leaves 0 to 2.
-for node in (EMPTY, A, (1, 255, 0, 0), rule(1), seq(1, 0), choice(0, 1), not_(1), repeat(1)):
-    runs(f"node 2 is {node}", "1 0 2 clear", [A, B, node], [0, 1], token_words("a2"))
-for node in (indent(1, 3), position(1, 3), align(1)):
-    runs(f"node 2 is {node}", "1 0 2 clear", [A, B, node], [0, 1], token_words("a2"))
-refused("node 511 a kind 10", 4, flat([EMPTY] * 511 + [KIND_10]))
-refused("rule 0 of none", 4, flat([rule(0)]))
+for node in (EMPTY, A, (1, 255, 0, 0), rule(1), seq(1, 0), choice(0, 1), not_(1), repeat(1), indent(1, 3),
+             position(1, 3), align(1)):
+    runs(f"node 2 is {node}", "1 0 2 clear", [A, B, node], [0, 1], "a2")
+refused("node 511 a kind 10", 4, [EMPTY] * 511 + [KIND_10])
+refused("rule 0 of none", 4, [rule(0)])
 
 
 # --- Number 5 ------------------------------------------------------------------------------------
 
 # "a rule's node .. not in the table".
-refused("small 5, rule 0 = node 1 of 1", 5, flat([EMPTY]), [1])
-runs("rule 0 = node 0 of 1", "0 0 inf clear", [EMPTY], [0])
+refused("small 5, rule 0 = node 1 of 1", 5, [EMPTY], [1])
+same("rule 0 = node 0 of 1", [EMPTY], [0])
 for number in (2, 255, 256, 512, 65535):
-    refused(f"rule 0 = node {number} of 1", 5, flat([EMPTY]), [number])
-refused("rule 127 = node 1 of 1", 5, flat([EMPTY]), [0] * 127 + [1])
-runs("rule 0 = node 511 of 512", "0 0 inf clear", [EMPTY] * 512, [511])
-refused("rule 0 = node 512 of 512", 5, flat([EMPTY] * 512), [512])
+    refused(f"rule 0 = node {number} of 1", 5, [EMPTY], [number])
+refused("rule 127 = node 1 of 1", 5, [EMPTY], [0] * 127 + [1])
+same("rule 0 = node 511 of 512", [EMPTY] * 512, [511])
+refused("rule 0 = node 512 of 512", 5, [EMPTY] * 512, [512])
 
 
 # --- Number 7 ------------------------------------------------------------------------------------
@@ -348,169 +196,107 @@ bad("small 7, rule 0 = node 0 = rule 0", 0, [rule(0)], [0])
 # "j. Check: repeat of empty .. repeat of not-empty .. bad at node 3." Not of empty always fails, so its repeat
 # succeeds in the old state.
 bad("case j, repeat of empty", 1, [EMPTY, repeat(0)])
-bad("case j, repeat of empty, started at it", 1, [EMPTY, repeat(0)], start=(1, 0, 0, None, False, 2))
+bad("case j, repeat of empty, started at it", 1, [EMPTY, repeat(0)], node=1)
 given("(!empty)*", ">", "a5", "0 0 inf clear", name="case j")
 bad("case j, X = (a / empty) X", 3, [A, EMPTY, choice(0, 1), rule(0), seq(2, 3)], [4])
 # "a repeat whose child is and may not succeed reading nothing"
 bad("two repeats of empty", 1, [EMPTY, repeat(0), repeat(0)])
-bad("repeat of not a", 2, [A, not_(0), repeat(1)], (), token_words("a2"))
-bad("repeat of repeat of a", 2, [A, repeat(0), repeat(1)], (), token_words("a2"))
+bad("repeat of not a", 2, [A, not_(0), repeat(1)], tokens="a2")
+bad("repeat of repeat of a", 2, [A, repeat(0), repeat(1)], tokens="a2")
 bad("repeat of align of empty", 2, [EMPTY, align(0), repeat(1)])
 # "a sequence whose a is, and b too ..": X = X a needs X before it.
 bad("X = X a", 0, [rule(0), A, seq(0, 1)], [2])
 bad("a, then X = X a", 1, [A, rule(0), seq(1, 0)], [2])
-bad("repeat of empty as node 511", 511, [EMPTY] * 511 + [repeat(0)], start=(5, 0, 0, None, False, 2))
+bad("repeat of empty as node 511", 511, [EMPTY] * 511 + [repeat(0)], node=5)
 bad("every node of 511 a repeat of empty", 1, [EMPTY] + [repeat(0)] * 511)
 
 
 # --- Number 11 -----------------------------------------------------------------------------------
 
+
+def changed(tokens, at, word):
+    return tokens[:at] + [word] + tokens[at + 1 :]
+
+
 # "token words no multiple of 4 .. column over 65,535". The run is empty from place 0, so that no token is
 # looked at by it.
-START = (0, 0, 0, None, False, 2)
-SAME = "0 0 inf clear"
-refused("small 11, 3 token words", 11, flat([EMPTY]), (), [0] * 3)
-runs("no token words", SAME, [EMPTY])
+refused("small 11, 3 token words", 11, [EMPTY], tokens=[0] * 3)
+same("no token words", [EMPTY])
 for count in (1, 2, 5, 6, 7, 9, 16383, 16385, 16386, 16387, 16389):
-    refused(f"{count} token words", 11, flat([EMPTY]), (), [0] * count)
+    refused(f"{count} token words", 11, [EMPTY], tokens=[0] * count)
 for count in (4, 8, 16380, 16384):
-    runs(f"{count} token words", SAME, [EMPTY], (), [0] * count)
+    same(f"{count} token words", [EMPTY], tokens=[0] * count)
 for count in (4097, 4098, 4125):
-    refused(f"{count} tokens", 11, flat([EMPTY]), (), [0] * 4 * count)
-for terminal in (0, 1, 254, 255):
-    runs(f"a token of terminal {terminal}", SAME, [EMPTY], (), [terminal, 0, 0, 0])
-for terminal in (256, 257, 511, 65535, 65536, 65537, 16777216, 2147483648, U32):
-    refused(f"a token of terminal {terminal}", 11, flat([EMPTY]), (), [terminal, 0, 0, 0])
+    refused(f"{count} tokens", 11, [EMPTY], tokens=[0] * 4 * count)
+for number in (0, 1, 254, 255):
+    same(f"a token of terminal {number}", [EMPTY], tokens=[number, 0, 0, 0])
+for number in (256, 257, 511, 65535, 65536, 65537, 16777216, 2147483648, U32):
+    refused(f"a token of terminal {number}", 11, [EMPTY], tokens=[number, 0, 0, 0])
 for column in (0, 1, 255, 256, 65534, 65535):
-    runs(f"a token at column {column}", SAME, [EMPTY], (), [1, column, 0, 0])
+    same(f"a token at column {column}", [EMPTY], tokens=[1, column, 0, 0])
 for column in (65536, 65537, 131071, 131072, 16777216, 2147483648, U32 - 1, U32):
-    refused(f"a token at column {column}", 11, flat([EMPTY]), (), [1, column, 0, 0])
+    refused(f"a token at column {column}", 11, [EMPTY], tokens=[1, column, 0, 0])
 # Every token counts, before the start's place and behind what is read.
+THREE = token_words("a1 a1 a1")
 for at in (0, 1, 2):
-    tokens = token_words("a1 a1 a1")
-    tokens[at * 4] = 256
-    refused(
-        f"token {at} of 3 of terminal 256, from place 1", 11, flat([A]), (), tokens, (0, 1, 0, None, False, 2)
-    )
-    tokens = token_words("a1 a1 a1")
-    tokens[at * 4 + 1] = 65536
-    refused(
-        f"token {at} of 3 at column 65536, from place 1", 11, flat([A]), (), tokens, (0, 1, 0, None, False, 2)
-    )
-runs("3 tokens, from place 1", "1 0 1 clear", [A], (), token_words("a1 a1 a1"), (0, 1, 0, None, False, 2))
+    refused(f"token {at} of 3 of terminal 256, from place 1", 11, [A], tokens=changed(THREE, at * 4, 256), place=1)
+    refused(f"token {at} of 3 at column 65536, from place 1", 11, [A], tokens=changed(THREE, at * 4 + 1, 65536), place=1)
+runs("3 tokens, from place 1", "1 0 1 clear", [A], tokens=THREE, place=1)
 LONG = token_words("a7") * 4096
-runs("4096 tokens, a", "1 0 7 clear", [A], (), LONG)
-for number in (0, 4095):
-    tokens = list(LONG)
-    tokens[number * 4] = 256
-    refused(f"4096 tokens, token {number} of terminal 256", 11, flat([A]), (), tokens)
-    tokens = list(LONG)
-    tokens[number * 4 + 1] = 65536
-    refused(f"4096 tokens, token {number} at column 65536", 11, flat([A]), (), tokens)
-refused("4097 tokens, a", 11, flat([A]), (), LONG + token_words("a7"))
+runs("4096 tokens, a", "1 0 7 clear", [A], tokens=LONG)
+for at in (0, 4095):
+    refused(f"4096 tokens, token {at} of terminal 256", 11, [A], tokens=changed(LONG, at * 4, 256))
+    refused(f"4096 tokens, token {at} at column 65536", 11, [A], tokens=changed(LONG, at * 4 + 1, 65536))
+refused("4097 tokens, a", 11, [A], tokens=LONG + token_words("a7"))
 # "The interpreter uses only the first two words": a b in mode at least, a2 b3, leaves 0 to 2 whatever words 2
 # and 3 are.
 for rest in ((0, 0), (0, 1), (1, 0), (3, 2), (256, 256), (65536, 65536), (U32, 0), (0, U32), (U32, U32)):
-    runs(
-        f"words 2 and 3 are {rest}",
-        "2 0 2 clear",
-        [A, B, seq(0, 1)],
-        (),
-        token_words("a2 b3", rest),
-        (2, 0, 0, None, False, 2),
-    )
+    runs(f"words 2 and 3 are {rest}", "2 0 2 clear", [A, B, seq(0, 1)], tokens=token_words("a2 b3", rest), node=2)
 
 
 # --- Number 12 -----------------------------------------------------------------------------------
 
 # "start node or place past its end .. mode over 3".
-A2 = token_words("a2")
-EMPTY_1 = flat([EMPTY])
-refused("small 12, interval 5 to 4", 12, EMPTY_1, (), (), (0, 0, 5, 4, False, 2))
+refused("small 12, interval 5 to 4", 12, [EMPTY], lower=5, upper=4)
 # "start node .. past its end"
 for count in (1, 2, 3, 512):
-    runs(
-        f"start node {count - 1} of {count}", SAME, [EMPTY] * count, (), A2, (count - 1, 0, 0, None, False, 2)
-    )
-    refused(f"start node {count} of {count}", 12, EMPTY_1 * count, (), A2, (count, 0, 0, None, False, 2))
+    same(f"start node {count - 1} of {count}", [EMPTY] * count, tokens="a2", node=count - 1)
+    refused(f"start node {count} of {count}", 12, [EMPTY] * count, tokens="a2", node=count)
 for node in (2, 255, 256, 16384, 32768, 65535):
-    refused(f"start node {node} of 1", 12, EMPTY_1, (), A2, (node, 0, 0, None, False, 2))
-refused("start node 1 of 1 with 2 rules", 12, EMPTY_1, [0, 0], A2, (1, 0, 0, None, False, 2))
+    refused(f"start node {node} of 1", 12, [EMPTY], tokens="a2", node=node)
+refused("start node 1 of 1 with 2 rules", 12, [EMPTY], [0, 0], "a2", node=1)
 # "place past its end (place = count is allowed)"
 for count in (0, 1, 2, 3, 4096):
-    tokens = A2 * count
-    runs(f"place {count} of {count} tokens", SAME, [EMPTY], (), tokens, (0, count, 0, None, False, 2))
-    runs(f"a at place {count} of {count} tokens", "failure", [A], (), tokens, (0, count, 0, None, False, 2))
+    same(f"place {count} of {count} tokens", [EMPTY], tokens="a2 " * count, place=count)
+    runs(f"a at place {count} of {count} tokens", "failure", [A], tokens="a2 " * count, place=count)
     for place in (count + 1, count + 2, count * 4 + 4, 65536, 1073741824, U32 - 3, U32):
-        refused(f"place {place} of {count} tokens", 12, EMPTY_1, (), tokens, (0, place, 0, None, False, 2))
+        refused(f"place {place} of {count} tokens", 12, [EMPTY], tokens="a2 " * count, place=place)
 for place in (4, 8):
-    refused(
-        f"place {place} of 2 tokens, a word's number", 12, EMPTY_1, (), A2 * 2, (0, place, 0, None, False, 2)
-    )
+    refused(f"place {place} of 2 tokens, a word's number", 12, [EMPTY], tokens="a2 " * 2, place=place)
 # "lower end over the upper .. finite upper end over 65,535". The last two also where the lower end is not over
 # the upper.
 for lower, upper in (
-    (0, 0),
-    (0, 1),
-    (1, 1),
-    (4, 5),
-    (5, 5),
-    (0, 65534),
-    (0, 65535),
-    (65534, 65535),
-    (65535, 65535),
-    (0, None),
-    (5, None),
-    (65534, None),
-    (65535, None),
+    (0, 0), (0, 1), (1, 1), (4, 5), (5, 5), (0, 65534), (0, 65535), (65534, 65535), (65535, 65535),
+    (0, None), (5, None), (65534, None), (65535, None),
 ):
-    said = "inf" if upper is None else upper
-    for flag in (False, True):
-        runs(
-            f"interval {lower} to {said}, flag {'set' if flag else 'clear'}",
-            f"0 {lower} {said} {'set' if flag else 'clear'}",
-            [EMPTY],
-            (),
-            (),
-            (0, 0, lower, upper, flag, 2),
-        )
+    ends = f"{lower} {'inf' if upper is None else upper}"
+    for flag, said in ((False, "clear"), (True, "set")):
+        runs(f"interval {ends.replace(' ', ' to ')}, flag {said}", f"0 {ends} {said}", [EMPTY],
+             lower=lower, upper=upper, flag=flag)
 for lower, upper in (
-    (1, 0),
-    (2, 0),
-    (65535, 0),
-    (65535, 65534),
-    (6, 5),
-    (65536, 0),
-    (65536, 65535),
-    (65536, 65536),
-    (65536, None),
-    (65537, None),
-    (65540, 65541),
-    (65536 + 5, 7),
-    (131072, None),
-    (2147483648, None),
-    (U32, 0),
-    (U32, None),
-    (U32, U32),
-    (U32 - 1, U32),
-    (0, 65536),
-    (0, 65537),
-    (3, 65536 + 9),
-    (65535, 65536),
-    (0, 131071),
-    (0, 2147483648),
-    (0, U32),
-    (5, U32),
+    (1, 0), (2, 0), (65535, 0), (65535, 65534), (6, 5), (65536, 0), (65536, 65535), (65536, 65536), (65536, None),
+    (65537, None), (65540, 65541), (65536 + 5, 7), (131072, None), (2147483648, None), (U32, 0), (U32, None),
+    (U32, U32), (U32 - 1, U32), (0, 65536), (0, 65537), (3, 65536 + 9), (65535, 65536), (0, 131071),
+    (0, 2147483648), (0, U32), (5, U32),
 ):
-    said = "inf" if upper is None else upper
-    refused(f"interval {lower} to {said}", 12, EMPTY_1, (), (), (0, 0, lower, upper, False, 2))
-refused("interval 5 to 4, flag set", 12, EMPTY_1, (), A2, (0, 0, 5, 4, True, 3))
+    refused(f"interval {lower} to {'inf' if upper is None else upper}", 12, [EMPTY], lower=lower, upper=upper)
+refused("interval 5 to 4, flag set", 12, [EMPTY], tokens="a2", lower=5, upper=4, flag=True, mode=3)
 # "mode over 3"
 for mode in (0, 1, 2, 3):
-    runs(f"mode {mode}", SAME, [EMPTY], (), (), (0, 0, 0, None, False, mode))
+    same(f"mode {mode}", [EMPTY], mode=mode)
 for mode in (4, 5, 7, 255, 256, 257, 258, 259, 32768, 65535):
-    refused(f"mode {mode}", 12, EMPTY_1, (), (), (0, 0, 0, None, False, mode))
-    refused(f"mode {mode}, flag set, a2", 12, flat([A]), (), A2, (0, 0, 0, None, True, mode))
+    refused(f"mode {mode}", 12, [EMPTY], mode=mode)
+    refused(f"mode {mode}, flag set, a2", 12, [A], tokens="a2", flag=True, mode=mode)
 
 
 # --- Rising order --------------------------------------------------------------------------------
@@ -520,199 +306,110 @@ for mode in (4, 5, 7, 255, 256, 257, 258, 259, 32768, 65535):
 # the second early. With none, a at 5 in mode at least leaves 0 to 5, and so does a*.
 
 
-def ordered(label, chosen, ill, nodes, rules, tokens, start):
+def ordered(said, chosen, ill, table, tokens, **start):
     """A call with the faults chosen: success if there are none, else refused by the lowest; for 7 the node is
     `ill`."""
-    said = " ".join(map(str, chosen)) or "none"
+    label = faults.label(said, chosen)
     if not chosen:
-        line = success("1 0 5 clear", 0)
+        runs(label, "1 0 5 clear", *table, tokens, **start)
     elif chosen[0] == 7:
-        line = f"refused 7 {ill}"
+        bad(label, ill, *table, tokens, **start)
     else:
-        line = f"refused {chosen[0]}"
-    record(f"{label} {said}", nodes, rules, tokens, start, line)
+        refused(label, chosen[0], *table, tokens, **start)
 
 
-for taken in itertools.product((False, True), repeat=6):
-    chosen = [number for number, there in zip((3, 4, 5, 7, 11, 12), taken) if there]
-    node_words = flat([rule(0) if 7 in chosen else A, KIND_10 if 4 in chosen else B])
-    node_words += [0] if 3 in chosen else []
-    rules = [0, 2 if 5 in chosen else 1]
+for chosen in faults.choices(3, 4, 5, 7, 11, 12):
     tokens = token_words("a5") + ([1, 1, 1] if 11 in chosen else [])
-    start = (0, 0, 0, None, False, 4 if 12 in chosen else 2)
-    ordered("late faults", chosen, 0, node_words, rules, tokens, start)
-for taken in itertools.product((False, True), repeat=6):
-    chosen = [number for number, there in zip((3, 4, 5, 7, 11, 12), taken) if there]
-    node_words = flat([(1, 256 if 4 in chosen else 1, 0, 0), EMPTY, repeat(1 if 7 in chosen else 0)])
-    rules = [3 if 5 in chosen else 2] + [0] * (128 if 3 in chosen else 1)
+    ordered("late", chosen, 0, faults.late_table(chosen), tokens, mode=4 if 12 in chosen else 2)
+for chosen in faults.choices(3, 4, 5, 7, 11, 12):
     tokens = [1, 5, 0, 0, 256 if 11 in chosen else 2, 0, 0, 0]
-    start = (3 if 12 in chosen else 2, 0, 0, None, False, 2)
-    ordered("early faults", chosen, 2, node_words, rules, tokens, start)
+    ordered("early", chosen, 2, faults.early_table(chosen, 1), tokens, node=3 if 12 in chosen else 2)
 
-BAD_START = (1, 2, 5, 4, True, 4)
-for number, said, node_words, rules, tokens, start in (
-    (3, "3 before 12, no node and start node 0", [], [], [], START),
-    (3, "3 before 12, 3 words and start node 9", [0] * 3, [], [], (9, 0, 0, None, False, 2)),
-    (3, "3 before 11, 513 nodes and 3 token words", [0] * 2052, [], [0] * 3, START),
-    (3, "3 before 12, 129 rules and interval 5 to 4", EMPTY_1, [0] * 129, [], (0, 0, 5, 4, False, 2)),
-    (4, "4 before 11, kind 10 and column 65536", flat([KIND_10]), [], [1, 65536, 0, 0], START),
-    (
-        4,
-        "4 before 12, terminal 256 and place 1 of none",
-        flat([(1, 256, 0, 0)]),
-        [],
-        [],
-        (0, 1, 0, None, False, 2),
-    ),
-    (5, "5 before 11, a bad rule node and 4097 tokens", EMPTY_1, [1], [0] * 16388, START),
-    (5, "5 before 12, a bad rule node and it as start node", EMPTY_1, [1], [], (1, 0, 0, None, False, 2)),
-    (11, "11 before 12, 3 words and interval 5 to 4", EMPTY_1, [], [0] * 3, (0, 0, 5, 4, False, 2)),
-    (11, "11 before 12, 4097 tokens and place 4098", EMPTY_1, [], [0] * 16388, (0, 4098, 0, None, False, 2)),
-    (11, "11 before 12, 4097 tokens and place 4097", EMPTY_1, [], [0] * 16388, (0, 4097, 0, None, False, 2)),
-    (11, "11 before 12, column 65536 and mode 4", EMPTY_1, [], [0, 65536, 0, 0], (0, 0, 0, None, False, 4)),
-    (
-        11,
-        "11 before 12, terminal 256 and start node 1 of 1",
-        EMPTY_1,
-        [],
-        [256, 0, 0, 0],
-        (1, 0, 0, None, False, 2),
-    ),
-    (11, "11 before 12, column 65536 and all of 12", EMPTY_1, [], [0, 65536, 0, 0], BAD_START),
-    (12, "all of 12", EMPTY_1, [], [0, 65535, 0, 0], BAD_START),
+BAD_START = {"node": 1, "place": 2, "lower": 5, "upper": 4, "flag": True, "mode": 4}
+for number, said, nodes, rules, tokens, start in (
+    (3, "3 before 12, no node and start node 0", [], [], [], {}),
+    (3, "3 before 12, 3 words and start node 9", [0] * 3, [], [], {"node": 9}),
+    (3, "3 before 11, 513 nodes and 3 token words", [EMPTY] * 513, [], [0] * 3, {}),
+    (3, "3 before 12, 129 rules and interval 5 to 4", [EMPTY], [0] * 129, [], {"lower": 5, "upper": 4}),
+    (4, "4 before 11, kind 10 and column 65536", [KIND_10], [], [1, 65536, 0, 0], {}),
+    (4, "4 before 12, terminal 256 and place 1 of none", [(1, 256, 0, 0)], [], [], {"place": 1}),
+    (5, "5 before 11, a bad rule node and 4097 tokens", [EMPTY], [1], [0] * 16388, {}),
+    (5, "5 before 12, a bad rule node and it as start node", [EMPTY], [1], [], {"node": 1}),
+    (11, "11 before 12, 3 words and interval 5 to 4", [EMPTY], [], [0] * 3, {"lower": 5, "upper": 4}),
+    (11, "11 before 12, 4097 tokens and place 4098", [EMPTY], [], [0] * 16388, {"place": 4098}),
+    (11, "11 before 12, 4097 tokens and place 4097", [EMPTY], [], [0] * 16388, {"place": 4097}),
+    (11, "11 before 12, column 65536 and mode 4", [EMPTY], [], [0, 65536, 0, 0], {"mode": 4}),
+    (11, "11 before 12, terminal 256 and start node 1 of 1", [EMPTY], [], [256, 0, 0, 0], {"node": 1}),
+    (11, "11 before 12, column 65536 and all of 12", [EMPTY], [], [0, 65536, 0, 0], BAD_START),
+    (12, "all of 12", [EMPTY], [], [0, 65535, 0, 0], BAD_START),
 ):
-    refused(said, number, node_words, rules, tokens, start)
+    refused(said, number, nodes, rules, tokens, **start)
 bad("7 before 11, X = X and 3 token words", 0, [rule(0)], [0], [0] * 3)
-bad("7 before 11, repeat of empty and 4097 tokens", 1, [EMPTY, repeat(0)], (), [0] * 16388)
-bad("7 before 12, X = X and interval 5 to 4", 0, [rule(0)], [0], [], (0, 0, 5, 4, False, 2))
-bad(
-    "7 before 12, repeat of empty and start node 2 of 2",
-    1,
-    [EMPTY, repeat(0)],
-    (),
-    (),
-    (2, 0, 0, None, False, 2),
-)
-bad("7 before 11 and 12", 1, [EMPTY, repeat(0)], (), [256, 65536, 0], BAD_START)
+bad("7 before 11, repeat of empty and 4097 tokens", 1, [EMPTY, repeat(0)], tokens=[0] * 16388)
+bad("7 before 12, X = X and interval 5 to 4", 0, [rule(0)], [0], lower=5, upper=4)
+bad("7 before 12, repeat of empty and start node 2 of 2", 1, [EMPTY, repeat(0)], node=2)
+bad("7 before 11 and 12", 1, [EMPTY, repeat(0)], tokens=[256, 65536, 0], **BAD_START)
 
 
 # --- Terminal (001, clause 2) --------------------------------------------------------------------
 
 # "A terminal at column i: with the flag set .. else i must lie in the mode's inner set .. The flag is then
 # clear." By mode, the inner set of l to h: l to h; l+1 on; l on; 0 on. The outer set of i to i: i to i; 0 to
-# i-1; 0 to i; 0 on. Answers for a at columns 0 to 9, then with the flag set, where the mode says nothing.
-FROM_3_TO_6 = {
-    "=": "- - - 3-3 4-4 5-5 6-6 - - -",
-    ">": "- - - - 3-3 3-4 3-5 3-6 3-6 3-6",
-    ">=": "- - - 3-3 3-4 3-5 3-6 3-6 3-6 3-6",
-    "any": "3-6 3-6 3-6 3-6 3-6 3-6 3-6 3-6 3-6 3-6",
-    "set": "- - - 3-3 4-4 5-5 6-6 - - -",
+# i-1; 0 to i; 0 on. Answers for a at columns 0 to 9 or 3, a row for each mode. With the flag set the mode says
+# nothing, and the answers are those of mode equal.
+TERMINAL = {
+    "3 6": by_mode(
+        "- - - 3-3 4-4 5-5 6-6 - - -",
+        "- - - - 3-3 3-4 3-5 3-6 3-6 3-6",
+        "- - - 3-3 3-4 3-5 3-6 3-6 3-6 3-6",
+        "3-6 " * 10,
+    ),
+    "3 inf": by_mode(
+        "- - - 3-3 4-4 5-5 6-6 7-7 8-8 9-9",
+        "- - - - 3-3 3-4 3-5 3-6 3-7 3-8",
+        "- - - 3-3 3-4 3-5 3-6 3-7 3-8 3-9",
+        "3-inf " * 10,
+    ),
+    "5 5": by_mode(
+        "- - - - - 5-5 - - - -",
+        "- - - - - - 5-5 5-5 5-5 5-5",
+        "- - - - - 5-5 5-5 5-5 5-5 5-5",
+        "5-5 " * 10,
+    ),
+    "0 inf": by_mode("0-0 1-1 2-2 3-3", "- 0-0 0-1 0-2", "0-0 0-1 0-2 0-3", "0-inf " * 4),
+    "0 0": by_mode("0-0 - - -", "- 0-0 0-0 0-0", "0-0 0-0 0-0 0-0", "0-0 " * 4),
 }
-FROM_3 = {
-    "=": "- - - 3-3 4-4 5-5 6-6 7-7 8-8 9-9",
-    ">": "- - - - 3-3 3-4 3-5 3-6 3-7 3-8",
-    ">=": "- - - 3-3 3-4 3-5 3-6 3-7 3-8 3-9",
-    "any": "3-inf 3-inf 3-inf 3-inf 3-inf 3-inf 3-inf 3-inf 3-inf 3-inf",
-    "set": "- - - 3-3 4-4 5-5 6-6 7-7 8-8 9-9",
-}
-FROM_5_TO_5 = {
-    "=": "- - - - - 5-5 - - - -",
-    ">": "- - - - - - 5-5 5-5 5-5 5-5",
-    ">=": "- - - - - 5-5 5-5 5-5 5-5 5-5",
-    "any": "5-5 5-5 5-5 5-5 5-5 5-5 5-5 5-5 5-5 5-5",
-    "set": "- - - - - 5-5 - - - -",
-}
-FROM_0 = {
-    "=": "0-0 1-1 2-2 3-3",
-    ">": "- 0-0 0-1 0-2",
-    ">=": "0-0 0-1 0-2 0-3",
-    "any": "0-inf 0-inf 0-inf 0-inf",
-    "set": "0-0 1-1 2-2 3-3",
-}
-FROM_0_TO_0 = {
-    "=": "0-0 - - -",
-    ">": "- 0-0 0-0 0-0",
-    ">=": "0-0 0-0 0-0 0-0",
-    "any": "0-0 0-0 0-0 0-0",
-    "set": "0-0 - - -",
-}
-for start, rows in (
-    ("3 6", FROM_3_TO_6),
-    ("3 inf", FROM_3),
-    ("5 5", FROM_5_TO_5),
-    ("0 inf", FROM_0),
-    ("0 0", FROM_0_TO_0),
-):
-    for mode in MODES:
-        row("a", mode, start, rows[mode])
-        row("a", mode, start, rows["set"], flag="set")
-
 # The same at columns 65532 to 65535. No token can lie above 65535.
-for start, rows in (
-    (
-        "65534 inf",
-        {
-            "=": "- - 65534-65534 65535-65535",
-            ">": "- - - 65534-65534",
-            ">=": "- - 65534-65534 65534-65535",
-            "any": "65534-inf 65534-inf 65534-inf 65534-inf",
-            "set": "- - 65534-65534 65535-65535",
-        },
+HIGH = {
+    "65534 inf": by_mode(
+        "- - 65534-65534 65535-65535", "- - - 65534-65534", "- - 65534-65534 65534-65535", "65534-inf " * 4
     ),
-    (
-        "65535 inf",
-        {
-            "=": "- - - 65535-65535",
-            ">": "- - - -",
-            ">=": "- - - 65535-65535",
-            "any": "65535-inf 65535-inf 65535-inf 65535-inf",
-            "set": "- - - 65535-65535",
-        },
+    "65535 inf": by_mode("- - - 65535-65535", "- - - -", "- - - 65535-65535", "65535-inf " * 4),
+    "65535 65535": by_mode("- - - 65535-65535", "- - - -", "- - - 65535-65535", "65535-65535 " * 4),
+    "0 65535": by_mode(
+        "65532-65532 65533-65533 65534-65534 65535-65535",
+        "0-65531 0-65532 0-65533 0-65534",
+        "0-65532 0-65533 0-65534 0-65535",
+        "0-65535 " * 4,
     ),
-    (
-        "65535 65535",
-        {
-            "=": "- - - 65535-65535",
-            ">": "- - - -",
-            ">=": "- - - 65535-65535",
-            "any": "65535-65535 65535-65535 65535-65535 65535-65535",
-            "set": "- - - 65535-65535",
-        },
+    "0 inf": by_mode(
+        "65532-65532 65533-65533 65534-65534 65535-65535",
+        "0-65531 0-65532 0-65533 0-65534",
+        "0-65532 0-65533 0-65534 0-65535",
+        "0-inf " * 4,
     ),
-    (
-        "0 65535",
-        {
-            "=": "65532-65532 65533-65533 65534-65534 65535-65535",
-            ">": "0-65531 0-65532 0-65533 0-65534",
-            ">=": "0-65532 0-65533 0-65534 0-65535",
-            "any": "0-65535 0-65535 0-65535 0-65535",
-            "set": "65532-65532 65533-65533 65534-65534 65535-65535",
-        },
+    "0 65533": by_mode(
+        "65532-65532 65533-65533 - -",
+        "0-65531 0-65532 0-65533 0-65533",
+        "0-65532 0-65533 0-65533 0-65533",
+        "0-65533 " * 4,
     ),
-    (
-        "0 inf",
-        {
-            "=": "65532-65532 65533-65533 65534-65534 65535-65535",
-            ">": "0-65531 0-65532 0-65533 0-65534",
-            ">=": "0-65532 0-65533 0-65534 0-65535",
-            "any": "0-inf 0-inf 0-inf 0-inf",
-            "set": "65532-65532 65533-65533 65534-65534 65535-65535",
-        },
-    ),
-    (
-        "0 65533",
-        {
-            "=": "65532-65532 65533-65533 - -",
-            ">": "0-65531 0-65532 0-65533 0-65533",
-            ">=": "0-65532 0-65533 0-65533 0-65533",
-            "any": "0-65533 0-65533 0-65533 0-65533",
-            "set": "65532-65532 65533-65533 - -",
-        },
-    ),
-):
-    for mode in MODES:
-        row("a", mode, start, rows[mode], first=65532)
-        row("a", mode, start, rows["set"], flag="set", first=65532)
+}
+for first, starts in ((0, TERMINAL), (65532, HIGH)):
+    for start, rows in starts.items():
+        for mode in MODES:
+            row("a", mode, start, rows[mode], first=first)
+            row("a", mode, start, rows["="], flag="set", first=first)
 
 # "A terminal also fails at the token count and at another terminal".
 for mode in MODES:
@@ -720,11 +417,11 @@ for mode in MODES:
         given("a", mode, "b5", "failure", flag=flag)
         given("a", mode, "b5 a5", "failure", flag=flag)
         given("a", mode, "a5", "failure", flag=flag, place=1)
-runs("terminal 0 at a token of terminal 0", "1 0 4 clear", [(1, 0, 0, 0)], (), [0, 4, 0, 0])
-runs("terminal 0 at a token of terminal 1", "failure", [(1, 0, 0, 0)], (), [1, 4, 0, 0])
-runs("terminal 255 at a token of terminal 255", "1 0 4 clear", [(1, 255, 0, 0)], (), [255, 4, 0, 0])
-runs("terminal 255 at a token of terminal 254", "failure", [(1, 255, 0, 0)], (), [254, 4, 0, 0])
-runs("terminal 4 at a token of terminal 3 at column 4", "failure", [(1, 4, 0, 0)], (), [3, 4, 4, 4])
+runs("terminal 0 at a token of terminal 0", "1 0 4 clear", [(1, 0, 0, 0)], tokens=[0, 4, 0, 0])
+runs("terminal 0 at a token of terminal 1", "failure", [(1, 0, 0, 0)], tokens=[1, 4, 0, 0])
+runs("terminal 255 at a token of terminal 255", "1 0 4 clear", [(1, 255, 0, 0)], tokens=[255, 4, 0, 0])
+runs("terminal 255 at a token of terminal 254", "failure", [(1, 255, 0, 0)], tokens=[254, 4, 0, 0])
+runs("terminal 4 at a token of terminal 3 at column 4", "failure", [(1, 4, 0, 0)], tokens=[3, 4, 4, 4])
 
 
 # --- Position (001, clause 9) --------------------------------------------------------------------
@@ -733,13 +430,13 @@ runs("terminal 4 at a token of terminal 3 at column 4", "failure", [(1, 4, 0, 0)
 # the outer one; with the flag set the inner mode says nothing either.
 for inner in MODES:
     for outer in MODES:
-        row(f"a_{inner}", outer, "3 6", FROM_3_TO_6[inner])
-        row(f"a_{inner}", outer, "3 6", FROM_3_TO_6["set"], flag="set")
-    row(f"a_{inner}", "=", "3 inf", FROM_3[inner])
+        row(f"a_{inner}", outer, "3 6", TERMINAL["3 6"][inner])
+        row(f"a_{inner}", outer, "3 6", TERMINAL["3 6"]["="], flag="set")
+    row(f"a_{inner}", "=", "3 inf", TERMINAL["3 inf"][inner])
 # The inner of two positions counts (001, Theorem 2.4, "Cancellation of outer token modes").
 for inner in MODES:
     for outer in MODES:
-        row(f"a_{inner}_{outer}", ">=", "5 5", FROM_5_TO_5[inner])
+        row(f"a_{inner}_{outer}", ">=", "5 5", TERMINAL["5 5"][inner])
 
 
 # --- Indent (001, clause 8) ----------------------------------------------------------------------
@@ -755,19 +452,19 @@ for relation, mode, answers in (
     (">", "=", "- - - - 3-3 3-4 3-5 3-6 3-6 3-6"),
     (">", ">", "- - - - - 3-3 3-4 3-5 3-6 3-6"),
     (">", ">=", "- - - - 3-3 3-4 3-5 3-6 3-6 3-6"),
-    (">", "any", "3-6 3-6 3-6 3-6 3-6 3-6 3-6 3-6 3-6 3-6"),
+    (">", "any", "3-6 " * 10),
     (">=", "=", "- - - 3-3 3-4 3-5 3-6 3-6 3-6 3-6"),
     (">=", ">", "- - - - 3-3 3-4 3-5 3-6 3-6 3-6"),
     (">=", ">=", "- - - 3-3 3-4 3-5 3-6 3-6 3-6 3-6"),
-    (">=", "any", "3-6 3-6 3-6 3-6 3-6 3-6 3-6 3-6 3-6 3-6"),
-    ("any", "=", "3-6 3-6 3-6 3-6 3-6 3-6 3-6 3-6 3-6 3-6"),
+    (">=", "any", "3-6 " * 10),
+    ("any", "=", "3-6 " * 10),
     ("any", ">", "- 3-6 3-6 3-6 3-6 3-6 3-6 3-6 3-6 3-6"),
-    ("any", ">=", "3-6 3-6 3-6 3-6 3-6 3-6 3-6 3-6 3-6 3-6"),
-    ("any", "any", "3-6 3-6 3-6 3-6 3-6 3-6 3-6 3-6 3-6 3-6"),
+    ("any", ">=", "3-6 " * 10),
+    ("any", "any", "3-6 " * 10),
 ):
     row(f"a^{relation}", mode, "3 6", answers)
 for mode in MODES:
-    row("a^=", mode, "3 6", FROM_3_TO_6[mode])
+    row("a^=", mode, "3 6", TERMINAL["3 6"][mode])
 
 # With the flag set the token must lie in the inner set and leaves i to i, in every mode: under greater 4 on
 # and outside 0 to i-1, under at least 3 on and outside 0 to i, under any 0 on and outside 0 on. Align outside
@@ -776,7 +473,7 @@ for relation, answers in (
     ("=", "- - - 3-3 4-4 5-5 6-6 - - -"),
     (">", "- - - - 3-3 3-4 3-5 3-6 3-6 3-6"),
     (">=", "- - - 3-3 3-4 3-5 3-6 3-6 3-6 3-6"),
-    ("any", "3-6 3-6 3-6 3-6 3-6 3-6 3-6 3-6 3-6 3-6"),
+    ("any", "3-6 " * 10),
 ):
     for mode in MODES:
         row(f"a^{relation}", mode, "3 6", answers, flag="set")
@@ -789,19 +486,19 @@ for relation, mode, answers in (
     (">", "=", "- - - - 3-3 3-4 3-5 3-6 3-7 3-8"),
     (">", ">", "- - - - - 3-3 3-4 3-5 3-6 3-7"),
     (">", ">=", "- - - - 3-3 3-4 3-5 3-6 3-7 3-8"),
-    (">", "any", "3-inf 3-inf 3-inf 3-inf 3-inf 3-inf 3-inf 3-inf 3-inf 3-inf"),
+    (">", "any", "3-inf " * 10),
     (">=", "=", "- - - 3-3 3-4 3-5 3-6 3-7 3-8 3-9"),
     (">=", ">", "- - - - 3-3 3-4 3-5 3-6 3-7 3-8"),
     (">=", ">=", "- - - 3-3 3-4 3-5 3-6 3-7 3-8 3-9"),
-    (">=", "any", "3-inf 3-inf 3-inf 3-inf 3-inf 3-inf 3-inf 3-inf 3-inf 3-inf"),
-    ("any", "=", "3-inf 3-inf 3-inf 3-inf 3-inf 3-inf 3-inf 3-inf 3-inf 3-inf"),
+    (">=", "any", "3-inf " * 10),
+    ("any", "=", "3-inf " * 10),
     ("any", ">", "- 3-inf 3-inf 3-inf 3-inf 3-inf 3-inf 3-inf 3-inf 3-inf"),
-    ("any", ">=", "3-inf 3-inf 3-inf 3-inf 3-inf 3-inf 3-inf 3-inf 3-inf 3-inf"),
-    ("any", "any", "3-inf 3-inf 3-inf 3-inf 3-inf 3-inf 3-inf 3-inf 3-inf 3-inf"),
+    ("any", ">=", "3-inf " * 10),
+    ("any", "any", "3-inf " * 10),
 ):
     row(f"a^{relation}", mode, "3 inf", answers)
 for mode in MODES:
-    row("a^=", mode, "3 inf", FROM_3[mode])
+    row("a^=", mode, "3 inf", TERMINAL["3 inf"][mode])
 
 # From 5 to 5: what succeeds leaves 5 to 5. From 0 to 0: what succeeds leaves 0 to 0; "greater" on the way out
 # of 1 to 1 is 0 to 0.
@@ -809,12 +506,12 @@ for relation, mode, answers in (
     (">", "=", "- - - - - - 5-5 5-5 5-5 5-5"),
     (">", ">", "- - - - - - - 5-5 5-5 5-5"),
     (">", ">=", "- - - - - - 5-5 5-5 5-5 5-5"),
-    (">", "any", "5-5 5-5 5-5 5-5 5-5 5-5 5-5 5-5 5-5 5-5"),
+    (">", "any", "5-5 " * 10),
     (">=", "=", "- - - - - 5-5 5-5 5-5 5-5 5-5"),
     (">=", ">", "- - - - - - 5-5 5-5 5-5 5-5"),
     (">=", ">=", "- - - - - 5-5 5-5 5-5 5-5 5-5"),
-    (">=", "any", "5-5 5-5 5-5 5-5 5-5 5-5 5-5 5-5 5-5 5-5"),
-    ("any", "=", "5-5 5-5 5-5 5-5 5-5 5-5 5-5 5-5 5-5 5-5"),
+    (">=", "any", "5-5 " * 10),
+    ("any", "=", "5-5 " * 10),
     ("any", ">", "- 5-5 5-5 5-5 5-5 5-5 5-5 5-5 5-5 5-5"),
 ):
     row(f"a^{relation}", mode, "5 5", answers)
@@ -864,7 +561,7 @@ row("a^>^>^>", "any", "0 inf", "0-inf 0-inf 0-inf 0-inf")
 row("a^>^>=", "=", "3 6", "- - - - 3-3 3-4 3-5 3-6 3-6")
 row("a^>=^>", "=", "3 6", "- - - - 3-3 3-4 3-5 3-6 3-6")
 # Greater then any: inside 0 on; the any leaves 4 on; outside 0 on less 1.
-row("a^any^>", "=", "3 6", "3-6 3-6 3-6 3-6 3-6 3-6 3-6 3-6 3-6")
+row("a^any^>", "=", "3 6", "3-6 " * 9)
 # Any then greater: inside 1 on; greater leaves 0 to i-1; any 0 on.
 row("a^>^any", "=", "3 6", "- 3-6 3-6 3-6 3-6 3-6 3-6 3-6 3-6")
 # At least twice is at least (001, "Composition law of indentations").
@@ -1384,81 +1081,34 @@ given("a", ">", "a0 a5", "1 5 5 clear", place=1, flag="set")
 
 # "A start gives a node": a, b, a b, a b / a, (a b / a)*, from each. In mode at least a4 b3 a2.
 SHARED = [A, B, seq(0, 1), choice(2, 0), repeat(3)]
-TOKENS = token_words("a4 b3 a2")
 for node, answer in enumerate(("1 0 4 clear", "failure", "2 0 3 clear", "2 0 3 clear", "3 0 2 clear")):
-    runs(
-        f"start node {node} of a, b, a b, a b / a, (a b / a)*",
-        answer,
-        SHARED,
-        (),
-        TOKENS,
-        (node, 0, 0, None, False, 2),
-    )
+    runs(f"start node {node} of a, b, a b, a b / a, (a b / a)*", answer, SHARED, tokens="a4 b3 a2", node=node)
 # One node as both parts.
-runs(
-    "node 1 is node 0 twice",
-    "2 0 2 clear",
-    [A, seq(0, 0)],
-    (),
-    token_words("a4 a2"),
-    (1, 0, 0, None, False, 2),
-)
-runs(
-    "node 1 is node 0 twice, once there",
-    "failure",
-    [A, seq(0, 0)],
-    (),
-    token_words("a4 b2"),
-    (1, 0, 0, None, False, 2),
-)
+runs("node 1 is node 0 twice", "2 0 2 clear", [A, seq(0, 0)], tokens="a4 a2", node=1)
+runs("node 1 is node 0 twice, once there", "failure", [A, seq(0, 0)], tokens="a4 b2", node=1)
 # "a rule may stand for any node": a higher one, and one that the start does not lie below.
-runs("rule 0 = a higher node", "1 0 4 clear", [rule(0), A], [1], token_words("a4"))
-runs("rule 1 of 2", "1 0 4 clear", [rule(1), B, A], [1, 2], token_words("a4"))
+runs("rule 0 = a higher node", "1 0 4 clear", [rule(0), A], [1], "a4")
+runs("rule 1 of 2", "1 0 4 clear", [rule(1), B, A], [1, 2], "a4")
 # a X / empty with the nodes in another order: 0 empty, 1 rule X, 2 a, 3 a X, 4 a X / empty, 5 b.
-runs(
-    "X with its nodes in another order",
-    "2 0 3 clear",
-    [EMPTY, rule(0), A, seq(2, 1), choice(3, 0), B],
-    [4],
-    token_words("a4 a3 b2"),
-    (1, 0, 0, None, False, 2),
-)
+runs("X with its nodes in another order", "2 0 3 clear", [EMPTY, rule(0), A, seq(2, 1), choice(3, 0), B], [4],
+     "a4 a3 b2", node=1)
 # The largest table: node 511 through 510 forms down to a at node 0. An align over 510 aligns is one align;
-# 510 indents by equal change nothing; 510 nots are none; 510 positions: the innermost counts.
-LAST = (511, 0, 0, None, False, 2)
-runs("511 aligns over a", "1 4 4 clear", [A] + [align(n) for n in range(511)], (), token_words("a4"), LAST)
-runs(
-    "511 indents by equal over a",
-    "1 0 4 clear",
-    [A] + [indent(n, 0) for n in range(511)],
-    (),
-    token_words("a4"),
-    LAST,
-)
-runs("511 nots over a, at a", "failure", [A] + [not_(n) for n in range(511)], (), token_words("a4"), LAST)
-runs("511 nots over a, at b", SAME, [A] + [not_(n) for n in range(511)], (), token_words("b4"), LAST)
-runs(
-    "511 positions over a, = last",
-    "1 4 4 clear",
-    [A] + [position(n, n % 4) for n in range(511)],
-    (),
-    token_words("a4"),
-    LAST,
-)
-# 511 indents by greater, mode at least: inside 511 on, and outside 511 less.
-DEEP = [A] + [indent(n, 1) for n in range(511)]
-runs("511 indents by greater over a, a510", "failure", DEEP, (), token_words("a510"), LAST)
-runs("511 indents by greater over a, a511", "1 0 0 clear", DEEP, (), token_words("a511"), LAST)
-runs("511 indents by greater over a, a515", "1 0 4 clear", DEEP, (), token_words("a515"), LAST)
+# 510 indents by equal change nothing; 510 nots are none; 510 positions: the innermost counts. 511 indents by
+# greater, mode at least: inside 511 on, and outside 511 less.
+DEEP = over([A], indent)
+for label, answer, nodes, tokens in (
+    ("511 aligns over a", "1 4 4 clear", over([A], align), "a4"),
+    ("511 indents by equal over a", "1 0 4 clear", over([A], lambda n: indent(n, 0)), "a4"),
+    ("511 nots over a, at a", "failure", over([A], not_), "a4"),
+    ("511 nots over a, at b", SAME, over([A], not_), "b4"),
+    ("511 positions over a, = last", "1 4 4 clear", over([A], lambda n: position(n, n % 4)), "a4"),
+    ("511 indents by greater over a, a510", "failure", DEEP, "a510"),
+    ("511 indents by greater over a, a511", "1 0 0 clear", DEEP, "a511"),
+    ("511 indents by greater over a, a515", "1 0 4 clear", DEEP, "a515"),
+):
+    runs(label, answer, nodes, tokens=tokens, node=511)
 # 128 rules, each the next one's name, the last a.
-runs(
-    "128 rules in a row to a",
-    "1 0 4 clear",
-    [A] + [rule(n) for n in range(1, 128)],
-    [*range(1, 128), 0],
-    token_words("a4"),
-    (1, 0, 0, None, False, 2),
-)
+runs("128 rules in a row to a", "1 0 4 clear", [A] + [rule(n) for n in range(1, 128)], [*range(1, 128), 0], "a4", node=1)
 
 
 # --- Lower ends past 65,535 ----------------------------------------------------------------------
@@ -1473,14 +1123,7 @@ for start in ("65535 inf", "65535 65535"):
         given("[a]^>", "any", f"a{column}", "failure", start=start)
         given("a^>", "any", f"a{column}", "failure", start=start, flag="set")
     for mode in MODES:
-        given(
-            "empty^>",
-            mode,
-            "a65535",
-            f"0 {start} clear",
-            start=start,
-            name=f"case empty under greater, {start}",
-        )
+        given("empty^>", mode, "a65535", f"0 {start} clear", start=start, name=f"case empty under greater, {start}")
     # Any inside greater brings the inner set back to 0 on.
     given("a^any^>", "=", "a7", f"1 {start} clear", start=start)
     given("[a]^any^>", "any", "a7", f"1 {start} clear", start=start)
@@ -1501,177 +1144,71 @@ given("a^>^>", "=", "a65535", "failure", start="65534 inf")
 given("[a^>^>]", "any", "a65535", "failure", start="65534 inf")
 given("a^>^>", "any", "a65535", "1 65534 inf clear", start="65534 inf")
 # 511 greaters in mode any, then the same over an aligned a.
-HIGH = (511, 0, 65535, None, False, 3)
 for column in (0, 510, 65535):
     tokens = [1, column, 0, 0]
-    runs(
-        f"511 indents by greater from 65535, mode any, a{column}", "1 65535 inf clear", DEEP, (), tokens, HIGH
-    )
-    nodes = [A, align(0)] + [indent(n, 1) for n in range(1, 511)]
-    runs(f"510 indents by greater over [a] from 65535, a{column}", "failure", nodes, (), tokens, HIGH)
-    runs(
-        f"511 indents by greater from 65535, mode at least, a{column}",
-        "failure",
-        DEEP,
-        (),
-        tokens,
-        (511, 0, 65535, None, False, 2),
-    )
+    runs(f"511 indents by greater from 65535, mode any, a{column}", "1 65535 inf clear", DEEP,
+         tokens=tokens, node=511, lower=65535, mode=3)
+    runs(f"510 indents by greater over [a] from 65535, a{column}", "failure", over([A, align(0)], indent),
+         tokens=tokens, node=511, lower=65535, mode=3)
+    runs(f"511 indents by greater from 65535, mode at least, a{column}", "failure", DEEP,
+         tokens=tokens, node=511, lower=65535)
 # Through a rule: each a one greater further in. At the end [b] finds no column.
-given(
-    "X",
-    "any",
-    [(1, 0)] * 100,
-    "100 65535 inf clear",
-    rules=DEEPER,
-    start="65535 inf",
-    name="100 a, X = a X^> / empty, mode any, from 65535",
-)
-given(
-    "X",
-    "any",
-    [(1, 65535)] * 100,
-    "100 65535 65535 clear",
-    rules=DEEPER,
-    start="65535 65535",
-    name="100 a at 65535, X = a X^> / empty, mode any, from 65535 to 65535",
-)
-given(
-    "X",
-    "any",
-    [(1, 0)] * 50 + [(2, 65535)],
-    "failure",
-    rules="X = a X^> / [b]",
-    start="65535 inf",
-    name="50 a and b, X = a X^> / [b], mode any, from 65535",
-)
-given(
-    "X",
-    "any",
-    [(1, 0)] * 50 + [(2, 65535)],
-    "51 65535 inf clear",
-    rules="X = a X^> / b",
-    start="65535 inf",
-    name="50 a and b, X = a X^> / b, mode any, from 65535",
-)
+given("X", "any", "a0 " * 100, "100 65535 inf clear", rules=DEEPER, start="65535 inf",
+      name="100 a, X = a X^> / empty, mode any, from 65535")
+given("X", "any", "a65535 " * 100, "100 65535 65535 clear", rules=DEEPER, start="65535 65535",
+      name="100 a at 65535, X = a X^> / empty, mode any, from 65535 to 65535")
+given("X", "any", "a0 " * 50 + "b65535", "failure", rules="X = a X^> / [b]", start="65535 inf",
+      name="50 a and b, X = a X^> / [b], mode any, from 65535")
+given("X", "any", "a0 " * 50 + "b65535", "51 65535 inf clear", rules="X = a X^> / b", start="65535 inf",
+      name="50 a and b, X = a X^> / b, mode any, from 65535")
 # 100 tokens with 50 greaters each; from 0 on b at 4999 is too far left, at 5000 it is the one column left.
 # Back through 5000 greaters 5000 to 5000 leaves 0 to 0.
 FAR = "X = a X" + "^>" * 50 + " / [b]"
 for column, answer in ((4999, "failure"), (5000, "101 0 0 clear"), (5007, "101 0 7 clear")):
-    given(
-        "X",
-        "any",
-        [(1, 0)] * 100 + [(2, column)],
-        answer,
-        rules=FAR,
-        name=f"100 a with 50 greaters each, then [b] at {column}",
-    )
-given(
-    "X",
-    "any",
-    [(1, 0)] * 100 + [(2, 65535)],
-    "failure",
-    rules=FAR,
-    start="65535 inf",
-    name="100 a with 50 greaters each from 65535, then [b] at 65535",
-)
+    given("X", "any", "a0 " * 100 + f"b{column}", answer, rules=FAR,
+          name=f"100 a with 50 greaters each, then [b] at {column}")
+given("X", "any", "a0 " * 100 + "b65535", "failure", rules=FAR, start="65535 inf",
+      name="100 a with 50 greaters each from 65535, then [b] at 65535")
 
 
 # --- Long lists ----------------------------------------------------------------------------------
 
 # Columns fall from 200 to 101, or rise from 101 to 200. At least: the least column, 101. Greater: one less.
 # Equal: only the first. Any: all, and no narrowing.
-FALLING = [(1, 200 - i) for i in range(100)]
-RISING = [(1, 101 + i) for i in range(100)]
+FALLING = " ".join(f"a{200 - i}" for i in range(100))
+RISING = " ".join(f"a{101 + i}" for i in range(100))
 for expression, rules in (("X", LIST), ("a*", "")):
-    for mode, falling, rising in (
-        (">=", "100 0 101 clear", "100 0 101 clear"),
-        (">", "100 0 100 clear", "100 0 100 clear"),
-        ("=", "1 200 200 clear", "1 101 101 clear"),
-        ("any", "100 0 inf clear", "100 0 inf clear"),
+    for said, mode, tokens, answer, more in (
+        ("falling, mode >=", ">=", FALLING, "100 0 101 clear", {}),
+        ("rising, mode >=", ">=", RISING, "100 0 101 clear", {}),
+        ("falling, mode >", ">", FALLING, "100 0 100 clear", {}),
+        ("rising, mode >", ">", RISING, "100 0 100 clear", {}),
+        ("falling, mode =", "=", FALLING, "1 200 200 clear", {}),
+        ("rising, mode =", "=", RISING, "1 101 101 clear", {}),
+        ("falling, mode any", "any", FALLING, "100 0 inf clear", {}),
+        ("rising, mode any", "any", RISING, "100 0 inf clear", {}),
+        # From 150 on, falling, at least: 200 to 150 are 51 tokens, and the upper end is 150.
+        ("falling, from 150", ">=", FALLING, "51 150 150 clear", {"start": "150 inf"}),
+        ("falling, mode >, from 150", ">", FALLING, "50 150 150 clear", {"start": "150 inf"}),
+        ("falling, from 0 to 120", ">=", FALLING, "100 0 101 clear", {"start": "0 120"}),
+        ("falling, place 60", ">=", FALLING, "40 0 101 clear", {"place": 60}),
     ):
-        given(
-            expression, mode, FALLING, falling, rules=rules, name=f"{expression}, 100 a falling, mode {mode}"
-        )
-        given(expression, mode, RISING, rising, rules=rules, name=f"{expression}, 100 a rising, mode {mode}")
-    # From 150 on, falling, at least: 200 to 150 are 51 tokens, and the upper end is 150.
-    given(
-        expression,
-        ">=",
-        FALLING,
-        "51 150 150 clear",
-        rules=rules,
-        start="150 inf",
-        name=f"{expression}, 100 a falling, from 150",
-    )
-    given(
-        expression,
-        ">",
-        FALLING,
-        "50 150 150 clear",
-        rules=rules,
-        start="150 inf",
-        name=f"{expression}, 100 a falling, mode >, from 150",
-    )
-    given(
-        expression,
-        ">=",
-        FALLING,
-        "100 0 101 clear",
-        rules=rules,
-        start="0 120",
-        name=f"{expression}, 100 a falling, from 0 to 120",
-    )
-    given(
-        expression,
-        ">=",
-        FALLING,
-        "40 0 101 clear",
-        rules=rules,
-        place=60,
-        name=f"{expression}, 100 a falling, place 60",
-    )
-# Each a one column further in.
-STAIRS = [(1, i) for i in range(100)]
-given("X", "=", STAIRS, "100 0 0 clear", rules=DEEPER, name="X = a X^> / empty, 100 a at 0 to 99, mode =")
-given(
-    "X",
-    "=",
-    [(1, 5 + i) for i in range(100)],
-    "100 5 5 clear",
-    rules=DEEPER,
-    name="X = a X^> / empty, 100 a at 5 to 104, mode =",
-)
-given(
-    "X",
-    "=",
-    STAIRS,
-    "0 5 inf clear",
-    rules=DEEPER,
-    start="5 inf",
-    name="X = a X^> / empty, 100 a at 0 to 99, mode =, from 5",
-)
-given(
-    "X",
-    "=",
-    STAIRS[:60] + STAIRS[59:99],
-    "60 0 0 clear",
-    rules=DEEPER,
-    name="X = a X^> / empty, column 59 twice",
-)
-# 100 a and 100 b in pairs, a and b of a pair at one column; then with the innermost b a column off.
-PYRAMID = STAIRS + [(2, 99 - i) for i in range(100)]
-given("X", "=", PYRAMID, "200 0 0 clear", rules=NESTED, name="X = a X^> b / empty, 100 pairs")
-given(
-    "X",
-    "=",
-    PYRAMID[:199],
-    "0 0 inf clear",
-    rules=NESTED,
-    name="X = a X^> b / empty, 100 pairs less the last b",
-)
+        given(expression, mode, tokens, answer, rules, name=f"{expression}, 100 a {said}", **more)
+# Each a one column further in. Then 100 a and 100 b in pairs, a and b of a pair at one column, and the same with
+# the outermost b missing.
+STAIRS = [f"a{i}" for i in range(105)]
+PYRAMID = STAIRS[:100] + [f"b{99 - i}" for i in range(100)]
+for name, tokens, answer, rules, start in (
+    ("X = a X^> / empty, 100 a at 0 to 99, mode =", STAIRS[:100], "100 0 0 clear", DEEPER, "0 inf"),
+    ("X = a X^> / empty, 100 a at 5 to 104, mode =", STAIRS[5:], "100 5 5 clear", DEEPER, "0 inf"),
+    ("X = a X^> / empty, 100 a at 0 to 99, mode =, from 5", STAIRS[:100], "0 5 inf clear", DEEPER, "5 inf"),
+    ("X = a X^> / empty, column 59 twice", STAIRS[:60] + STAIRS[59:99], "60 0 0 clear", DEEPER, "0 inf"),
+    ("X = a X^> b / empty, 100 pairs", PYRAMID, "200 0 0 clear", NESTED, "0 inf"),
+    ("X = a X^> b / empty, 100 pairs less the last b", PYRAMID[:199], "0 0 inf clear", NESTED, "0 inf"),
+):
+    given("X", "=", " ".join(tokens), answer, rules, start, name=name)
 # 4096 tokens at column 7, the most there may be.
-MOST = [(1, 7)] * 4096
+MOST = "a7 " * 4096
 given("a*", ">=", MOST, "4096 0 7 clear", name="a*, 4096 a, mode >=")
 given("X", ">=", MOST, "4096 0 7 clear", rules=LIST, name="X = a X / empty, 4096 a, mode >=")
 given("X", ">", MOST, "4096 7 7 clear", rules="X = [a] X / empty", name="X = [a] X / empty, 4096 a, mode >")
@@ -1679,23 +1216,13 @@ given("X", "any", MOST, "failure", rules="X = a X", name="X = a X, 4096 a, mode 
 given("a*", ">=", MOST, "1 0 7 clear", place=4095, name="a*, 4096 a, place 4095")
 given("a*", ">=", MOST, "0 0 inf clear", place=4096, name="a*, 4096 a, place 4096")
 given("a* a", ">=", MOST, "failure", name="a* a, 4096 a")
-given("[a]* b", ">", MOST[:4095] + [(2, 8)], "4096 7 7 clear", name="[a]* b, 4095 a and b8, mode >")
-given("[a]* b", ">", MOST[:4095] + [(2, 7)], "failure", name="[a]* b, 4095 a and b7, mode >")
-given(
-    "X",
-    "any",
-    MOST,
-    "4096 65535 inf clear",
-    rules=DEEPER,
-    start="65535 inf",
-    name="X = a X^> / empty, 4096 a from 65535",
-)
+given("[a]* b", ">", "a7 " * 4095 + "b8", "4096 7 7 clear", name="[a]* b, 4095 a and b8, mode >")
+given("[a]* b", ">", "a7 " * 4095 + "b7", "failure", name="[a]* b, 4095 a and b7, mode >")
+given("X", "any", MOST, "4096 65535 inf clear", rules=DEEPER, start="65535 inf", name="X = a X^> / empty, 4096 a from 65535")
 given("X", "=", MOST, "1 7 7 clear", rules=DEEPER, name="X = a X^> / empty, 4096 a, mode =")
 given("(a^>)*", "=", MOST, "4096 0 6 clear", name="(a^>)*, 4096 a, mode =")
-given("(a a)*", ">", MOST[:4095], "4094 0 6 clear", name="(a a)*, 4095 a, mode >")
+given("(a a)*", ">", "a7 " * 4095, "4094 0 6 clear", name="(a a)*, 4095 a, mode >")
 
 
-(CRATE / "data").mkdir(parents=True, exist_ok=True)
-(CRATE / "data" / "cases").write_bytes(b"".join(records))
-(CRATE / "stdout").write_bytes("".join(lines).encode())
-print(f"{len(records)} calls, {sum(map(len, records))} bytes")
+if __name__ == "__main__":
+    CASES.write()

@@ -1,49 +1,44 @@
-"""Writes the stored cases for the line that 01's program prints: crates/line_cases/data/cases and its stdout.
+#!/usr/bin/env python3
+"""Writes the cases for the line that 01's program prints, and the lines of the program line_cases (README.md).
 
 Every single answer stands beside its inputs and was worked out by hand from the words of 01 that are quoted
 there; a family of cases has one answer for all, or the rule that gives each, in its loop. Nothing here reads a
 grammar file, scans a report or runs a grammar.
-
-A record: the label's length (one byte), ten numbers of three bytes each, high byte first, the label, the
-stored bytes of the grammar file, the stored bytes of the report. The first five numbers tell how the file is
-stored, the others how the report is (stored_bytes.py); what is shared is shared with the record before, at
-first with no bytes.
 """
 
-import pathlib
-
+import grammar_fields
+from expressions import Table, written, written_rules
 from grammar_fields import EMPTY as EMPTY_FIELD
-from grammar_fields import START, TAIL, VERSION, field, keyword, node, rule, start, with_keywords
-from stored_bytes import stored
-from table_nodes import EMPTY, align, choice, indent, not_, position, repeat, seq
+from grammar_fields import NINE, START, TAIL, VERSION, field, keyword, node, rule, start, with_keywords, with_names
+from records import Cases, Pairs, spaced
+from table_nodes import ANY, AT_LEAST, EMPTY, EQUAL, GREATER
+from table_nodes import align, choice, indent, not_, over, position, repeat, seq
 from table_nodes import rule as call
-
-ROOT = pathlib.Path(__file__).resolve().parent.parent
+from table_nodes import terminal as term
 
 # 5: lines of four bytes and a break. 35: keywords of 32 bytes. 8200: two equal lines of 8,199 bytes.
 DISTANCES = (1, 2, 3, 4, 8, 9, 16, 5, 6, 7, 10, 35, 8200)
+CASES = Cases("line_cases")
+PAIRS = Pairs(100, DISTANCES)
 
-# "Relations: 0 equal, 1 greater, 2 at least, 3 any"; "The same four numbers are token modes."
-EQUAL, GREATER, AT_LEAST, ANY = 0, 1, 2, 3
 MODES = (("equal", EQUAL), ("greater", GREATER), ("at least", AT_LEAST), ("any", ANY))
-
-
-def term(terminal):
-    return (1, terminal, 0, 0)
-
+# The same four as relations, written.
+SIGNS = (("equal", "="), ("greater", ">"), ("at least", ">="), ("any", "any"))
 
 # "3 + k where the spelling equals keyword k ..; else 0 for a number .. else 1"; a line's end is 2.
 NUMBER, WORD, END = term(0), term(1), term(2)
-A, B, C = term(3), term(4), term(5)
+A, B = term(3), term(4)
 # Tokens by themselves can stand side by side: ` :,` is a at column 1 and b at column 2.
 KEYS = (b":", b",", b";")
 
-CASES = []
+
+# --- Records and lines --------------------------------------------------------------------------------------
 
 
 def case(label, file, report, line):
     """A grammar file, a report, and the line expected of them."""
-    CASES.append((label, file, report, line))
+    assert label == label.lower() and len(label) < 100
+    CASES.add(label, line, b"", *PAIRS.stretch(file, report))
 
 
 def success(read, lower, upper):
@@ -68,22 +63,20 @@ def refused(number, *node_number):
     4,096 tokens, columns at most 65,535". Nor does 12: the start is "token 0, interval 0 without end, flag
     clear", and a start node outside the table or a mode over 3 is 5 already.
     """
-    return " ".join(["refused", str(number), *map(str, node_number)])
+    return spaced("refused", (number, *node_number))
 
 
-def fields(nodes):
-    return b"".join(node(*n) for n in nodes)
+def grammar(nodes, mode, keywords=KEYS, rules=(), first=None, leaves=""):
+    """A file of these nodes; the rules are node numbers, named r0, r1, ...; the start is the last node unless said.
 
-
-def grammar(nodes, mode, keywords=KEYS, rules=(), first=None):
-    """A file of these nodes; the rules are node numbers, named r0, r1, ...; the start is the last node."""
-    return (
-        VERSION
-        + b"".join(keyword(k) for k in keywords)
-        + b"".join(rule(n, b"r%d" % i) for i, n in enumerate(rules))
-        + fields(nodes)
-        + start(len(nodes) - 1 if first is None else first, mode)
-    )
+    Nodes and rules may be written instead, a the first keyword: then they are laid out as in `Table`, the leaves first.
+    """
+    if isinstance(nodes, str):
+        first_ones = [written(leaf, 3) for leaf in leaves.split()]
+        table = Table(written_rules(rules or "", 3), written(nodes, 3), once=True, leaves=first_ones)
+        nodes, rules, first = table.nodes, table.rules, table.start
+    pairs = [(number, b"r%d" % i) for i, number in enumerate(rules)]
+    return grammar_fields.file(nodes, len(nodes) - 1 if first is None else first, mode, keywords, pairs)
 
 
 NOTHING = VERSION + TAIL
@@ -95,18 +88,18 @@ EMPTY_ANSWER = success(0, 0, "inf")
 # "With keywords `loss` and `:` .. it prints `success 4 0 1 clear`".
 LOSS = (b"loss", b":")
 LOSS_NODES = [term(3), term(4), NUMBER, END, seq(2, 3), seq(1, 4), seq(0, 5)]
-LOSS_LEFT = [term(3), term(4), NUMBER, END, seq(0, 1), seq(4, 2), seq(5, 3)]
 EXAMPLE = b"  loss: 0.03"
 
 
 def loss_file(mode):
     """The grammar of that example, in this mode."""
-    return grammar(LOSS_NODES, mode, LOSS)
+    return grammar("a b number end", mode, LOSS)
 
 
 case("example", loss_file(GREATER), EXAMPLE, success(4, 0, 1))
 # The same, the sequence's pairs bracketed from the left: "Sequence: a, then b from where a ended."
-case("example bracketed from the left", grammar(LOSS_LEFT, GREATER, LOSS), EXAMPLE, success(4, 0, 1))
+case("example bracketed from the left", grammar("((a b) number) end", GREATER, LOSS, leaves="a b number end"), EXAMPLE,
+     success(4, 0, 1))
 # loss2 :6 number8 end12. Equal: loss makes 2 to 2, and 6 isn't "l to h".
 case("example mode equal", loss_file(EQUAL), EXAMPLE, FAILURE)
 # At least: "0 to h" of 2 to 2, the later columns are higher.
@@ -144,8 +137,8 @@ case("example over two lines", loss_file(GREATER), b"  loss:\n  0.03", FAILURE)
 case("example cut off", loss_file(GREATER), b"  loss:", FAILURE)
 case("example with no text", loss_file(GREATER), b"", FAILURE)
 # Keyword numbers are places among the keywords: with the two exchanged, loss is terminal 4.
-case("example with keywords exchanged", grammar(LOSS_NODES, GREATER, LOSS[::-1]), EXAMPLE, FAILURE)
-case("example with no keywords", grammar(LOSS_NODES, GREATER, ()), EXAMPLE, FAILURE)
+case("example with keywords exchanged", grammar("a b number end", GREATER, LOSS[::-1]), EXAMPLE, FAILURE)
+case("example with no keywords", grammar("a b number end", GREATER, ()), EXAMPLE, FAILURE)
 # A start at another node: the number and the end only, on a number at column 3.
 case("example started at the number", grammar(LOSS_NODES, EQUAL, LOSS, first=2), b"   0.03", success(1, 3, 3))
 
@@ -154,27 +147,27 @@ case("example started at the number", grammar(LOSS_NODES, EQUAL, LOSS, first=2),
 
 # "e. No tokens: a fails; empty succeeds, state unchanged."
 for name, mode in MODES:
-    case(f"empty on no text mode {name}", grammar([EMPTY], mode), b"", EMPTY_ANSWER)
-    case(f"a on no text mode {name}", grammar([A], mode), b"", FAILURE)
+    case(f"empty on no text mode {name}", grammar("empty", mode), b"", EMPTY_ANSWER)
+    case(f"a on no text mode {name}", grammar("a", mode), b"", FAILURE)
 # "Empty changes nothing", with tokens there too.
 case("empty on the example", NOTHING, EXAMPLE, EMPTY_ANSWER)
 # Only "A line with a token ends in a token of terminal 2".
 for name, text in (("no text", b""), ("a break", b"\n"), ("breaks", b"\n\n\n"), ("blanks", b"  \t \r"),
                    ("blanks and breaks", b" \n\t\r\n ")):
-    case(f"line end on {name}", grammar([END], ANY), text, FAILURE)
-    case(f"no token at all on {name}", grammar([END, WORD, choice(0, 1), not_(2)], ANY), text, EMPTY_ANSWER)
+    case(f"line end on {name}", grammar("end", ANY), text, FAILURE)
+    case(f"no token at all on {name}", grammar("!(end / word)", ANY), text, EMPTY_ANSWER)
 # "A rule is its node", "Position changes the mode for its child", "Align sets the flag inside; after success
 # ..", and for indent greater "Without end less 1 is without end": over empty the state is as before.
-case("empty under a rule", grammar([EMPTY, call(0)], EQUAL, rules=[0]), b"", EMPTY_ANSWER)
-case("empty under align", grammar([EMPTY, align(0)], EQUAL), b"", EMPTY_ANSWER)
-for name, relation in MODES:
-    case(f"empty under indent {name}", grammar([EMPTY, indent(0, relation)], EQUAL), b"", EMPTY_ANSWER)
-    case(f"empty under position {name}", grammar([EMPTY, position(0, relation)], EQUAL), b"", EMPTY_ANSWER)
-case("empty twice", grammar([EMPTY, seq(0, 0)], EQUAL), b"", EMPTY_ANSWER)
-case("repeat of a on no text", grammar([A, repeat(0)], EQUAL), b"", EMPTY_ANSWER)
-case("not a on no text", grammar([A, not_(0)], EQUAL), b"", EMPTY_ANSWER)
-case("not empty", grammar([EMPTY, not_(0)], EQUAL), b"", FAILURE)
-case("not not empty", grammar([EMPTY, not_(0), not_(1)], EQUAL), b"", EMPTY_ANSWER)
+case("empty under a rule", grammar("X", EQUAL, rules="X = empty"), b"", EMPTY_ANSWER)
+case("empty under align", grammar("[empty]", EQUAL), b"", EMPTY_ANSWER)
+for name, sign in SIGNS:
+    case(f"empty under indent {name}", grammar(f"empty^{sign}", EQUAL), b"", EMPTY_ANSWER)
+    case(f"empty under position {name}", grammar(f"empty_{sign}", EQUAL), b"", EMPTY_ANSWER)
+case("empty twice", grammar("empty empty", EQUAL), b"", EMPTY_ANSWER)
+case("repeat of a on no text", grammar("a*", EQUAL), b"", EMPTY_ANSWER)
+case("not a on no text", grammar("!a", EQUAL), b"", EMPTY_ANSWER)
+case("not empty", grammar("!empty", EQUAL), b"", FAILURE)
+case("not not empty", grammar("!!empty", EQUAL), b"", EMPTY_ANSWER)
 
 
 # --- One terminal in each mode ------------------------------------------------------------------------------
@@ -183,88 +176,80 @@ case("not not empty", grammar([EMPTY, not_(0), not_(1)], EQUAL), b"", EMPTY_ANSW
 # gives 0 to 4; a0 fails"); at least "0 to h" (case c: "0 to 0"); any leaves all.
 for column in (0, 1, 5):
     text = b" " * column + b":"
-    case(f"a{column} mode equal", grammar([A], EQUAL), text, success(1, column, column))
-    case(f"a{column} mode greater", grammar([A], GREATER), text,
-         success(1, 0, column - 1) if column else FAILURE)
-    case(f"a{column} mode at least", grammar([A], AT_LEAST), text, success(1, 0, column))
-    case(f"a{column} mode any", grammar([A], ANY), text, success(1, 0, "inf"))
+    case(f"a{column} mode equal", grammar("a", EQUAL), text, success(1, column, column))
+    case(f"a{column} mode greater", grammar("a", GREATER), text, success(1, 0, column - 1) if column else FAILURE)
+    case(f"a{column} mode at least", grammar("a", AT_LEAST), text, success(1, 0, column))
+    case(f"a{column} mode any", grammar("a", ANY), text, success(1, 0, "inf"))
 # "A terminal also fails ... at another terminal".
-case("b for a", grammar([A], ANY), b",", FAILURE)
-case("word for a", grammar([A], ANY), b"word", FAILURE)
-case("number for a", grammar([A], ANY), b"12", FAILURE)
-case("a for word", grammar([WORD], ANY), b":", FAILURE)
+case("b for a", grammar("a", ANY), b",", FAILURE)
+case("word for a", grammar("a", ANY), b"word", FAILURE)
+case("number for a", grammar("a", ANY), b"12", FAILURE)
+case("a for word", grammar("word", ANY), b":", FAILURE)
 
 
 # --- Two terminals, and which columns a second one has left -------------------------------------------------
 
-PAIR = [A, B, seq(0, 1)]
 # a2 b3. Equal: 2 to 2, 3 isn't in it. Greater: 0 to 1, then "l+1 on" is 1 on. At least: 0 to 2.
-case("a2 b3 mode equal", grammar(PAIR, EQUAL), b"  :,", FAILURE)
-case("a2 b3 mode greater", grammar(PAIR, GREATER), b"  :,", success(2, 0, 1))
-case("a2 b3 mode at least", grammar(PAIR, AT_LEAST), b"  :,", success(2, 0, 2))
-case("a2 b3 mode any", grammar(PAIR, ANY), b"  :,", success(2, 0, "inf"))
+case("a2 b3 mode equal", grammar("a b", EQUAL), b"  :,", FAILURE)
+case("a2 b3 mode greater", grammar("a b", GREATER), b"  :,", success(2, 0, 1))
+case("a2 b3 mode at least", grammar("a b", AT_LEAST), b"  :,", success(2, 0, 2))
+case("a2 b3 mode any", grammar("a b", ANY), b"  :,", success(2, 0, "inf"))
 # "Sequence: a, then b": a missing, b missing, both there but exchanged.
-case("sequence without b", grammar(PAIR, ANY), b":", FAILURE)
-case("sequence without a", grammar(PAIR, ANY), b",", FAILURE)
-case("sequence exchanged", grammar(PAIR, ANY), b",:", FAILURE)
+case("sequence without b", grammar("a b", ANY), b":", FAILURE)
+case("sequence without a", grammar("a b", ANY), b",", FAILURE)
+case("sequence exchanged", grammar("a b", ANY), b",:", FAILURE)
 # Word, end, word: each line's word and the first one's end, all in the mode.
-LINES = [WORD, END, seq(1, 0), seq(0, 2)]
 # x4 end5 y2: at least 0 to 4, 0 to 4, then met with 0 to 2; greater 0 to 3, then met with
 # 0 to 1; equal: 5 isn't 4.
-case("lower second line mode at least", grammar(LINES, AT_LEAST), b"    x\n  y", success(3, 0, 2))
-case("lower second line mode greater", grammar(LINES, GREATER), b"    x\n  y", success(3, 0, 1))
-case("lower second line mode equal", grammar(LINES, EQUAL), b"    x\n  y", FAILURE)
-case("lower second line mode any", grammar(LINES, ANY), b"    x\n  y", success(3, 0, "inf"))
+case("lower second line mode at least", grammar("word end word", AT_LEAST), b"    x\n  y", success(3, 0, 2))
+case("lower second line mode greater", grammar("word end word", GREATER), b"    x\n  y", success(3, 0, 1))
+case("lower second line mode equal", grammar("word end word", EQUAL), b"    x\n  y", FAILURE)
+case("lower second line mode any", grammar("word end word", ANY), b"    x\n  y", success(3, 0, "inf"))
 # y0: greater fails, at least gives 0 to 0.
-case("second line at 0 mode greater", grammar(LINES, GREATER), b"    x\ny", FAILURE)
-case("second line at 0 mode at least", grammar(LINES, AT_LEAST), b"    x\ny", success(3, 0, 0))
+case("second line at 0 mode greater", grammar("word end word", GREATER), b"    x\ny", FAILURE)
+case("second line at 0 mode at least", grammar("word end word", AT_LEAST), b"    x\ny", success(3, 0, 0))
 # With the end in mode any: x2 makes 2 to 2 and the second word must be there too.
-COLUMNS = [WORD, END, position(1, ANY), seq(2, 0), seq(0, 3)]
-case("second line equal", grammar(COLUMNS, EQUAL), b"  x\n  y", success(3, 2, 2))
-case("second line not equal", grammar(COLUMNS, EQUAL), b"  x\n   y", FAILURE)
+case("second line equal", grammar("word end_any word", EQUAL), b"  x\n  y", success(3, 2, 2))
+case("second line not equal", grammar("word end_any word", EQUAL), b"  x\n   y", FAILURE)
 
 
 # --- Choice, not, repeat ------------------------------------------------------------------------------------
 
 # "Choice: a, or if a fails b from the old state."
-case("choice takes a", grammar([A, B, choice(0, 1)], EQUAL), b" :", success(1, 1, 1))
-case("choice takes b", grammar([A, B, choice(0, 1)], EQUAL), b" ,", success(1, 1, 1))
-case("choice takes neither", grammar([A, B, choice(0, 1)], EQUAL), b" ;", FAILURE)
+case("choice takes a", grammar("a / b", EQUAL), b" :", success(1, 1, 1))
+case("choice takes b", grammar("a / b", EQUAL), b" ,", success(1, 1, 1))
+case("choice takes neither", grammar("a / b", EQUAL), b" ;", FAILURE)
 # The order counts (001, section 1): of ab, ab/a reads both tokens, a/ab only a.
-case("a b or a", grammar([A, B, seq(0, 1), choice(2, 0)], ANY), b":,", success(2, 0, "inf"))
-case("a or a b", grammar([A, B, seq(0, 1), choice(0, 2)], ANY), b":,", success(1, 0, "inf"))
+case("a b or a", grammar("a b / a", ANY), b":,", success(2, 0, "inf"))
+case("a or a b", grammar("a / a b", ANY), b":,", success(1, 0, "inf"))
 # The first alternative has succeeded; what follows fails and nothing else is tried.
-case("a or a b then c", grammar([A, B, C, seq(0, 1), choice(0, 3), seq(4, 2)], ANY), b":,;", FAILURE)
+case("a or a b then c", grammar("(a / a b) c", ANY, leaves="a b c"), b":,;", FAILURE)
 # "Trying the second alternative with the first one's narrowed interval": a b makes 5 to 5 and fails; a
 # under greater from 0 without end gives 0 to 4.
-case("second alternative from the old state",
-     grammar([A, B, seq(0, 1), position(0, GREATER), choice(2, 3)], EQUAL), b"     :", success(1, 0, 4))
+case("second alternative from the old state", grammar("a b / a_>", EQUAL), b"     :", success(1, 0, 4))
 # "Not succeeds exactly if its child fails"; "Not and failure hand the old state on."
-case("not a before b", grammar([A, not_(0)], EQUAL), b"   ,", EMPTY_ANSWER)
-case("not a before a", grammar([A, not_(0)], EQUAL), b"   :", FAILURE)
-case("not not a before a", grammar([A, not_(0), not_(1)], EQUAL), b"   :", EMPTY_ANSWER)
-case("not not a before b", grammar([A, not_(0), not_(1)], EQUAL), b"   ,", FAILURE)
-case("not not a then a", grammar([A, not_(0), not_(1), seq(2, 0)], GREATER), b"   :", success(1, 0, 2))
+case("not a before b", grammar("!a", EQUAL), b"   ,", EMPTY_ANSWER)
+case("not a before a", grammar("!a", EQUAL), b"   :", FAILURE)
+case("not not a before a", grammar("!!a", EQUAL), b"   :", EMPTY_ANSWER)
+case("not not a before b", grammar("!!a", EQUAL), b"   ,", FAILURE)
+case("not not a then a", grammar("!!a a", GREATER), b"   :", success(1, 0, 2))
 # a0 fails in mode greater by its column alone.
-case("not a at a column outside", grammar([A, not_(0)], GREATER), b":", EMPTY_ANSWER)
+case("not a at a column outside", grammar("!a", GREATER), b":", EMPTY_ANSWER)
 # "Repeat: success in the old state .. else the repeat again .."
-REPEAT = [A, repeat(0)]
-case("repeat mode any", grammar(REPEAT, ANY), b":::", success(3, 0, "inf"))
-case("repeat mode at least", grammar(REPEAT, AT_LEAST), b"  :::", success(3, 0, 2))
-case("repeat mode greater", grammar(REPEAT, GREATER), b"  :::", success(3, 0, 1))
+case("repeat mode any", grammar("a*", ANY), b":::", success(3, 0, "inf"))
+case("repeat mode at least", grammar("a*", AT_LEAST), b"  :::", success(3, 0, 2))
+case("repeat mode greater", grammar("a*", GREATER), b"  :::", success(3, 0, 1))
 # a2 makes 2 to 2; a3 fails, and the round before it stands.
-case("repeat mode equal", grammar(REPEAT, EQUAL), b"  :::", success(1, 2, 2))
-case("repeat of none", grammar(REPEAT, EQUAL), b",", EMPTY_ANSWER)
-case("repeat of none by the column", grammar(REPEAT, GREATER), b":::", EMPTY_ANSWER)
+case("repeat mode equal", grammar("a*", EQUAL), b"  :::", success(1, 2, 2))
+case("repeat of none", grammar("a*", EQUAL), b",", EMPTY_ANSWER)
+case("repeat of none by the column", grammar("a*", GREATER), b":::", EMPTY_ANSWER)
 # The repeat leaves no a.
-case("repeat then a", grammar([A, repeat(0), seq(1, 0)], ANY), b":::", FAILURE)
-case("repeat then b", grammar([A, B, repeat(0), seq(2, 1)], ANY), b":::,", success(4, 0, "inf"))
+case("repeat then a", grammar("a* a", ANY), b":::", FAILURE)
+case("repeat then b", grammar("a* b", ANY, leaves="a b"), b":::,", success(4, 0, "inf"))
 # Rounds of a b end, at least: a4 makes 0 to 4; the second round's a2 would make 0 to 2, but its b fails.
-case("repeat drops its last round", grammar([A, B, END, seq(1, 2), seq(0, 3), repeat(4)], AT_LEAST),
-     b"    :,\n  :;", success(3, 0, 4))
+case("repeat drops its last round", grammar("(a b end)*", AT_LEAST), b"    :,\n  :;", success(3, 0, 4))
 # (a* b)*: a a b, then a b.
-case("repeat of a repeat and b", grammar([A, B, repeat(0), seq(2, 1), repeat(3)], ANY), b"::,:,",
-     success(5, 0, "inf"))
+case("repeat of a repeat and b", grammar("(a* b)*", ANY, leaves="a b"), b"::,:,", success(5, 0, "inf"))
 
 
 # --- Indent -------------------------------------------------------------------------------------------------
@@ -282,46 +267,41 @@ INDENTED = {
     ("any", "equal"): (0, "inf"), ("any", "greater"): (0, "inf"), ("any", "at least"): (0, "inf"),
     ("any", "any"): (0, "inf"),
 }
-for name, relation in MODES:
+for name, sign in SIGNS:
     for mode_name, mode in MODES:
-        case(f"indent {name} mode {mode_name}", grammar([A, indent(0, relation)], mode), b"     :",
-             success(1, *INDENTED[name, mode_name]))
+        case(f"indent {name} mode {mode_name}", grammar(f"a^{sign}", mode), b"     :", success(1, *INDENTED[name, mode_name]))
 # Greater in mode greater begins at 2: a1 fails, a2 gives 1 to 1 and out 0 to 0.
-case("indent greater mode greater at 1", grammar([A, indent(0)], GREATER), b" :", FAILURE)
-case("indent greater mode greater at 2", grammar([A, indent(0)], GREATER), b"  :", success(1, 0, 0))
-case("indent greater mode equal at 0", grammar([A, indent(0)], EQUAL), b":", FAILURE)
-case("indent greater mode equal at 1", grammar([A, indent(0)], EQUAL), b" :", success(1, 0, 0))
-case("indent greater mode any at 0", grammar([A, indent(0)], ANY), b":", success(1, 0, "inf"))
-case("indent at least mode equal at 0", grammar([A, indent(0, AT_LEAST)], EQUAL), b":", success(1, 0, 0))
+case("indent greater mode greater at 1", grammar("a^>", GREATER), b" :", FAILURE)
+case("indent greater mode greater at 2", grammar("a^>", GREATER), b"  :", success(1, 0, 0))
+case("indent greater mode equal at 0", grammar("a^>", EQUAL), b":", FAILURE)
+case("indent greater mode equal at 1", grammar("a^>", EQUAL), b" :", success(1, 0, 0))
+case("indent greater mode any at 0", grammar("a^>", ANY), b":", success(1, 0, "inf"))
+case("indent at least mode equal at 0", grammar("a^>=", EQUAL), b":", success(1, 0, 0))
 # Twice greater: 2 on; a5 gives 5 to 5, 1 to 4, 0 to 3; a1 fails.
-case("indent greater twice", grammar([A, indent(0), indent(1)], EQUAL), b"     :", success(1, 0, 3))
-case("indent greater twice at 1", grammar([A, indent(0), indent(1)], EQUAL), b" :", FAILURE)
-case("indent greater twice at 2", grammar([A, indent(0), indent(1)], EQUAL), b"  :", success(1, 0, 0))
+case("indent greater twice", grammar("a^>^>", EQUAL), b"     :", success(1, 0, 3))
+case("indent greater twice at 1", grammar("a^>^>", EQUAL), b" :", FAILURE)
+case("indent greater twice at 2", grammar("a^>^>", EQUAL), b"  :", success(1, 0, 0))
 # Any inside greater: 5 to 5, then 1 on, then "Without end less 1 is without end".
-case("indent any inside greater", grammar([A, indent(0, ANY), indent(1)], EQUAL), b"     :",
-     success(1, 0, "inf"))
-case("indent greater inside any", grammar([A, indent(0), indent(1, ANY)], EQUAL), b"     :",
-     success(1, 0, "inf"))
+case("indent any inside greater", grammar("a^any^>", EQUAL), b"     :", success(1, 0, "inf"))
+case("indent greater inside any", grammar("a^>^any", EQUAL), b"     :", success(1, 0, "inf"))
 # 001, 2.3: in mode equal on a1 b2 the indent of (a b) fails (1 to 1, then 2), the two
 # indents apart give 0 to 0.
-case("indent of a sequence", grammar([A, B, seq(0, 1), indent(2)], EQUAL), b" :,", FAILURE)
-case("sequence of indents", grammar([A, B, indent(0), indent(1), seq(2, 3)], EQUAL), b" :,", success(2, 0, 0))
+case("indent of a sequence", grammar("(a b)^>", EQUAL), b" :,", FAILURE)
+case("sequence of indents", grammar("a^> b^>", EQUAL, leaves="a b"), b" :,", success(2, 0, 0))
 # Case f: "a, then (b under greater, or empty) .. a1 b2 reads 2, 1 to 1".
-case("case f on one line", grammar([A, B, indent(1), EMPTY, choice(2, 3), seq(0, 4)], EQUAL), b" :,",
-     success(2, 1, 1))
+case("case f on one line", grammar("a (b^> / empty)", EQUAL), b" :,", success(2, 1, 1))
 # "a3 b2 reads 1, 3 to 3": b2 stands on the next line, so the line's end is read too, in mode any.
-CASE_F = [A, B, END, position(2, ANY), indent(1), EMPTY, choice(4, 5), seq(3, 6), seq(0, 7)]
-case("case f with b lower", grammar(CASE_F, EQUAL), b"   :\n  ,", success(2, 3, 3))
-case("case f with b higher", grammar(CASE_F, EQUAL), b" :\n  ,", success(3, 1, 1))
-case("case f with b at the same column", grammar(CASE_F, EQUAL), b" :\n ,", success(2, 1, 1))
+CASE_F = grammar("a end_any (b^> / empty)", EQUAL, leaves="a b end")
+case("case f with b lower", CASE_F, b"   :\n  ,", success(2, 3, 3))
+case("case f with b higher", CASE_F, b" :\n  ,", success(3, 1, 1))
+case("case f with b at the same column", CASE_F, b" :\n ,", success(2, 1, 1))
 # Case g: "a, then b under any .. a3 b0: 2 read, 3 to 3", and the line's end between them.
-case("case g", grammar([A, B, END, position(2, ANY), indent(1, ANY), seq(3, 4), seq(0, 5)], EQUAL),
-     b"   :\n,", success(3, 3, 3))
+case("case g", grammar("a end_any b^any", EQUAL, leaves="a b end"), b"   :\n,", success(3, 3, 3))
 # At least: b must be at 3 or above.
-CASE_AT_LEAST = [A, B, END, position(2, ANY), indent(1, AT_LEAST), seq(3, 4), seq(0, 5)]
-case("indent at least and b lower", grammar(CASE_AT_LEAST, EQUAL), b"   :\n  ,", FAILURE)
-case("indent at least and b equal", grammar(CASE_AT_LEAST, EQUAL), b"   :\n   ,", success(3, 3, 3))
-case("indent at least and b higher", grammar(CASE_AT_LEAST, EQUAL), b"   :\n    ,", success(3, 3, 3))
+CASE_AT_LEAST = grammar("a end_any b^>=", EQUAL, leaves="a b end")
+case("indent at least and b lower", CASE_AT_LEAST, b"   :\n  ,", FAILURE)
+case("indent at least and b equal", CASE_AT_LEAST, b"   :\n   ,", success(3, 3, 3))
+case("indent at least and b higher", CASE_AT_LEAST, b"   :\n    ,", success(3, 3, 3))
 # The upper end goes down by the second indent: a6 gives 0 to 5, b3 on the next line 0 to 2.
 case("second indent lowers the upper end",
      grammar([A, B, END, position(2, ANY), indent(0), indent(1), seq(3, 5), seq(4, 6)], EQUAL),
@@ -331,137 +311,107 @@ case("second indent lowers the upper end",
 # --- Align --------------------------------------------------------------------------------------------------
 
 # Case a, from 001: "Align of a b under greater .. a2 b3: 2 read, 0 to 1 ..".
-case("case a", grammar([A, B, seq(0, 1), align(2), indent(3)], AT_LEAST), b"  :,", success(2, 0, 1))
+case("case a", grammar("[a b]^>", AT_LEAST), b"  :,", success(2, 0, 1))
 # 001, theorem 2.4: align and indent may be exchanged. 1 on with the flag set: 2 to
 # 2, then 2 to 2, out 0 to 1.
-case("case a with align outside", grammar([A, B, seq(0, 1), indent(2), align(3)], AT_LEAST), b"  :,",
-     success(2, 0, 1))
+case("case a with align outside", grammar("[(a b)^>]", AT_LEAST), b"  :,", success(2, 0, 1))
 # "with the flag set, i must lie in the interval ..", whatever the mode (case d).
 for name, mode in MODES:
-    case(f"align of a mode {name}", grammar([A, align(0)], mode), b"     :", success(1, 5, 5))
-    case(f"align of a at 0 mode {name}", grammar([A, align(0)], mode), b":", success(1, 0, 0))
+    case(f"align of a mode {name}", grammar("[a]", mode), b"     :", success(1, 5, 5))
+    case(f"align of a at 0 mode {name}", grammar("[a]", mode), b":", success(1, 0, 0))
 # Only the first token: "The flag is then clear." a5 b6 goes on from 5 to 5 in the mode.
-case("align of a b mode equal", grammar([*PAIR, align(2)], EQUAL), b"     :,", FAILURE)
-case("align of a b mode greater", grammar([*PAIR, align(2)], GREATER), b"     :,", success(2, 5, 5))
-case("align of a b mode at least", grammar([*PAIR, align(2)], AT_LEAST), b"     :,", success(2, 5, 5))
-case("align of a b mode any", grammar([*PAIR, align(2)], ANY), b"     :,", success(2, 5, 5))
+case("align of a b mode equal", grammar("[a b]", EQUAL), b"     :,", FAILURE)
+case("align of a b mode greater", grammar("[a b]", GREATER), b"     :,", success(2, 5, 5))
+case("align of a b mode at least", grammar("[a b]", AT_LEAST), b"     :,", success(2, 5, 5))
+case("align of a b mode any", grammar("[a b]", ANY), b"     :,", success(2, 5, 5))
 # Case h: "Align of empty, then a, mode greater, a5: 0 to 4."
-case("case h", grammar([EMPTY, align(0), A, seq(1, 2)], GREATER), b"     :", success(1, 0, 4))
+case("case h", grammar("[empty] a", GREATER), b"     :", success(1, 0, 4))
 # Within one more align the flag "was set both before and at the inner end", so a is aligned.
-case("case h inside an align", grammar([EMPTY, align(0), A, seq(1, 2), align(3)], GREATER), b"     :",
-     success(1, 5, 5))
+case("case h inside an align", grammar("[[empty] a]", GREATER), b"     :", success(1, 5, 5))
 # "after success it is set exactly if ..": a read in the inner one clears it.
-case("align of align", grammar([A, align(0), align(1)], GREATER), b"     :", success(1, 5, 5))
-case("align of align of a then b", grammar([A, B, align(0), seq(2, 1), align(3)], GREATER), b"     :,",
-     success(2, 5, 5))
+case("align of align", grammar("[[a]]", GREATER), b"     :", success(1, 5, 5))
+case("align of align of a then b", grammar("[[a] b]", GREATER, leaves="a b"), b"     :,", success(2, 5, 5))
 # "A rule is its node", "Position changes the mode", indent gives "the inner set": the flag goes in as it is.
-case("align of a rule", grammar([A, call(0), align(1)], GREATER, rules=[0]), b"     :", success(1, 5, 5))
-case("align of a choice", grammar([A, B, choice(0, 1), align(2)], GREATER), b"     ,", success(1, 5, 5))
-case("align of a repeat", grammar([A, repeat(0), align(1)], GREATER), b"     ::", success(2, 5, 5))
-case("align of an indent", grammar([A, indent(0), align(1)], GREATER), b"     :", success(1, 0, 4))
+case("align of a rule", grammar("[X]", GREATER, rules="X = a"), b"     :", success(1, 5, 5))
+case("align of a choice", grammar("[a / b]", GREATER), b"     ,", success(1, 5, 5))
+case("align of a repeat", grammar("[a*]", GREATER), b"     ::", success(2, 5, 5))
+case("align of an indent", grammar("[a^>]", GREATER), b"     :", success(1, 0, 4))
 # Not hands its child the flag: b4 isn't in 1 to 1, so not b succeeds; without the flag b4 is greater than 1.
-case("align of not b behind a", grammar([A, B, position(1, GREATER), not_(2), align(3), seq(0, 4)], EQUAL),
-     b" :  ,", success(1, 1, 1))
-case("not b behind a", grammar([A, B, position(1, GREATER), not_(2), seq(0, 3)], EQUAL), b" :  ,", FAILURE)
+case("align of not b behind a", grammar("a [!b_>]", EQUAL), b" :  ,", success(1, 1, 1))
+case("not b behind a", grammar("a !b_>", EQUAL), b" :  ,", FAILURE)
 # Empty, not, a repeat without a round and an indent over empty leave the flag set.
-case("align of empty and a", grammar([EMPTY, A, seq(0, 1), align(2)], GREATER), b"     :", success(1, 5, 5))
-case("align of not b and a", grammar([A, B, not_(1), seq(2, 0), align(3)], GREATER), b"     :",
-     success(1, 5, 5))
-case("align of repeat b and a", grammar([A, B, repeat(1), seq(2, 0), align(3)], GREATER), b"     :",
-     success(1, 5, 5))
-case("align of indent of empty and a", grammar([EMPTY, indent(0), A, seq(1, 2), align(3)], GREATER),
-     b"     :", success(1, 5, 5))
+case("align of empty and a", grammar("[empty a]", GREATER), b"     :", success(1, 5, 5))
+case("align of not b and a", grammar("[!b a]", GREATER, leaves="a b"), b"     :", success(1, 5, 5))
+case("align of repeat b and a", grammar("[b* a]", GREATER, leaves="a b"), b"     :", success(1, 5, 5))
+case("align of indent of empty and a", grammar("[empty^> a]", GREATER), b"     :", success(1, 5, 5))
 # "b from the old state", "Not and failure hand the old state on", "success in the old state": the flag too.
 # What failed had read a and cleared it.
-TRY = [A, B, seq(0, 1)]
-case("align of a b or a", grammar([*TRY, choice(2, 0), align(3)], GREATER), b"     :", success(1, 5, 5))
-case("align of not a b and a", grammar([*TRY, not_(2), seq(3, 0), align(4)], GREATER), b"     :",
-     success(1, 5, 5))
-case("align of repeat a b and a", grammar([*TRY, repeat(2), seq(3, 0), align(4)], GREATER), b"     :",
-     success(1, 5, 5))
+case("align of a b or a", grammar("[a b / a]", GREATER), b"     :", success(1, 5, 5))
+case("align of not a b and a", grammar("[!(a b) a]", GREATER), b"     :", success(1, 5, 5))
+case("align of repeat a b and a", grammar("[(a b)* a]", GREATER), b"     :", success(1, 5, 5))
 # And a failed align hands on the clear flag.
-case("align of a b, or a", grammar([*TRY, align(2), choice(3, 0)], GREATER), b"     :", success(1, 0, 4))
+case("align of a b, or a", grammar("[a b] / a", GREATER), b"     :", success(1, 0, 4))
 # The flag is clear behind an align that read: b6 in mode greater from 5 to 5; in mode equal 6 isn't 5.
-case("align of a then b mode greater", grammar([A, B, align(0), seq(2, 1)], GREATER), b"     :,",
-     success(2, 5, 5))
-case("align of a then b mode equal", grammar([A, B, align(0), seq(2, 1)], EQUAL), b"     :,", FAILURE)
+case("align of a then b mode greater", grammar("[a] b", GREATER, leaves="a b"), b"     :,", success(2, 5, 5))
+case("align of a then b mode equal", grammar("[a] b", EQUAL, leaves="a b"), b"     :,", FAILURE)
 # Two aligns: the second token must lie in i to i.
-case("two aligns on a line", grammar([A, B, align(0), align(1), seq(2, 3)], ANY), b":,", FAILURE)
-TWO_ALIGNS = [A, B, END, align(0), align(1), seq(2, 4), seq(3, 5)]
-case("two aligns at the same column", grammar(TWO_ALIGNS, GREATER), b"  :\n  ,", success(3, 2, 2))
-case("two aligns with b lower", grammar(TWO_ALIGNS, GREATER), b"  :\n ,", FAILURE)
-case("two aligns with b higher", grammar(TWO_ALIGNS, GREATER), b"  :\n   ,", FAILURE)
+case("two aligns on a line", grammar("[a] [b]", ANY, leaves="a b"), b":,", FAILURE)
+TWO_ALIGNS = grammar("[a] end [b]", GREATER, leaves="a b end")
+case("two aligns at the same column", TWO_ALIGNS, b"  :\n  ,", success(3, 2, 2))
+case("two aligns with b lower", TWO_ALIGNS, b"  :\n ,", FAILURE)
+case("two aligns with b higher", TWO_ALIGNS, b"  :\n   ,", FAILURE)
 # Case i starts "from 1 to 1"; here a first token in mode equal, x1, gives that. "Align of (a under
 # greater) .. a4: 1 to 1." (2 on, flag set: 4 to 4, out 0 to 3.)
-case("case i behind a token", grammar([A, B, indent(1), align(2), seq(0, 3)], EQUAL), b" :  ,",
-     success(2, 1, 1))
-case("case i right behind a token", grammar([A, B, indent(1), align(2), seq(0, 3)], EQUAL), b" :,",
-     success(2, 1, 1))
-case("case i under equal", grammar([A, B, indent(1, EQUAL), align(2), seq(0, 3)], EQUAL), b" :  ,", FAILURE)
-case("case i under at least", grammar([A, B, indent(1, AT_LEAST), align(2), seq(0, 3)], EQUAL), b" :  ,",
-     success(2, 1, 1))
-case("case i under any", grammar([A, B, indent(1, ANY), align(2), seq(0, 3)], EQUAL), b" :  ,",
-     success(2, 1, 1))
-case("case i without an indent", grammar([A, B, align(1), seq(0, 2)], EQUAL), b" :  ,", FAILURE)
+case("case i behind a token", grammar("a [b^>]", EQUAL), b" :  ,", success(2, 1, 1))
+case("case i right behind a token", grammar("a [b^>]", EQUAL), b" :,", success(2, 1, 1))
+case("case i under equal", grammar("a [b^=]", EQUAL), b" :  ,", FAILURE)
+case("case i under at least", grammar("a [b^>=]", EQUAL), b" :  ,", success(2, 1, 1))
+case("case i under any", grammar("a [b^any]", EQUAL), b" :  ,", success(2, 1, 1))
+case("case i without an indent", grammar("a [b]", EQUAL), b" :  ,", FAILURE)
 # Behind the indent the flag is "as it left it", clear: a2 under greater gives 2 to 2, out
 # 0 to 1; then b3 at least.
-case("align of indented a then b", grammar([A, B, indent(0), seq(2, 1), align(3)], AT_LEAST), b"  :,",
-     success(2, 0, 1))
+case("align of indented a then b", grammar("[a^> b]", AT_LEAST, leaves="a b"), b"  :,", success(2, 0, 1))
 
 
 # --- Position -----------------------------------------------------------------------------------------------
 
 # "Position changes the mode for its child, through rules too."
 ONE = {"equal": (5, 5), "greater": (0, 4), "at least": (0, 5), "any": (0, "inf")}
-for name, relation in MODES:
-    other = ANY if relation != ANY else EQUAL
-    case(f"position {name} of a", grammar([A, position(0, relation)], other), b"     :",
-         success(1, *ONE[name]))
-    case(f"position {name} of a rule", grammar([A, call(0), position(1, relation)], other, rules=[0]),
-         b"     :", success(1, *ONE[name]))
+for name, sign in SIGNS:
+    other, other_sign = (ANY, "any") if name != "any" else (EQUAL, "=")
+    case(f"position {name} of a", grammar(f"a_{sign}", other), b"     :", success(1, *ONE[name]))
+    case(f"position {name} of a rule", grammar(f"X_{sign}", other, rules="X = a"), b"     :", success(1, *ONE[name]))
     # 001: of two positions the inner one holds.
-    case(f"position {name} inside another", grammar([A, position(0, relation), position(1, other)], EQUAL),
-         b"     :", success(1, *ONE[name]))
+    case(f"position {name} inside another", grammar(f"a_{sign}_{other_sign}", EQUAL), b"     :", success(1, *ONE[name]))
     # With the flag set the mode has no part.
-    case(f"align of position {name}", grammar([A, position(0, relation), align(1)], other), b"     :",
-         success(1, 5, 5))
-    case(f"position {name} of align", grammar([A, align(0), position(1, relation)], other), b"     :",
-         success(1, 5, 5))
+    case(f"align of position {name}", grammar(f"[a_{sign}]", other), b"     :", success(1, 5, 5))
+    case(f"position {name} of align", grammar(f"[a]_{sign}", other), b"     :", success(1, 5, 5))
 # The mode is the child's only: b3 stands in the file's mode again, equal.
-case("position any of a then b", grammar([A, B, position(0, ANY), seq(2, 1)], EQUAL), b"  :,",
-     success(2, 3, 3))
+case("position any of a then b", grammar("a_any b", EQUAL, leaves="a b"), b"  :,", success(2, 3, 3))
 # At least: a2 leaves 0 to 2, and 3 is outside.
-case("position at least of a then b", grammar([A, B, position(0, AT_LEAST), seq(2, 1)], EQUAL), b"  :,",
-     FAILURE)
-case("position at least of a b", grammar([A, B, seq(0, 1), position(2, AT_LEAST)], EQUAL), b"  :,",
-     success(2, 0, 2))
+case("position at least of a then b", grammar("a_>= b", EQUAL, leaves="a b"), b"  :,", FAILURE)
+case("position at least of a b", grammar("(a b)_>=", EQUAL), b"  :,", success(2, 0, 2))
 # "through rules too", and indents, aligns, choices: the mode greater reaches a; a5
 # under greater: 1 to 4, 0 to 3.
-case("position over an indent", grammar([A, indent(0), position(1, GREATER)], EQUAL), b"     :",
-     success(1, 0, 3))
-case("position over a choice", grammar([A, B, choice(0, 1), position(2, GREATER)], EQUAL), b"     ,",
-     success(1, 0, 4))
-case("position over a repeat", grammar([A, repeat(0), position(1, GREATER)], EQUAL), b"  ::",
-     success(2, 0, 1))
-case("position over a not", grammar([A, not_(0), position(1, GREATER)], EQUAL), b":", EMPTY_ANSWER)
+case("position over an indent", grammar("a^>_>", EQUAL), b"     :", success(1, 0, 3))
+case("position over a choice", grammar("(a / b)_>", EQUAL), b"     ,", success(1, 0, 4))
+case("position over a repeat", grammar("a*_>", EQUAL), b"  ::", success(2, 0, 1))
+case("position over a not", grammar("(!a)_>", EQUAL), b":", EMPTY_ANSWER)
 # The rule names itself inside a position: rule 0 = a, then (rule 0 in mode any, or
 # empty). a2 equal, the rest any.
 case("position in a rule that names itself",
-     grammar([A, call(0), position(1, ANY), EMPTY, choice(2, 3), seq(0, 4)], EQUAL, rules=[5]), b"  :::",
-     success(3, 2, 2))
+     grammar("a (X_any / empty)", EQUAL, rules="X = a (X_any / empty)"), b"  :::", success(3, 2, 2))
 
 
 # --- Rules --------------------------------------------------------------------------------------------------
 
 # 001, section 3: A = not not c, or a, or B; B = b, then (A A) aligned under greater;
 # start A in mode at least.
-PAPER = [C, not_(0), not_(1), A, call(1), choice(3, 4), choice(2, 5), B, call(0), seq(8, 8), align(9),
-         indent(10), seq(7, 11), position(8, AT_LEAST)]
 
 
 def paper(text, line):
     """That grammar on a text where a, b, c and _ stand for the three keywords and a blank."""
-    case(f"paper grammar on {text or 'no text'}", grammar(PAPER, EQUAL, rules=[6, 12]),
+    case(f"paper grammar on {text or 'no text'}", grammar("A_>=", EQUAL, rules="A = !!c / a / B; B = b [A A]^>"),
          text.translate(str.maketrans("abc_", ":,; ")).encode(), line)
 
 
@@ -488,44 +438,44 @@ case("nested brackets not closed", VALUES_FILE, b"(1 (2 3) ()", FAILURE)
 case("brackets with a word inside", VALUES_FILE, b"(1 two)", FAILURE)
 case("brackets of 1,000", VALUES_FILE, b"(" * 1000 + b")" * 1000, success(2000, 0, "inf"))
 # "a rule may stand for any node": rule 0 for a node above the one that names it, rule 1 for one below.
-case("rules above and below", grammar([call(0), A, call(1), seq(0, 2)], AT_LEAST, rules=[1, 1]), b"  ::",
-     success(2, 0, 2))
+case("rules above and below", grammar([call(0), A, call(1), seq(0, 2)], AT_LEAST, rules=[1, 1]), b"  ::", success(2, 0, 2))
 # Rule 0 = a, then (rule 0 or empty) under greater. Mode equal: each token stands to
 # the right of the one before.
-RIGHT = [A, call(0), EMPTY, choice(1, 2), indent(3), seq(0, 4)]
+DEEPER = "a (X / empty)^>"
+
+
+def deeper(mode):
+    return grammar(DEEPER, mode, rules=f"X = {DEEPER}")
+
+
 # a3, a4, a5: 3 to 3; 4 on, 4 to 4; and so on. Out: "0 to h-1" holds 3.
-case("ever deeper mode equal", grammar(RIGHT, EQUAL, rules=[5]), b"   :::", success(3, 3, 3))
+case("ever deeper mode equal", deeper(EQUAL), b"   :::", success(3, 3, 3))
 # a3: 0 to 3. 1 on, a4: 1 to 4. 2 on, a5: 2 to 5. Out 0 to 4 met with 1 to 4, out 0 to 3.
-case("ever deeper mode at least", grammar(RIGHT, AT_LEAST, rules=[5]), b"   :::", success(3, 0, 3))
+case("ever deeper mode at least", deeper(AT_LEAST), b"   :::", success(3, 0, 3))
 # a1: 0 to 0. 1 on, a2 in 2 on: 1 to 1. 2 on, a3 in 3 on: 2 to 2. Out 0 to 1, out 0 to 0.
-case("ever deeper mode greater", grammar(RIGHT, GREATER, rules=[5]), b" :::", success(3, 0, 0))
-case("ever deeper mode any", grammar(RIGHT, ANY, rules=[5]), b"   :::", success(3, 0, "inf"))
+case("ever deeper mode greater", deeper(GREATER), b" :::", success(3, 0, 0))
+case("ever deeper mode any", deeper(ANY), b"   :::", success(3, 0, "inf"))
 # 4,095 and the line's end are 4,096 tokens; the k-th token is at column k, and the
 # outermost interval is 0 to 0.
-case("ever deeper 4,095 times", grammar(RIGHT, EQUAL, rules=[5]), b":" * 4095, success(4095, 0, 0))
+case("ever deeper 4,095 times", deeper(EQUAL), b":" * 4095, success(4095, 0, 0))
 # Rule 0 = a, then rule 0: may only fail. It passes the check, as a sequence "whose a is", and this a
 # never succeeds reading nothing.
-case("a rule that can't end", grammar([A, call(0), seq(0, 1)], ANY, rules=[2]), b":::", FAILURE)
-case("repeat of a rule that can't end", grammar([A, call(0), seq(0, 1), repeat(2)], ANY, rules=[2]), b":::",
-     EMPTY_ANSWER)
+case("a rule that can't end", grammar("a X", ANY, rules="X = a X"), b":::", FAILURE)
+case("repeat of a rule that can't end", grammar("(a X)*", ANY, rules="X = a X"), b":::", EMPTY_ANSWER)
 # Its first part can't succeed, so it may not read nothing: the same words let it pass.
-case("a rule behind not empty", grammar([EMPTY, not_(0), call(0), seq(1, 2)], ANY, rules=[3]), b"", FAILURE)
+case("a rule behind not empty", grammar("!empty X", ANY, rules="X = !empty X"), b"", FAILURE)
 # Case j: "repeat of not-empty passes".
-case("repeat of not empty", grammar([EMPTY, not_(0), repeat(1)], ANY), b":", EMPTY_ANSWER)
+case("repeat of not empty", grammar("(!empty)*", ANY), b":", EMPTY_ANSWER)
 # "Choice: a's successes, and if a may fail all of b's facts": it reads something or fails.
-case("repeat of not empty or a", grammar([EMPTY, not_(0), A, choice(1, 2), repeat(3)], ANY), b"::",
-     success(2, 0, "inf"))
+case("repeat of not empty or a", grammar("(!empty / a)*", ANY), b"::", success(2, 0, "inf"))
 # a or empty can't fail ("if a may fail all of b's facts"), so its not has no success and may be repeated.
-case("repeat of not (a or empty)", grammar([A, EMPTY, choice(0, 1), not_(2), repeat(3)], ANY), b":",
-     EMPTY_ANSWER)
-case("repeat of not (empty or a)", grammar([EMPTY, A, choice(0, 1), not_(2), repeat(3)], ANY), b":",
-     EMPTY_ANSWER)
+case("repeat of not (a or empty)", grammar("(!(a / empty))*", ANY), b":", EMPTY_ANSWER)
+case("repeat of not (empty or a)", grammar("(!(empty / a))*", ANY), b":", EMPTY_ANSWER)
 # "something if both may succeed and one reads something": not empty can't, so the sequence may only fail, its
 # not can't fail, and not not has no success. It passes, fails when run, and the repeat has no round.
 case("repeat of not not (a, not empty)",
      grammar([EMPTY, not_(0), A, seq(2, 1), not_(3), not_(4), repeat(5)], ANY), b":", EMPTY_ANSWER)
-case("repeat of not not (not empty, a)",
-     grammar([EMPTY, not_(0), A, seq(1, 2), not_(3), not_(4), repeat(5)], ANY), b":", EMPTY_ANSWER)
+case("repeat of not not (not empty, a)", grammar("(!!(!empty a))*", ANY), b":", EMPTY_ANSWER)
 
 
 # --- Several lines: blocks of aligned lines -----------------------------------------------------------------
@@ -552,14 +502,11 @@ case("blocks to the end", steps_all, STEP_TEXT, success(20, 0, 0))
 case("blocks without the last break", steps_all, STEP_TEXT[:-1], success(20, 0, 0))
 case("blocks with empty lines", steps_all, STEP_TEXT.replace(b"\n", b"\n\n \t \n"), success(20, 0, 0))
 case("blocks with returns", steps_all, STEP_TEXT.replace(b"\n", b"\r\n"), success(20, 0, 0))
-case("blocks moved right by 4", steps_all, b"    " + STEP_TEXT[:-1].replace(b"\n", b"\n    "),
-     success(20, 4, 4))
+case("blocks moved right by 4", steps_all, b"    " + STEP_TEXT[:-1].replace(b"\n", b"\n    "), success(20, 4, 4))
 # One tab and eight blanks are the same column.
-case("blocks with tabs", steps_all,
-     b"step 1:\n\tloss: 0.5\n        loss: 0.25\nstep 2:\n \tloss: 0.1\n", success(20, 0, 0))
+case("blocks with tabs", steps_all, b"step 1:\n\tloss: 0.5\n        loss: 0.25\nstep 2:\n \tloss: 0.1\n", success(20, 0, 0))
 # Each block has its own inner column.
-case("blocks of different depth", steps_all, STEP_TEXT.replace(b"  loss: 0.1\n", b"     loss: 0.1\n"),
-     success(20, 0, 0))
+case("blocks of different depth", steps_all, STEP_TEXT.replace(b"  loss: 0.1\n", b"     loss: 0.1\n"), success(20, 0, 0))
 # The second loss isn't aligned with the first: the block ends before it, and no step follows there.
 for name, text in (("right", b"   loss: 0.25"), ("left", b" loss: 0.25"), ("at 0", b"loss: 0.25")):
     text = STEP_TEXT.replace(b"  loss: 0.25", text)
@@ -567,8 +514,7 @@ for name, text in (("right", b"   loss: 0.25"), ("left", b" loss: 0.25"), ("at 0
     case(f"second line further {name}, to the end", steps_all, text, FAILURE)
 # The first loss isn't greater than its step: the block fails, and the repeat has no round.
 case("first line not indented", steps, STEP_TEXT.replace(b"  loss: 0.5", b"loss: 0.5"), EMPTY_ANSWER)
-case("first line not indented, to the end", steps_all, STEP_TEXT.replace(b"  loss: 0.5", b"loss: 0.5"),
-     FAILURE)
+case("first line not indented, to the end", steps_all, STEP_TEXT.replace(b"  loss: 0.5", b"loss: 0.5"), FAILURE)
 # The second step must stand in 0 to 0.
 case("second block further right", steps, STEP_TEXT.replace(b"step 2", b" step 2"), success(12, 0, 0))
 case("blocks on no text", steps_all, b"", EMPTY_ANSWER)
@@ -582,36 +528,32 @@ case("a number on a line of its own", steps, STEP_TEXT.replace(b": 0.5", b":\n  
 NUMBERS = b"0 7 -1 0.03 -12.50 007 -0 1234567890.0987654321".split()
 NO_NUMBERS = b"- . -. .5 5. -5. 1.2.3 1..2 --1 +1 1e5 1-2 -.5 1.-2 0x1 1. 1a a1 1.a".split()
 NO_NUMBERS += b"\xd9\xa1 1/2 #1 1_0".split()
-case("numbers", grammar([NUMBER, repeat(0)], ANY, ()), b" ".join(NUMBERS), success(8, 0, "inf"))
+case("numbers", grammar("number*", ANY, ()), b" ".join(NUMBERS), success(8, 0, "inf"))
 for i, text in enumerate(NO_NUMBERS):
-    case(f"no number {i}", grammar([WORD], ANY, ()), text, success(1, 0, "inf"))
+    case(f"no number {i}", grammar("word", ANY, ()), text, success(1, 0, "inf"))
 # `,` is a token by itself: number, other, number.
-case("number comma number", grammar([NUMBER, WORD, seq(1, 0), seq(0, 2)], ANY, ()), b"1,5",
-     success(3, 0, "inf"))
+case("number comma number", grammar("number word number", ANY, ()), b"1,5", success(3, 0, "inf"))
 # "3 + k where .. else 0 for a number": a keyword comes first.
-case("a number that is a keyword", grammar([term(3), NUMBER, seq(0, 1)], ANY, (b"12",)), b"12 13",
-     success(2, 0, "inf"))
-case("a keyword is no number", grammar([NUMBER], ANY, (b"12",)), b"12", FAILURE)
-case("a keyword is no word", grammar([WORD], ANY, (b"loss",)), b"loss", FAILURE)
-case("012 is not the keyword 12", grammar([NUMBER], ANY, (b"12",)), b"012", success(1, 0, "inf"))
+case("a number that is a keyword", grammar("a number", ANY, (b"12",)), b"12 13", success(2, 0, "inf"))
+case("a keyword is no number", grammar("number", ANY, (b"12",)), b"12", FAILURE)
+case("a keyword is no word", grammar("word", ANY, (b"loss",)), b"loss", FAILURE)
+case("012 is not the keyword 12", grammar("number", ANY, (b"12",)), b"012", success(1, 0, "inf"))
 # "The bytes `: , ( ) [ ] = ; %` are tokens by themselves"; without a keyword each is terminal 1.
-NINE = b":,()[]=;%"
-case("nine single bytes", grammar([WORD, repeat(0)], ANY, ()), NINE, success(9, 0, "inf"))
+case("nine single bytes", grammar("word*", ANY, ()), NINE, success(9, 0, "inf"))
 case("nine single bytes as keywords",
      grammar([*(term(3 + i) for i in range(9)), seq(7, 8), *(seq(6 - i, 9 + i) for i in range(7))], ANY,
              [bytes([b]) for b in NINE]), NINE, success(9, 0, "inf"))
-case("single bytes inside words", grammar([WORD, repeat(0)], ANY, ()), b"a:b,c(d)e[f]g=h;i%j",
-     success(19, 0, "inf"))
+case("single bytes inside words", grammar("word*", ANY, ()), b"a:b,c(d)e[f]g=h;i%j", success(19, 0, "inf"))
 # "other tokens are longest runs of the remaining bytes": 94 from 33 to 126 less nine, and 128 from 128 on.
 RUN = bytes(b for b in range(33, 256) if b != 127 and b not in NINE)
 # The line's end "at the column and offset of the break or the end", in mode equal.
 END_COLUMN = [WORD, END, position(0, ANY), seq(2, 1)]
 case("one run of all other bytes", grammar(END_COLUMN, EQUAL, ()), RUN, success(2, 213, 213))
-case("keyword at the front of a run", grammar([term(3)], ANY, LOSS), b"lossy", FAILURE)
-case("keyword at the end of a run", grammar([term(3)], ANY, LOSS), b"-loss", FAILURE)
-case("keyword before a full stop", grammar([term(3)], ANY, LOSS), b"loss.", FAILURE)
-case("keyword before a single byte", grammar([term(3)], ANY, LOSS), b"loss=", success(1, 0, "inf"))
-case("part of a keyword", grammar([term(3)], ANY, LOSS), b"los", FAILURE)
+case("keyword at the front of a run", grammar("a", ANY, LOSS), b"lossy", FAILURE)
+case("keyword at the end of a run", grammar("a", ANY, LOSS), b"-loss", FAILURE)
+case("keyword before a full stop", grammar("a", ANY, LOSS), b"loss.", FAILURE)
+case("keyword before a single byte", grammar("a", ANY, LOSS), b"loss=", success(1, 0, "inf"))
+case("part of a keyword", grammar("a", ANY, LOSS), b"los", FAILURE)
 for name, text, column in (
     ("no break", b"abc", 3), ("a break", b"abc\n", 3), ("a blank", b"abc \n", 4), ("a return", b"abc\r\n", 4),
     ("a tab", b"abc\t", 8), ("a tab and a break", b"abc\t\n", 8), ("blanks in front", b"\n\n  abc", 5),
@@ -628,31 +570,27 @@ for name, text, column in (
     ("a break and 2", b"\t\n  ", 2),
     ("a tab and a break", b"\t\n", 0), ("breaks and a tab", b"\n\n\t", 8),
 ):
-    case(f"column behind {name}", grammar([WORD], EQUAL, ()), text + b"w", success(1, column, column))
-    case(f"column behind {name} mode at least", grammar([WORD], AT_LEAST, ()), text + b"w",
-         success(1, 0, column))
-case("column behind a token and a tab", grammar([A, WORD, position(0, ANY), seq(2, 1)], EQUAL), b" :\tw",
-     success(2, 8, 8))
+    case(f"column behind {name}", grammar("word", EQUAL, ()), text + b"w", success(1, column, column))
+    case(f"column behind {name} mode at least", grammar("word", AT_LEAST, ()), text + b"w", success(1, 0, column))
+case("column behind a token and a tab", grammar("a_any word", EQUAL, leaves="a word"), b" :\tw", success(2, 8, 8))
 # One line end for each line with a token, none for the others: x end y end.
-case("line ends", grammar([WORD, END, seq(0, 1), repeat(2)], ANY), b"\nx\n\n \t\n  y  \n\n",
-     success(4, 0, "inf"))
-case("no line end between two words", grammar([WORD, repeat(0)], ANY), b"x y z\n", success(3, 0, "inf"))
-SECOND = [WORD, END, seq(0, 1), position(2, ANY), seq(3, 0)]
-case("column on a second line", grammar(SECOND, EQUAL), b"abc\n  d", success(3, 2, 2))
-case("column below lines without a token", grammar(SECOND, EQUAL), b"abc\n\n \t\n    d", success(3, 4, 4))
+case("line ends", grammar("(word end)*", ANY), b"\nx\n\n \t\n  y  \n\n", success(4, 0, "inf"))
+case("no line end between two words", grammar("word*", ANY), b"x y z\n", success(3, 0, "inf"))
+case("column on a second line", grammar("(word end)_any word", EQUAL), b"abc\n  d", success(3, 2, 2))
+case("column below lines without a token", grammar("(word end)_any word", EQUAL), b"abc\n\n \t\n    d", success(3, 4, 4))
 
 
 # --- Numbers of several digits in the line ------------------------------------------------------------------
 
 # n single bytes and the line's end.
-COUNT = grammar([A, END, choice(0, 1), repeat(2)], ANY)
+COUNT = grammar("(a / end)*", ANY)
 for n in (8, 9, 98, 99, 998, 999, 4094, 4095):
     case(f"{n:,} tokens and a line end", COUNT, b":" * n, success(n + 1, 0, "inf"))
 # A word at column c: 0 to c - 1 in mode greater, c to c in mode equal.
 for column in (9, 10, 11, 99, 100, 101, 1000, 1001, 9999, 10000, 10001):
     text = b" " * column + b"w"
-    case(f"column {column:,} mode greater", grammar([WORD], GREATER), text, success(1, 0, column - 1))
-    case(f"column {column:,} mode equal", grammar([WORD], EQUAL), text, success(1, column, column))
+    case(f"column {column:,} mode greater", grammar("word", GREATER), text, success(1, 0, column - 1))
+    case(f"column {column:,} mode equal", grammar("word", EQUAL), text, success(1, column, column))
 
 
 # --- The largest columns ------------------------------------------------------------------------------------
@@ -663,59 +601,53 @@ for column in (9, 10, 11, 99, 100, 101, 1000, 1001, 9999, 10000, 10001):
 HIGH = b"\t" * 8191 + b" " * 6 + b"w"
 for name, mode, ends in (("equal", EQUAL, (65534, 65534)), ("greater", GREATER, (0, 65533)),
                          ("at least", AT_LEAST, (0, 65534)), ("any", ANY, (0, "inf"))):
-    case(f"column 65,534 mode {name}", grammar([WORD], mode), HIGH, success(1, *ends))
+    case(f"column 65,534 mode {name}", grammar("word", mode), HIGH, success(1, *ends))
 # The line's end at 65,535, behind a word in mode any. The largest ends that a line can show: lower 65,535
 # (equal), upper 65,534 (greater, h-1) and 65,535 (at least, equal). A lower end over 65,535 is never shown:
 # outside of all indents only equal and align raise it, to a column.
 for name, mode, ends in (("equal", EQUAL, (65535, 65535)), ("greater", GREATER, (0, 65534)),
                          ("at least", AT_LEAST, (0, 65535)), ("any", ANY, (0, "inf"))):
     case(f"column 65,535 mode {name}", grammar(END_COLUMN, mode), HIGH, success(2, *ends))
-case("column 65,535 under align", grammar([WORD, END, position(0, ANY), align(1), seq(2, 3)], ANY), HIGH,
-     success(2, 65535, 65535))
+case("column 65,535 under align", grammar("word_any [end]", ANY, leaves="word end"), HIGH, success(2, 65535, 65535))
 case("column 65,535 under indent greater",
-     grammar([WORD, END, position(0, ANY), seq(2, 1), indent(3)], EQUAL), HIGH, success(2, 0, 65534))
+     grammar("(word_any end)^>", EQUAL, leaves="word end"), HIGH, success(2, 0, 65534))
 # 65,528 and seven bytes more.
-case("a run up to column 65,535", grammar(END_COLUMN, EQUAL), b"\t" * 8191 + b"w" * 7,
-     success(2, 65535, 65535))
+case("a run up to column 65,535", grammar(END_COLUMN, EQUAL), b"\t" * 8191 + b"w" * 7, success(2, 65535, 65535))
 # `w` at 0 and the line's end at 65,535: 8,191 tabs and 7 blanks.
 FAR = b"w" + b"\t" * 8191 + b" " * 7
 case("line end at 65,535 behind tabs", grammar(END_COLUMN, EQUAL), FAR, success(2, 65535, 65535))
 # Two such lines: the first end makes 65,535 to 65,535. "Capping the lower end at 65,535 .."
 FAR2 = FAR + b"\n" + FAR
-FIRST = [WORD, END, position(0, ANY), seq(2, 1)]
+
+
+def second(expression):
+    """The first line, its word in mode any and its end in mode equal, then the expression."""
+    return grammar(f"(word_any end) {expression}", EQUAL, leaves="word end")
+
+
 # Under greater 65,536 on: the word matches in mode any, the end at 65,535 not in mode equal.
-case("second line under greater", grammar([*FIRST, indent(3), seq(3, 4)], EQUAL), FAR2, FAILURE)
+case("second line under greater", second("(word_any end)^>"), FAR2, FAILURE)
 # Under at least and equal 65,535 on or only; under any 0 on. The end makes 65,535 to 65,535.
-for name, relation in (("equal", EQUAL), ("at least", AT_LEAST), ("any", ANY)):
-    case(f"second line under {name}", grammar([*FIRST, indent(3, relation), seq(3, 4)], EQUAL), FAR2,
-         success(4, 65535, 65535))
+for name, sign in (("equal", "="), ("at least", ">="), ("any", "any")):
+    case(f"second line under {name}", second(f"(word_any end)^{sign}"), FAR2, success(4, 65535, 65535))
 # 65,536 on, all in mode any: both match; out "0 on, without end" met with 65,535 to 65,535.
-case("second line under greater in mode any",
-     grammar([*FIRST, position(3, ANY), indent(4), seq(3, 5)], EQUAL), FAR2, success(4, 65535, 65535))
-case("second line under greater twice in mode any",
-     grammar([*FIRST, position(3, ANY), indent(4), indent(5), seq(3, 6)], EQUAL), FAR2,
-     success(4, 65535, 65535))
+case("second line under greater in mode any", second("(word_any end)_any^>"), FAR2, success(4, 65535, 65535))
+case("second line under greater twice in mode any", second("(word_any end)_any^>^>"), FAR2, success(4, 65535, 65535))
 # 506 indents: from 66,041 on.
 case("second line under 506 indents in mode any",
-     grammar([*FIRST, position(3, ANY), *(indent(i) for i in range(4, 510)), seq(3, 510)], EQUAL), FAR2,
-     success(4, 65535, 65535))
+     grammar([*over([*END_COLUMN, position(3, ANY)], indent, 511), seq(3, 510)], EQUAL), FAR2, success(4, 65535, 65535))
 # The end at 65,535 isn't at least 65,536, nor greater.
-for name, mode in (("at least", AT_LEAST), ("greater", GREATER)):
-    case(f"second line under greater in mode {name}",
-         grammar([*FIRST, position(1, mode), seq(2, 4), indent(5), seq(3, 6)], EQUAL), FAR2, FAILURE)
+for name, sign in (("at least", ">="), ("greater", ">")):
+    case(f"second line under greater in mode {name}", second(f"(word_any end_{sign})^>"), FAR2, FAILURE)
 # The aligned word must lie in 65,536 on.
-case("second line aligned under greater", grammar([*FIRST, align(2), indent(4), seq(3, 5)], EQUAL), FAR2,
-     FAILURE)
+case("second line aligned under greater", second("[word_any]^>"), FAR2, FAILURE)
 # The word in mode any, then not the end in mode equal.
-case("second line under greater and no end",
-     grammar([*FIRST, not_(1), seq(2, 4), indent(5), seq(3, 6)], EQUAL), FAR2, success(3, 65535, 65535))
-case("empty under greater behind 65,535", grammar([*FIRST, EMPTY, indent(4), seq(3, 5)], EQUAL), FAR2,
-     success(2, 65535, 65535))
+case("second line under greater and no end", second("(word_any !end)^>"), FAR2, success(3, 65535, 65535))
+case("empty under greater behind 65,535", second("empty^>"), FAR2, success(2, 65535, 65535))
 # The second end in mode greater without an indent: "l+1 on" is 65,536 on.
-case("second line in mode greater", grammar([*FIRST, position(3, GREATER), seq(3, 4)], EQUAL), FAR2, FAILURE)
+case("second line in mode greater", second("(word_any end)_>"), FAR2, FAILURE)
 # The same in mode at least: 65,535 is in "l on".
-case("second line end in mode at least",
-     grammar([*FIRST, position(1, AT_LEAST), seq(2, 4), seq(3, 5)], EQUAL), FAR2, success(4, 65535, 65535))
+case("second line end in mode at least", second("word_any end_>="), FAR2, success(4, 65535, 65535))
 
 
 # --- Refused by 1: the file's fields ------------------------------------------------------------------------
@@ -780,8 +712,8 @@ for name, file in (
 # "At most 253 keywords": with 253 the last one is terminal 255.
 K253 = [b"k%d" % i for i in range(253)]
 case("253 keywords and the last", grammar([term(255)], EQUAL, K253), b"  k252", success(1, 2, 2))
-case("253 keywords and the first", grammar([term(3)], EQUAL, K253), b"  k0", success(1, 2, 2))
-case("253 keywords and another word", grammar([WORD], EQUAL, K253), b"  k253", success(1, 2, 2))
+case("253 keywords and the first", grammar("a", EQUAL, K253), b"  k0", success(1, 2, 2))
+case("253 keywords and another word", grammar("word", EQUAL, K253), b"  k253", success(1, 2, 2))
 case("254 keywords", grammar([term(255)], EQUAL, [*K253, b"k253"]), b"  k252", refused(1))
 case("254 keywords, the last twice", grammar([term(255)], EQUAL, [*K253, b"k252"]), b"  k252", refused(1))
 case("254 keywords, the first broken", grammar([term(255)], EQUAL, [b"a b", *K253]), b"  k252", refused(1))
@@ -814,13 +746,12 @@ BAD = (
 )
 for name, spelling in BAD:
     case(f"keyword of {name}", with_keywords(spelling), EXAMPLE, refused(2))
-    case(f"rule name of {name}", VERSION + rule(0, spelling) + TAIL, EXAMPLE, refused(2))
+    case(f"rule name of {name}", with_names(spelling), EXAMPLE, refused(2))
 for byte in NINE:
     case(f"keyword x and byte {byte}", with_keywords(b"x" + bytes([byte])), EXAMPLE, refused(2))
     case(f"keyword of byte {byte} twice", with_keywords(bytes([byte, byte])), EXAMPLE, refused(2))
     # Only keywords have that rule.
-    case(f"rule name x and byte {byte}", VERSION + rule(0, b"x" + bytes([byte])) + TAIL, EXAMPLE,
-         EMPTY_ANSWER)
+    case(f"rule name x and byte {byte}", with_names(b"x" + bytes([byte])), EXAMPLE, EMPTY_ANSWER)
 case("keyword twice", with_keywords(b"loss", b":", b"loss"), EXAMPLE, refused(2))
 case("single byte keyword twice", with_keywords(b":", b":"), EXAMPLE, refused(2))
 case("rule name twice", VERSION + R0 + rule(0, b"r1") + R0 + TAIL, EXAMPLE, refused(2))
@@ -834,16 +765,14 @@ for name, spelling in (
     ("32 bytes", b"x" * 32), ("byte 33", b"!"), ("byte 126", b"~"), ("bytes over 127", b"\x80\xc3\xa9\xff"),
     ("1 byte", b"q"), ("digits", b"-1.50"),
 ):
-    case(f"keyword that passes, {name}", grammar([term(3)], EQUAL, (spelling,)), b" " + spelling,
-         success(1, 1, 1))
-    case(f"rule name that passes, {name}", VERSION + rule(0, spelling) + TAIL, b"", EMPTY_ANSWER)
+    case(f"keyword that passes, {name}", grammar("a", EQUAL, (spelling,)), b" " + spelling, success(1, 1, 1))
+    case(f"rule name that passes, {name}", with_names(spelling), b"", EMPTY_ANSWER)
 # Keywords that differ only in the last byte, or by one byte more.
-case("keywords alike up to the last byte", grammar([term(4)], ANY, (b"x" * 32, b"x" * 31 + b"y")),
+case("keywords alike up to the last byte", grammar("b", ANY, (b"x" * 32, b"x" * 31 + b"y")),
      b"x" * 31 + b"y", success(1, 0, "inf"))
-case("keyword one byte longer than another", grammar([term(4)], ANY, (b"los", b"loss")), b"loss",
-     success(1, 0, "inf"))
-case("keyword one byte shorter than another", grammar([term(4)], ANY, (b"loss", b"los")), b"loss", FAILURE)
-case("33 bytes are not the keyword of 32", grammar([term(3)], ANY, (b"x" * 32,)), b"x" * 33, FAILURE)
+case("keyword one byte longer than another", grammar("b", ANY, (b"los", b"loss")), b"loss", success(1, 0, "inf"))
+case("keyword one byte shorter than another", grammar("b", ANY, (b"loss", b"los")), b"loss", FAILURE)
+case("33 bytes are not the keyword of 32", grammar("a", ANY, (b"x" * 32,)), b"x" * 33, FAILURE)
 
 
 # --- Refused by 3: counts -----------------------------------------------------------------------------------
@@ -860,31 +789,26 @@ case("513 nodes, start at the last", grammar([EMPTY] * 513, ANY), EXAMPLE, refus
 case("513 nodes, start at the first", grammar([EMPTY] * 513, ANY, first=0), EXAMPLE, refused(3))
 case("1,024 nodes", grammar([EMPTY] * 1024, ANY), EXAMPLE, refused(3))
 # 511 indents under greater: from 511 on. w600: 600 to 600, out 511 times h-1: 89. w511: 0. w510 is outside.
-NEST = grammar([WORD, *(indent(i) for i in range(511))], EQUAL)
+NEST = grammar(over([WORD], indent), EQUAL)
 case("511 indents and column 600", NEST, b" " * 600 + b"w", success(1, 0, 89))
 case("511 indents and column 511", NEST, b" " * 511 + b"w", success(1, 0, 0))
 case("511 indents and column 510", NEST, b" " * 510 + b"w", FAILURE)
 # The same chain from node 258: 258 indents. 300 - 258 = 42.
-case("258 indents and column 300", grammar([WORD, *(indent(i) for i in range(511))], EQUAL, first=258),
-     b" " * 300 + b"w", success(1, 0, 42))
+case("258 indents and column 300", grammar(over([WORD], indent), EQUAL, first=258), b" " * 300 + b"w", success(1, 0, 42))
 # 128 rules: node i is rule i + 1, node 127 a word, rule i stands for node i.
 CHAIN = [*(call(i + 1) for i in range(127)), WORD]
-case("128 rules, one through the other", grammar(CHAIN, AT_LEAST, rules=range(128), first=0), b"  w",
-     success(1, 0, 2))
-case("128 rules, from the last", grammar([*CHAIN, call(127)], AT_LEAST, rules=range(128)), b"  w",
-     success(1, 0, 2))
+case("128 rules, one through the other", grammar(CHAIN, AT_LEAST, rules=range(128), first=0), b"  w", success(1, 0, 2))
+case("128 rules, from the last", grammar([*CHAIN, call(127)], AT_LEAST, rules=range(128)), b"  w", success(1, 0, 2))
 case("129 rules", grammar(CHAIN, AT_LEAST, rules=[*range(128), 0], first=0), b"  w", refused(3))
 case("129 rules for one node", grammar([EMPTY], ANY, rules=[0] * 129), b"  w", refused(3))
 case("128 rules for one node", grammar([EMPTY], ANY, rules=[0] * 128), b"  w", EMPTY_ANSWER)
-case("129 rules and no node", VERSION + b"".join(rule(0, b"r%d" % i) for i in range(129)) + START, EXAMPLE,
+case("129 rules and no node", VERSION + grammar_fields.rules((0, b"r%d" % i) for i in range(129)) + START, EXAMPLE,
      refused(3))
 # The longest file that passes: 4 + 253 * 35 + 128 * 37 + 512 * 9 + 6 = 18,209 bytes.
-LONGEST = (
-    VERSION
-    + b"".join(keyword(b"the-keyword-of-32-bytes-no-%05d" % i) for i in range(253))
-    + b"".join(rule(511, b"the-rule-name-of-32-bytes-no-%03d" % i) for i in range(128))
-    + fields([term(255)] * 512)
-    + start(511, GREATER)
+LONGEST = grammar_fields.file(
+    [term(255)] * 512, 511, GREATER,
+    [b"the-keyword-of-32-bytes-no-%05d" % i for i in range(253)],
+    [(511, b"the-rule-name-of-32-bytes-no-%03d" % i) for i in range(128)],
 )
 assert len(LONGEST) == 18209
 case("longest file that passes", LONGEST, b"    the-keyword-of-32-bytes-no-00252", success(1, 0, 3))
@@ -927,8 +851,7 @@ case("node 0 a repeat of 0", grammar([repeat(0)], ANY, ()), EXAMPLE, refused(4))
 case("node 0 a sequence of 0 and 0", grammar([seq(0, 0)], ANY, ()), EXAMPLE, refused(4))
 # There is no rule 0.
 case("node 0 a rule and no rule", grammar([call(0)], ANY, ()), EXAMPLE, refused(4))
-case("only the last of 512 nodes bad", grammar([EMPTY] * 511 + [term(256)], ANY, first=0), EXAMPLE,
-     refused(4))
+case("only the last of 512 nodes bad", grammar([EMPTY] * 511 + [term(256)], ANY, first=0), EXAMPLE, refused(4))
 # Terminal 255 may stand in a table with fewer keywords: no token has it.
 case("terminal 255 without keywords", grammar([term(255)], ANY, ()), EXAMPLE, FAILURE)
 
@@ -943,10 +866,9 @@ case("rule node 256", grammar([EMPTY, EMPTY], ANY, (), [256]), EXAMPLE, refused(
 case("rule node 512 of 512", grammar([EMPTY] * 512, ANY, (), [512]), EXAMPLE, refused(5))
 case("rule node 511 of 512", grammar([EMPTY] * 512, ANY, (), [511]), EXAMPLE, EMPTY_ANSWER)
 for first, count in ((1, 1), (2, 2), (256, 2), (512, 512), (65535, 1)):
-    case(f"start node {first:,} of {count}", grammar([EMPTY] * count, ANY, (), first=first), EXAMPLE,
-         refused(5))
+    case(f"start node {first:,} of {count}", grammar([EMPTY] * count, ANY, (), first=first), EXAMPLE, refused(5))
 for mode in (4, 35, 128, 255):
-    case(f"start mode {mode}", grammar([EMPTY], mode, ()), EXAMPLE, refused(5))
+    case(f"start mode {mode}", grammar("empty", mode, ()), EXAMPLE, refused(5))
 
 
 # --- Refused by 7: well formed ------------------------------------------------------------------------------
@@ -1012,10 +934,8 @@ for label, nodes, rules, bad in (
     # if it may fail"), x or empty ("if a may fail"), x then a ("a may succeed and b fail"). So a followed by
     # one of them may only fail, its not can't fail, not not can't succeed, and the repeat of that, rule 1,
     # passes with node 0; node 1 doesn't.
-    ("facts of a repeat of x", [call(1), call(0), repeat(1), A, seq(3, 2), not_(4), not_(5), repeat(6)],
-     [1, 7], 1),
-    ("facts of x or empty",
-     [call(1), call(0), EMPTY, choice(1, 2), A, seq(4, 3), not_(5), not_(6), repeat(7)], [1, 8], 1),
+    ("facts of a repeat of x", [call(1), call(0), repeat(1), A, seq(3, 2), not_(4), not_(5), repeat(6)], [1, 7], 1),
+    ("facts of x or empty", [call(1), call(0), EMPTY, choice(1, 2), A, seq(4, 3), not_(5), not_(6), repeat(7)], [1, 8], 1),
     ("facts of a repeat of (x, a)",
      [call(1), call(0), A, seq(1, 2), repeat(3), seq(2, 4), not_(5), not_(6), repeat(7)], [1, 8], 1),
     # Rule 0 = a or rule 0 may read something, never nothing, and not fail. "Repeat: something if the child
@@ -1028,8 +948,7 @@ for label, nodes, rules, bad in (
     case(f"not well formed, {label}", grammar(nodes, EQUAL, KEYS, rules, first=0), b":", refused(7, bad))
 for number in (9, 10, 99, 100, 256, 511):
     # The repeat of empty is the last node.
-    case(f"not well formed, node {number}", grammar([EMPTY] * number + [repeat(0)], ANY, ()), b"",
-         refused(7, number))
+    case(f"not well formed, node {number}", grammar([EMPTY] * number + [repeat(0)], ANY, ()), b"", refused(7, number))
 
 
 # --- Refused by 8: the text ---------------------------------------------------------------------------------
@@ -1046,7 +965,7 @@ for name, text in (
     ("on a last line", EXAMPLE + b"\n\n\n \x0c"), ("form feed between", b"loss\x0c: 0.03"),
 ):
     case(f"refused byte {name}", loss_file(GREATER), text, refused(8))
-case("refused byte where the grammar fails", grammar([A], ANY), b"word\x7f", refused(8))
+case("refused byte where the grammar fails", grammar("a", ANY), b"word\x7f", refused(8))
 # "a report of at most 65,535 bytes". Blanks, tabs (column 524,280, but no token), breaks: no tokens.
 for name, byte in (("blanks", b" "), ("tabs", b"\t"), ("breaks", b"\n"), ("returns", b"\r")):
     case(f"65,535 {name}", NOTHING, byte * 65535, EMPTY_ANSWER)
@@ -1057,11 +976,9 @@ case("a word of 65,536 bytes", grammar(END_COLUMN, EQUAL), b"w" * 65536, refused
 case("65,534 blanks and a word", grammar(END_COLUMN, AT_LEAST), b" " * 65534 + b"w", success(2, 0, 65535))
 case("65,535 blanks and a word", grammar(END_COLUMN, AT_LEAST), b" " * 65535 + b"w", refused(8))
 # A number of 65,535 digits.
-case("a number of 65,535 digits", grammar([NUMBER], AT_LEAST), b"7" * 65535, success(1, 0, 0))
-case("a word before 65,534 breaks", grammar([WORD, END, seq(0, 1)], AT_LEAST), b"w" + b"\n" * 65534,
-     success(2, 0, 0))
-case("65,534 breaks and a word", grammar([WORD, END, seq(0, 1)], AT_LEAST), b"\n" * 65534 + b"w",
-     success(2, 0, 0))
+case("a number of 65,535 digits", grammar("number", AT_LEAST), b"7" * 65535, success(1, 0, 0))
+case("a word before 65,534 breaks", grammar("word end", AT_LEAST), b"w" + b"\n" * 65534, success(2, 0, 0))
+case("65,534 breaks and a word", grammar("word end", AT_LEAST), b"\n" * 65534 + b"w", success(2, 0, 0))
 case("65,534 blanks and a byte 0", NOTHING, b" " * 65534 + b"\x00", refused(8))
 case("a text of 65,536 zeros", NOTHING, bytes(65536), refused(8))
 case("a text of 131,072 blanks", NOTHING, b" " * 131072, refused(8))
@@ -1074,7 +991,7 @@ case("8,192 tabs and a word", NOTHING, b"\t" * 8192 + b"a", refused(9))
 case("8,192 tabs and a number", loss_file(ANY), b"\t" * 8192 + b"0.03", refused(9))
 # No token, no refusal; and the next line starts at 0.
 case("8,192 tabs", NOTHING, b"\t" * 8192, EMPTY_ANSWER)
-case("8,192 tabs, a break and a word", grammar([WORD], EQUAL), b"\t" * 8192 + b"\n  a", success(1, 2, 2))
+case("8,192 tabs, a break and a word", grammar("word", EQUAL), b"\t" * 8192 + b"\n  a", success(1, 2, 2))
 # The word is at 65,535, but its line's end is a token at 65,536.
 case("a word at column 65,535", NOTHING, b"\t" * 8191 + b" " * 7 + b"a", refused(9))
 case("a run to column 65,536", NOTHING, b"\t" * 8191 + b"a" * 8, refused(9))
@@ -1091,13 +1008,13 @@ case("a word, a break and 8,192 tabs", grammar(END_COLUMN, EQUAL), b"a\n" + b"\t
 case("65,534 tabs and a word", NOTHING, b"\t" * 65534 + b"a", refused(9))
 case("a word and 65,534 tabs", NOTHING, b"a" + b"\t" * 65534, refused(9))
 # Also where the grammar fails at the first token.
-case("column too high where the grammar fails", grammar([A], ANY), b"word" + b"\t" * 8192, refused(9))
+case("column too high where the grammar fails", grammar("a", ANY), b"word" + b"\t" * 8192, refused(9))
 
 
 # --- Refused by 10: tokens ----------------------------------------------------------------------------------
 
 # "4,096 tokens are read, 4,097 refused."
-BOTH = grammar([WORD, END, choice(0, 1), repeat(2)], ANY)
+BOTH = grammar("(word / end)*", ANY)
 case("4,096 single bytes", COUNT, b":" * 4096, refused(10))
 case("4,096 single bytes, read by nothing", NOTHING, b":" * 4096, refused(10))
 case("4,095 single bytes, read by nothing", NOTHING, b":" * 4095, EMPTY_ANSWER)
@@ -1111,26 +1028,20 @@ case("2,047 lines and two words", BOTH, b"a\n" * 2047 + b"a a", refused(10))
 case("2,049 lines", BOTH, b"a\n" * 2049, refused(10))
 # Blanks and breaks behind the 4,096th token are no tokens.
 case("2,048 lines and blanks", BOTH, b"a\n" * 2048 + b" \n\t\n ", success(4096, 0, "inf"))
-case("2,048 lines mode at least", grammar([WORD, END, choice(0, 1), repeat(2)], AT_LEAST), b"a\n" * 2048,
-     success(4096, 0, 0))
+case("2,048 lines mode at least", grammar("(word / end)*", AT_LEAST), b"a\n" * 2048, success(4096, 0, 0))
 # Each word at 3, the ends in mode any.
-case("2,048 lines at column 3", grammar([WORD, END, position(1, ANY), seq(0, 2), repeat(3)], EQUAL),
-     b"   a\n" * 2048, success(4096, 3, 3))
-case("2,048 aligned lines at column 3", grammar([WORD, END, seq(0, 1), align(2), repeat(3)], GREATER),
-     b"   a\n" * 2048, success(4096, 3, 3))
+case("2,048 lines at column 3", grammar("(word end_any)*", EQUAL), b"   a\n" * 2048, success(4096, 3, 3))
+case("2,048 aligned lines at column 3", grammar("[word end]*", GREATER), b"   a\n" * 2048, success(4096, 3, 3))
 case("4,095 words", BOTH, b"w " * 4095, success(4096, 0, "inf"))
 case("4,096 words", BOTH, b"w " * 4096, refused(10))
 case("4,096 numbers", NOTHING, b"7 " * 4096, refused(10))
 # Columns to 65,534 and a line's end at 65,535 are in order; the number of tokens isn't.
 case("65,535 single bytes", COUNT, b":" * 65535, refused(10))
 case("32,767 lines", BOTH, b"a\n" * 32767, refused(10))
-case("too many tokens where the grammar fails", grammar([A], ANY), b"w " * 4096, refused(10))
+case("too many tokens where the grammar fails", grammar("a", ANY), b"w " * 4096, refused(10))
 # All of 4,096 tokens read, then one more is asked for: "A terminal also fails at the token count".
-case("4,096 tokens and one more wanted", grammar([WORD, END, choice(0, 1), repeat(2), seq(3, 1)], ANY),
-     b"a\n" * 2048, FAILURE)
-case("4,096 tokens and no more wanted",
-     grammar([WORD, END, choice(0, 1), repeat(2), not_(2), seq(3, 4)], ANY),
-     b"a\n" * 2048, success(4096, 0, "inf"))
+case("4,096 tokens and one more wanted", grammar("(word / end)* end", ANY), b"a\n" * 2048, FAILURE)
+case("4,096 tokens and no more wanted", grammar("(word / end)* !(word / end)", ANY), b"a\n" * 2048, success(4096, 0, "inf"))
 
 
 # --- Several at once ----------------------------------------------------------------------------------------
@@ -1157,7 +1068,7 @@ FILES = (
     (3, "only", VERSION + EMPTY_FIELD * 513 + START, refused(3)),
     (3, "and 4", VERSION + EMPTY_FIELD * 512 + BAD_NODE + START, refused(3)),
     (3, "and 5", VERSION + START, refused(3)),
-    (3, "and 5 by a rule", VERSION + b"".join(rule(9, b"r%d" % i) for i in range(129)) + TAIL, refused(3)),
+    (3, "and 5 by a rule", VERSION + grammar_fields.rules((9, b"r%d" % i) for i in range(129)) + TAIL, refused(3)),
     (3, "and 7", VERSION + EMPTY_FIELD * 512 + node(6) + START, refused(3)),
     (4, "only", VERSION + BAD_NODE + START, refused(4)),
     (4, "and 5 by the start", VERSION + BAD_NODE + start(1, 0), refused(4)),
@@ -1176,12 +1087,8 @@ FILES = (
     (7, "at an unreachable node", VERSION + EMPTY_FIELD * 3 + node(6, 2) + START, refused(7, 3)),
 )
 # A text in order, and texts refused by 8 (a byte, the length), by 9 and by 10.
-TEXTS = (
-    ("a text in order", EXAMPLE), ("a byte of 8", b"\x00"),
-)
-MORE_TEXTS = (
-    ("no text", b""), ("a length of 8", b" " * 65536), ("9", b"\t" * 8192 + b"a"), ("10", b":" * 4096),
-)
+TEXTS = (("a text in order", EXAMPLE), ("a byte of 8", b"\x00"))
+MORE_TEXTS = (("no text", b""), ("a length of 8", b" " * 65536), ("9", b"\t" * 8192 + b"a"), ("10", b":" * 4096))
 # The file's number is lower than the text's, so its line holds whatever the text is. The first two texts go
 # with each file, the others with the first file of each number.
 for name, text in TEXTS:
@@ -1195,8 +1102,7 @@ for name, text in MORE_TEXTS:
             case(f"{number} {kind}, with {name}", file, text, line)
 # Both inputs over length; the file just within it.
 case("a file and a text of 65,536 bytes", VERSION + keyword(b"abc") + MANY_NODES, b" " * 65536, refused(1))
-case("a file of 65,535 and a text of 65,536 bytes", VERSION + keyword(b"ab") + MANY_NODES, b" " * 65536,
-     refused(3))
+case("a file of 65,535 and a text of 65,536 bytes", VERSION + keyword(b"ab") + MANY_NODES, b" " * 65536, refused(3))
 # 8 before 9 and 10, whatever comes first in the text.
 case("8 by a byte behind 9", NOTHING, b"\t" * 8192 + b"a\x00", refused(8))
 case("8 by a byte before 9", NOTHING, b"\x00" + b"\t" * 8192 + b"a", refused(8))
@@ -1222,32 +1128,8 @@ case("4,096 tokens and a line end at 65,536", COUNT, b"\t" * 7680 + b":" * 4096,
 case("4,096 tokens and a line end at 65,535", COUNT, b"\t" * 7679 + b" " * 7 + b":" * 4096, refused(10))
 # Each before a failure or a success of the grammar: nothing runs.
 case("7 where the start would succeed", VERSION + EMPTY_FIELD + node(6) + start(0, 0), EXAMPLE, refused(7, 1))
-case("7 where the start would fail", VERSION + fields([A, EMPTY, repeat(1)]) + start(0, 0), EXAMPLE,
-     refused(7, 2))
-
-
-def three(number):
-    return number.to_bytes(3, "big")
-
-
-def main():
-    data, lines, labels = bytearray(), [], set()
-    file_before = report_before = b""
-    for label, file, report, line in CASES:
-        name = label.encode()
-        assert label == label.lower() and len(name) < 100 and label not in labels, label
-        labels.add(label)
-        file_numbers, file_bytes = stored(file_before, file, 100, DISTANCES)
-        report_numbers, report_bytes = stored(report_before, report, 100, DISTANCES)
-        data += bytes([len(name)]) + b"".join(map(three, file_numbers + report_numbers))
-        data += name + file_bytes + report_bytes
-        lines.append(f"{label}: {line}\n")
-        file_before, report_before = file, report
-    out = ROOT / "crates" / "line_cases"
-    (out / "data").mkdir(parents=True, exist_ok=True)
-    (out / "data" / "cases").write_bytes(bytes(data))
-    (out / "stdout").write_bytes("".join(lines).encode())
+case("7 where the start would fail", grammar([A, EMPTY, repeat(1)], EQUAL, (), first=0), EXAMPLE, refused(7, 2))
 
 
 if __name__ == "__main__":
-    main()
+    CASES.write()

@@ -1,183 +1,82 @@
-"""Runs taken from published papers on indentation-sensitive grammars.
-
-Writes crates/published/data/cases (records) and crates/published/stdout (the expected lines).
-With --table it prints the table of runs for the docs instead.
+#!/usr/bin/env python3
+"""Writes the runs taken from published papers on indentation-sensitive grammars, the lines of the program published
+(README.md), and docs/PUBLISHED.md.
 
 Every expected line was worked by hand from the clauses of 001 (Nestra 2017) as 01 states them;
 the comment above a run gives the steps. "l..h" is an interval, "l.." has no upper end, N is 0.. .
 "flag: i..i" is a terminal under a set flag; "in" and "out" are an indent's way in and way out.
-A record is a header of 29 bytes, the label and three parts; all numbers are high byte first.
 """
 
-import pathlib
-import re
-import sys
-
 import grammar_fields
-import table_nodes
+from expressions import Table, al, alt, ind, named_columns, no, opt, plus, pos, r, seq, star, t, written, written_rules
+from records import Cases, begin, wide, write
+from table_nodes import ANY, flat
+from table_nodes import AT_LEAST as GE
+from table_nodes import EQUAL as EQ
+from table_nodes import GREATER as GT
 
-EQ, GT, GE, ANY = 0, 1, 2, 3
-EPS = ("empty",)
+CASES = Cases("published")
+ROWS = []
 
-
-def t(number):
-    return ("terminal", number)
-
-
-def r(name):
-    return ("rule", name)
-
-
-def seq(first, *rest):
-    """A sequence, grouped to the right."""
-    return ("seq", first, seq(*rest)) if rest else first
-
-
-def alt(first, *rest):
-    """An ordered choice, grouped to the right."""
-    return ("choice", first, alt(*rest)) if rest else first
-
-
-def no(e):
-    return ("not", e)
-
-
-def star(e):
-    return ("repeat", e)
-
-
-def plus(e):
-    return seq(e, star(e))
-
-
-def opt(e):
-    return alt(e, EPS)
-
-
-def ind(relation, e):
-    return ("indent", relation, e)
-
-
-def pos(relation, e):
-    return ("position", relation, e)
-
-
-def al(e):
-    return ("align", e)
-
-
-class Table:
-    """Nodes from expressions: children first, left before right, equal expressions once.
-    The rules are laid out in their order, then the start."""
-
-    def __init__(self, rules, start):
-        self.nodes, self.seen, self.numbers = [], {}, {name: k for k, name in enumerate(rules)}
-        self.rules = [self.put(e) for e in rules.values()]
-        self.start = self.put(start)
-
-    def put(self, e):
-        if e not in self.seen:
-            row = self.row(e)
-            self.seen[e] = len(self.nodes)
-            self.nodes.append(row)
-        return self.seen[e]
-
-    def row(self, e):
-        kind = e[0]
-        if kind == "empty":
-            return table_nodes.EMPTY
-        if kind == "terminal":
-            return (1, e[1], 0, 0)
-        if kind == "rule":
-            return table_nodes.rule(self.numbers[e[1]])
-        if kind in ("seq", "choice"):
-            a, b = self.put(e[1]), self.put(e[2])
-            return (table_nodes.seq if kind == "seq" else table_nodes.choice)(a, b)
-        if kind in ("indent", "position"):
-            a = self.put(e[2])
-            return (table_nodes.indent if kind == "indent" else table_nodes.position)(a, e[1])
-        a = self.put(e[1])
-        return {"not": table_nodes.not_, "repeat": table_nodes.repeat, "align": table_nodes.align}[kind](a)
-
-
-RUNS = []
+# ---- Records and lines ----
 
 
 def run(label, source, shows, expected, start, tokens="", rules=None, names="a b c d e",
         low=0, high=None, flag=0, mode=EQ, place=0):
-    """A run of a table. Tokens are written as name and column: `a2 b3`."""
-    table = Table(rules or {}, start)
-    names = names.split()
-    words = []
-    for k, item in enumerate(tokens.split()):
-        name, column = re.fullmatch(r"(.*?)(\d+)", item).groups()
-        words += [names.index(name), int(column), k, 1]
-    parts = [
-        b"".join(w.to_bytes(2, "big") for row in table.nodes for w in row),
-        b"".join(w.to_bytes(2, "big") for w in table.rules),
-        b"".join(w.to_bytes(4, "big") for w in words),
-    ]
-    begin = (flag, 0 if high is None else 1, table.start, mode, place, low, high or 0)
-    RUNS.append((label, source, shows, expected, 0, begin, parts))
+    """A run of a table. Expressions and rules are trees, or are written, a the first name. Tokens are a name and a
+    column: `a2 b3`."""
+    start = written(start, 0) if isinstance(start, str) else start
+    rules = written_rules(rules, 0) if isinstance(rules, str) else rules
+    table = Table(rules or {}, start, once=True)
+    numbers = {name: number for number, name in enumerate(names.split())}
+    words = [w for k, (name, column) in enumerate(named_columns(tokens)) for w in (numbers[name], column, k, 1)]
+    parts = wide(2, *flat(table.nodes)), wide(2, *table.rules), wide(4, *words)
+    record(label, source, shows, expected, 0, parts,
+           node=table.start, place=place, lower=low, upper=high, flag=flag, mode=mode)
 
 
 def report(label, source, shows, expected, keywords, start, text, rules=None, mode=GT):
     """A grammar file and a report. Keyword k is terminal 3 + k."""
-    table = Table(rules or {}, start)
-    fields = grammar_fields.VERSION
-    for spelling in keywords.split():
-        fields += grammar_fields.keyword(spelling.encode())
-    for name, number in zip(rules or {}, table.rules):
-        fields += grammar_fields.rule(number, name.encode())
-    for row in table.nodes:
-        fields += grammar_fields.node(*row)
-    fields += grammar_fields.start(table.start, mode)
-    RUNS.append((label, source, shows, expected, 1, (0,) * 7, [fields, text.encode(), b""]))
+    table = Table(rules or {}, start, once=True)
+    pairs = [(number, name.encode()) for name, number in zip(rules or {}, table.rules)]
+    file = grammar_fields.file(table.nodes, table.start, mode, keywords.encode().split(), pairs)
+    record(label, source, shows, expected, 1, (file, text.encode(), b""))
 
 
-def record(label, kind, begin, parts):
-    flag, ended, node, mode, place, low, high = begin
-    name = label.encode()
-    assert 0 < len(name) < 200
-    head = bytes([len(name), kind, flag, ended])
-    head += node.to_bytes(2, "big") + mode.to_bytes(2, "big") + place.to_bytes(4, "big")
-    head += low.to_bytes(4, "big") + high.to_bytes(4, "big")
-    head += b"".join(len(p).to_bytes(3, "big") for p in parts)
-    assert len(head) == 29
-    return head + name + b"".join(parts)
+def record(label, source, shows, expected, kind, parts, **start):
+    """One run, the line expected of it, and its row of the docs. The layout is that of the program's first comment."""
+    ROWS.append((label, source, shows, expected))
+    CASES.add(label, expected, b"", wide(1, kind) + begin(**start) + wide(3, *map(len, parts)), *parts)
 
 
-def main():
-    labels = [row[0] for row in RUNS]
-    assert len(set(labels)) == len(labels)
-    if sys.argv[1:] == ["--table"]:
-        print("# Runs taken from published papers\n")
-        print(f"{len(RUNS)} runs, written by `cases/published.py`, whose comments give the steps of each.\n")
-        for paper in PAPERS:
-            print(f"- {paper}")
-        print("\n| label | source | what it shows | expected |\n|---|---|---|---|")
-        for label, source, shows, expected, *_ in RUNS:
-            cells = [c.replace("|", "\\|") for c in (label, source, shows, expected)]
-            print("| " + " | ".join(cells) + " |")
-        print("\n## Where a paper's text is garbled or its grammar changed\n")
-        for note in NOTES:
-            print(f"- {note}")
-        return
-    top = pathlib.Path(__file__).resolve().parent.parent / "crates" / "published"
-    (top / "data").mkdir(parents=True, exist_ok=True)
-    data = b"".join(record(label, kind, begin, parts) for label, _, _, _, kind, begin, parts in RUNS)
-    (top / "data" / "cases").write_bytes(data)
-    lines = "".join(f"{row[0]}: {row[3]}\n" for row in RUNS)
-    (top / "stdout").write_bytes(lines.encode())
+def page():
+    """The runs as docs/PUBLISHED.md has them."""
+    rows = [" | ".join(cell.replace("|", "\\|") for cell in row) for row in ROWS]
+    return "\n".join([
+        "# Runs taken from published papers",
+        "",
+        f"{len(ROWS)} runs, written by `cases/published.py`, whose comments give the steps of each.",
+        "",
+        *[f"- {paper}" for paper in PAPERS],
+        "",
+        "| label | source | what it shows | expected |",
+        "|---|---|---|---|",
+        *[f"| {row} |" for row in rows],
+        "",
+        "## Where a paper's text is garbled or its grammar changed",
+        "",
+        *[f"- {note}" for note in NOTES],
+        "",
+    ])
 
 
 PAPERS = [
     "000: Michael D. Adams and \u00d6mer S. A\u011facan, Indentation-Sensitive Parsing for Parsec, 2014",
     "001: H\u00e4rmel Nestra, Grammars for Indentation-Sensitive Parsing, 2017",
-    "002: Beata Burreau, Layout Syntax Support in the BNF Converter, a master's thesis",
+    "002: Beata Burreau, Layout Syntax Support in the BNF Converter, a master's thesis, 2023",
     "003: Sebastian Erdweg, Tillmann Rendel, Christian K\u00e4stner and Klaus Ostermann, Layout-sensitive "
-    "Generalized Parsing",
-    "004: A Haskell pretty-printer, a candidate's dissertation",
+    "Generalized Parsing, 2012",
+    "004: A Haskell pretty-printer, an undergraduate project whose author is named only as candidate 13243, 2002",
 ]
 
 NOTES = [
@@ -185,8 +84,7 @@ NOTES = [
     "001 theorem 2.3 (1): the last law reads `(p_s)^*`; it is `(p_s)^r`, as (2) says again.",
     "001 theorem 2.4 (2): by the paper's own definition of composition the two relations must stand the "
     "other way round. For > and >= this makes no difference; the runs with any go by the clauses.",
-    "001 section 3: the rules of stage 1 have lost their bars. Read as "
-    "`B = b |AA / A!!c / !!cA / !!c!!c|^>`.",
+    "001 section 3: the rules of stage 1 have lost their bars. Read as `B = b |AA / A!!c / !!cA / !!c!!c|^>`.",
     "000 section 2.2: the star of the bracket grammar is shown as `1/2`.",
     "000 figures 4, 7 and 8 and the productions of suite and block are lost; the prose gives them. alts "
     "here has at least one alternative, else its repeat is refused.",
@@ -207,16 +105,14 @@ NOTES = [
     "004 figure 59: the columns are those of its part (b), less 1.",
 ]
 
-a, b, c = t(0), t(1), t(2)
-
 # ---- 001, section 1: plain expressions and do expressions ----
 
 # In mode any a token's column changes nothing. ab reads both tokens, so the choice ends there.
 run("001 1 ab or a", "001 section 1, the constructs of PEG", "ab/a reads the whole of ab", "success 2 0 inf clear",
-    alt(seq(a, b), a), "a0 b1", mode=ANY)
+    "a b / a", "a0 b1", mode=ANY)
 # The first choice a succeeds, so ab is never tried.
 run("001 1 a or ab", "001 section 1, the constructs of PEG", "a/ab reads only a", "success 1 0 inf clear",
-    alt(a, seq(a, b)), "a0 b1", mode=ANY)
+    "a / a b", "a0 b1", mode=ANY)
 
 # doexp ::= do^> (istmts / stmts); istmts ::= (|stmt|+)^>; stmts ::= {^> (stmt (; stmt)* [;] })^any.
 # The text of stmts is garbled; this is the reading with balanced brackets. stmt is s or a doexp.
@@ -256,16 +152,11 @@ run("001 2.1 braces in mode at least", "001 section 2.1, token modes", "position
 # istmts: in 2.., s5 5..5; do4: do^> in 6.. has no 4, ends; out 1..2 with 0..4 = 1..2. Next |stmt| from
 # 1..2: do^> in 2.., flag: do4 4..4, out 1..2 with 0..3 = 1..2; s6: in 2.., 6..6, out 1..2. Out 0..0 with
 # 0..1.
-run("001 2.4 indented do under align", "001 sections 1 and 2.4 (3)",
-    "an indent inside align moves the baseline",
+run("001 2.4 indented do under align", "001 sections 1 and 2.4 (3)", "an indent inside align moves the baseline",
     "success 5 0 0 clear", r("doexp"), "do1 do3 s5 do4 s6", DO, DO_NAMES)
 # do is now a plain token in mode greater: do1 0..0; in 1.., flag: do3 3..3; in 4.., s5 5..5; do4 not in
 # 5..5; out 3..3 with 0..4 = 3..3. do4 is not in 3..3 either: the block ends. Out 0..0 with 0..2 = 0..0.
-MODE_DO = {
-    "doexp": seq(T_DO, r("istmts")),
-    "istmts": ind(GT, plus(al(r("stmt")))),
-    "stmt": alt(T_S, r("doexp")),
-}
+MODE_DO = {"doexp": seq(T_DO, r("istmts")), "istmts": ind(GT, plus(al(r("stmt")))), "stmt": alt(T_S, r("doexp"))}
 run("001 2.1 do in mode greater", "001 section 2.1, token modes", "with a token mode the nested do must align",
     "success 3 0 0 clear", r("doexp"), "do1 do3 s5 do4 s6", MODE_DO, DO_NAMES, mode=GT)
 # As before up to 3..3; do3 lies in it; in 4.., s6 6..6, out 3..3 with 0..5 = 3..3; out 0..0.
@@ -274,35 +165,35 @@ run("001 2.1 do in mode greater aligned", "001 section 2.1, token modes", "an al
 
 # ---- 001, section 2.1: the toy example and its steps ----
 
-TOY = ind(GT, al(seq(a, b)))
+TOY = "[a b]^>"
 # Clause 8: in 1... Clause 10 sets the flag. Clause 2: a2 2..2; b3 in mode at least: 3 >= 2, 2..2 with
 # 0..3 = 2..2. Out N with 0..1 = 0..1.
 run("001 2.1 worked example", "001 section 2.1, the toy example", "|ab|^> in mode at least", "success 2 0 1 clear",
     TOY, "a2 b3", mode=GE)
 # From 1.. as the example's first step: flag: a2 2..2, b3 2..2; flag before was clear.
 run("001 2.1 worked example align step", "001 section 2.1, the toy example", "|ab| from 1 on", "success 2 2 2 clear",
-    al(seq(a, b)), "a2 b3", low=1, mode=GE)
+    "[a b]", "a2 b3", low=1, mode=GE)
 # The same with the flag set from outside.
 run("001 2.1 worked example sequence step", "001 section 2.1, the toy example", "ab with the flag set",
-    "success 2 2 2 clear", seq(a, b), "a2 b3", low=1, flag=1, mode=GE)
+    "success 2 2 2 clear", "a b", "a2 b3", low=1, flag=1, mode=GE)
 # Second token only, from 2..2: 3 >= 2, 2..2 with 0..3 = 2..2.
 run("001 2.1 worked example b step", "001 section 2.1, the toy example", "b from place 1, interval 2 to 2",
-    "success 1 2 2 clear", b, "a2 b3", low=2, high=2, mode=GE, place=1)
+    "success 1 2 2 clear", "b", "a2 b3", low=2, high=2, mode=GE, place=1)
 # a2 2..2; b1 is not in 2...
 run("001 2.1 toy with b left of a", "001 section 2.1, the toy example", "mode at least holds the second token back",
     "failure", TOY, "a2 b1", mode=GE)
 # Node 0 is rule 0 and rule 0 is node 0: the least well-formed set never gets it.
 run("001 2.1 divergence", "001 section 2.1, circular dependencies", "X = X has no outcome and is not well formed",
-    "refused 7 0", r("X"), "a0", {"X": r("X")})
+    "refused 7 0", "X", "a0", "X = X")
 
 # ---- 001, section 2.2: theorem 2.1 ----
 
 # The child fails at b, so the repeat hands its state on, flag included.
-run("001 2.2 nothing read", "001 theorem 2.1", "a state that reads nothing keeps interval and flag",
-    "success 0 4 9 set", star(a), "b4", low=4, high=9, flag=1, mode=GE)
+run("001 2.2 nothing read", "001 theorem 2.1", "a state that reads nothing keeps interval and flag", "success 0 4 9 set",
+    "a*", "b4", low=4, high=9, flag=1, mode=GE)
 # flag: a4 4..4, clear; then a6 >= 4, 4..4 with 0..6 = 4..4.
 run("001 2.2 something read", "001 theorem 2.1", "reading clears the flag", "success 2 4 4 clear",
-    star(a), "a4 a6", low=4, high=9, flag=1, mode=GE)
+    "a*", "a4 a6", low=4, high=9, flag=1, mode=GE)
 
 # ---- 001, section 2.3: equivalences, each side by itself ----
 
@@ -319,251 +210,243 @@ PLAIN = "001 section 2.3, before theorem 2.3"
 # In 2.., a3 3..3, out 1..6 with 0..2 = 1..2; the empty behind it keeps that.
 # Right: the same without the empty.
 pair("empty behind an indent", PLAIN, "p empty and p, p = a^>", "success 1 1 2 clear",
-     seq(ind(GT, a), EPS), ind(GT, a), "a3", low=1, high=6)
+     "a^> empty", "a^>", "a3", low=1, high=6)
 # flag: 6 is not in 3..5, so not succeeds with the old state, flag set; the empty keeps it.
 # Right: not by itself hands the same state on.
 pair("empty behind a not", PLAIN, "p empty and p, p = !a, flag set", "success 0 3 5 set",
-     seq(no(a), EPS), no(a), "a6", low=3, high=5, flag=1, mode=GE)
+     "!a empty", "!a", "a6", low=3, high=5, flag=1, mode=GE)
 # Mode greater: 4 is not in 5.., a fails and so does the sequence.
 # Right: a fails by itself.
 pair("empty behind a failure", PLAIN, "p empty and p, p = a left of the mode", "failure",
-     seq(a, EPS), a, "a4", low=4, high=4, mode=GT)
+     "a empty", "a", "a4", low=4, high=4, mode=GT)
 # The empty keeps 2..6 and clear; align: flag: a6 in 2..6, 6..6.
 # Right: the align from the same state.
 pair("empty before an align", PLAIN, "empty p and p, p = |a|", "success 1 6 6 clear",
-     seq(EPS, al(a)), al(a), "a6", low=2, high=6, mode=ANY)
+     "empty [a]", "[a]", "a6", low=2, high=6, mode=ANY)
 # The empty leaves the flag set: a2 in 1..3, 2..2, clear; then a1 is not in 2..: the repeat ends.
 # Right: the repeat starts with the flag set too.
 pair("empty before a repeat", PLAIN, "empty p and p, p = a*, flag set", "success 1 2 2 clear",
-     seq(EPS, star(a)), star(a), "a2 a1", low=1, high=3, flag=1, mode=GE)
+     "empty a*", "a*", "a2 a1", low=1, high=3, flag=1, mode=GE)
 # The empty keeps the state; in 4.., flag: 3 is not in it.
 # Right: the same in 4...
 pair("empty before a failure", PLAIN, "empty p and p, p = a^> at the baseline", "failure",
-     seq(EPS, ind(GT, a)), ind(GT, a), "a3", low=3, high=3, flag=1)
+     "empty a^>", "a^>", "a3", low=3, high=3, flag=1)
 
 # a4 N with 0..4 = 0..4. b^>: in 1.., b3 >= 1, 1..3, out 0..4 with 0..2 = 0..2. c1 >= 0, 0..1.
 # Right: a and b^> come to 0..2 first, then c.
 pair("sequence grouping", PLAIN, "p(qr) and (pq)r, q = b^>", "success 3 0 1 clear",
-     seq(a, seq(ind(GT, b), c)), seq(seq(a, ind(GT, b)), c), "a4 b3 c1", mode=GE)
+     "a b^> c", "(a b^>) c", "a4 b3 c1", mode=GE)
 # !b meets a and holds, flag still set; flag: a3 in 2..6, 3..3; mode greater: b4 in 4.., 3..3 with 0..3.
 # Right: !b and a come to 3..3 first, then b.
 pair("sequence grouping with flag", PLAIN, "p(qr) and (pq)r, p = !b, flag set", "success 2 3 3 clear",
-     seq(no(b), seq(a, b)), seq(seq(no(b), a), b), "a3 b4", low=2, high=6, flag=1, mode=GT)
+     "!b a b", "(!b a) b", "a3 b4", low=2, high=6, flag=1, mode=GT)
 # a2 in 1..5, 2..2; |b|: flag: b2 in 2..2; c3 is not in 2..2.
 # Right: a and |b| read, then c fails the same way.
 pair("sequence grouping failing", PLAIN, "p(qr) and (pq)r, c off the baseline", "failure",
-     seq(a, seq(al(b), c)), seq(seq(a, al(b)), c), "a2 b2 c3", low=1, high=5)
+     "a [b] c", "(a [b]) c", "a2 b2 c3", low=1, high=5)
 
 # p = ab, q = ac, r = a: p: a4 2..4, b meets c. q from 2..9: a4 2..4, c3 >= 2, 2..3.
 # Right: p/q is p failing and q giving 2..3; r is not tried.
 pair("choice grouping", PLAIN, "p/(q/r) and (p/q)/r, q taken", "success 2 2 3 clear",
-     alt(seq(a, b), alt(seq(a, c), a)), alt(alt(seq(a, b), seq(a, c)), a), "a4 c3", low=2, high=9, mode=GE)
+     "a b / a c / a", "(a b / a c) / a", "a4 c3", low=2, high=9, mode=GE)
 # p = b meets a. q = a^>: in 3.. has no 2. r = a from the old state, flag: a2 in 2..6, 2..2.
 # Right: p/q fails, so r from the old state.
 pair("choice grouping with flag", PLAIN, "p/(q/r) and (p/q)/r, r taken, flag set", "success 1 2 2 clear",
-     alt(b, alt(ind(GT, a), a)), alt(alt(b, ind(GT, a)), a), "a2", low=2, high=6, flag=1)
+     "b / a^> / a", "(b / a^>) / a", "a2", low=2, high=6, flag=1)
 # Mode greater. p = a^>: in 5.., 4 is not in 6... q = ab: 4 is not in 5... r = |a^>|: in 5.., flag: no 4.
 # Right: the same three failures.
 pair("choice grouping failing", PLAIN, "p/(q/r) and (p/q)/r, none fits", "failure",
-     alt(ind(GT, a), alt(seq(a, b), al(ind(GT, a)))), alt(alt(ind(GT, a), seq(a, b)), al(ind(GT, a))),
-     "a4 b4", low=4, high=4, mode=GT)
+     "a^> / a b / [a^>]", "(a^> / a b) / [a^>]", "a4 b4", low=4, high=4, mode=GT)
 
 # p = a, q = b|c|, r = b: a5 0..5; q: b3 0..3, flag: c4 is not in 0..3; r from 0..5: b3 0..3.
 # Right: pq fails at c; pr from N: a5 0..5, b3 0..3.
 pair("sequence over choice", PLAIN, "p(q/r) and pq/pr, r taken", "success 2 0 3 clear",
-     seq(a, alt(seq(b, al(c)), b)), alt(seq(a, seq(b, al(c))), seq(a, b)), "a5 b3 c4", mode=GE)
+     "a (b [c] / b)", "a b [c] / a b", "a5 b3 c4", mode=GE)
 # !b holds, flag still set; a^>: in 3.. has no 2; a: flag: 2 in 2..6, 2..2.
 # Right: !b a^> fails; !b a from the old state, flag set, gives 2..2.
 pair("sequence over choice with flag", PLAIN, "p(q/r) and pq/pr, p = !b, flag set", "success 1 2 2 clear",
-     seq(no(b), alt(ind(GT, a), a)), alt(seq(no(b), ind(GT, a)), seq(no(b), a)), "a2", low=2, high=6, flag=1)
+     "!b (a^> / a)", "!b a^> / !b a", "a2", low=2, high=6, flag=1)
 # a3 3..3; b^>: in 4.. has no 2; |b|: 2 is not in 3..3.
 # Right: a is read twice, 3..3 each time, and b fails each time.
 pair("sequence over choice failing", PLAIN, "p(q/r) and pq/pr, b left of a", "failure",
-     seq(a, alt(ind(GT, b), al(b))), alt(seq(a, ind(GT, b)), seq(a, al(b))), "a3 b2", low=1, high=4)
+     "a (b^> / [b])", "a b^> / a [b]", "a3 b2", low=1, high=4)
 
 # p = a|b|, q = a: a4 2..4, flag: b5 is not in 2..4; q from 2..9: a4 2..4.
 # Right: p fails, so !p holds in the old 2..9; then q.
 pair("choice with a not", PLAIN, "p/q and p/!pq, q taken", "success 1 2 4 clear",
-     alt(seq(a, al(b)), a), alt(seq(a, al(b)), seq(no(seq(a, al(b))), a)), "a4 b5", low=2, high=9, mode=GE)
+     "a [b] / a", "a [b] / !(a [b]) a", "a4 b5", low=2, high=9, mode=GE)
 # p = a^>: in 2.., flag: a3 3..3, out 1..5 with 0..2 = 1..2.
 # Right: p succeeds, so !p is not reached.
 pair("choice with a not first taken", PLAIN, "p/q and p/!pq, p taken, flag set", "success 1 1 2 clear",
-     alt(ind(GT, a), a), alt(ind(GT, a), seq(no(ind(GT, a)), a)), "a3", low=1, high=5, flag=1)
+     "a^> / a", "a^> / !a^> a", "a3", low=1, high=5, flag=1)
 # p = b meets a; q = !b holds in the old state, flag set.
 # Right: !b holds and then !b again, nothing changed.
 pair("choice with a not nothing read", PLAIN, "p/q and p/!pq, q = !b, flag set", "success 0 3 7 set",
-     alt(b, no(b)), alt(b, seq(no(b), no(b))), "a1", low=3, high=7, flag=1)
+     "b / !b", "b / !b !b", "a1", low=3, high=7, flag=1)
 # p = a^>: in 4.., mode greater 5.., no 2; q = |a|: 2 is not in 3..3.
 # Right: !p holds, then |a| fails.
 pair("choice with a not failing", PLAIN, "p/q and p/!pq, neither fits", "failure",
-     alt(ind(GT, a), al(a)), alt(ind(GT, a), seq(no(ind(GT, a)), al(a))), "a2", low=3, high=3, mode=GT)
+     "a^> / [a]", "a^> / !a^> [a]", "a2", low=3, high=3, mode=GT)
 
 # Theorem 2.3, empty.
 # Empty under each of the three: in 4.., out 3..7 with 0.. = 3..7; align: set and set is set.
-for name, e in (("position", pos(GT, EPS)), ("indent", ind(GT, EPS)), ("align", al(EPS))):
+for name, e in (("position", "empty_>"), ("indent", "empty^>"), ("align", "[empty]")):
     run(f"001 2.3 empty under {name}", "001 theorem 2.3", "empty changes nothing", "success 0 3 7 set",
         e, "a0", low=3, high=7, flag=1)
 # The right side of the three laws: clause 1 hands 3..7 and the set flag on.
 run("001 2.3 empty by itself", "001 theorem 2.3", "empty changes nothing", "success 0 3 7 set",
-    EPS, "a0", low=3, high=7, flag=1)
+    "empty", "a0", low=3, high=7, flag=1)
 # No tokens. Position any: only the mode changes. Indent any: in N, out N with N = N.
 # Align: set inside, clear before, so clear.
-for name, e in (("position", pos(ANY, EPS)), ("indent", ind(ANY, EPS)), ("align", al(EPS))):
-    run(f"001 2.3 empty under {name} without tokens", "001 theorem 2.3", "empty needs no token",
-        "success 0 0 inf clear", e)
+for name, e in (("position", "empty_any"), ("indent", "empty^any"), ("align", "[empty]")):
+    run(f"001 2.3 empty under {name} without tokens", "001 theorem 2.3", "empty needs no token", "success 0 0 inf clear", e)
 # The right side again: N and clear stay.
-run("001 2.3 empty by itself without tokens", "001 theorem 2.3", "empty needs no token",
-    "success 0 0 inf clear", EPS)
+run("001 2.3 empty by itself without tokens", "001 theorem 2.3", "empty needs no token", "success 0 0 inf clear", "empty")
 # From place 1, where a5 stands unread. Position at least: only the mode changes.
 # Indent at least: in 5.., out 5..5 with 0.. = 5..5. Align: set inside, clear before, so clear.
-for name, e in (("position", pos(GE, EPS)), ("indent", ind(GE, EPS)), ("align", al(EPS))):
+for name, e in (("position", "empty_>="), ("indent", "empty^>="), ("align", "[empty]")):
     run(f"001 2.3 empty under {name} from place 1", "001 theorem 2.3", "no token is read from place 1 on",
         "success 0 5 5 clear", e, "a0 a5", low=5, high=5, mode=GT, place=1)
 # The right side again: 5..5 and clear stay, nothing read.
-run("001 2.3 empty by itself from place 1", "001 theorem 2.3", "no token is read from place 1 on",
-    "success 0 5 5 clear", EPS, "a0 a5", low=5, high=5, mode=GT, place=1)
+run("001 2.3 empty by itself from place 1", "001 theorem 2.3", "no token is read from place 1 on", "success 0 5 5 clear",
+    "empty", "a0 a5", low=5, high=5, mode=GT, place=1)
 
 # Theorem 2.3 (1), position.
 # Mode greater for both: a5 N with 0..4 = 0..4; b3 >= 1, 0..4 with 0..2 = 0..2.
 # Right: each terminal has its own position greater.
 pair("position over sequence", "001 theorem 2.3 (1)", "(pq)_> and p_> q_>", "success 2 0 2 clear",
-     pos(GT, seq(a, b)), seq(pos(GT, a), pos(GT, b)), "a5 b3")
+     "(a b)_>", "a_> b_>", "a5 b3")
 # flag: a3 in 2..6, 3..3, clear; mode any: b0 leaves 3..3.
 # Right: a_any under the flag gives 3..3, b_any keeps it.
-pair("position over sequence with flag", "001 theorem 2.3 (1)", "(pq)_any and p_any q_any, flag set",
-     "success 2 3 3 clear",
-     pos(ANY, seq(a, b)), seq(pos(ANY, a), pos(ANY, b)), "a3 b0", low=2, high=6, flag=1)
+pair("position over sequence with flag", "001 theorem 2.3 (1)", "(pq)_any and p_any q_any, flag set", "success 2 3 3 clear",
+     "(a b)_any", "a_any b_any", "a3 b0", low=2, high=6, flag=1)
 # Mode greater, not any: a5 in 3.., 2..6 with 0..4 = 2..4; b2 is not in 3...
 # Right: b_> fails from 2..4 too.
-pair("position over sequence failing", "001 theorem 2.3 (1)", "(pq)_> and p_> q_>, b at the baseline",
-     "failure", pos(GT, seq(a, b)), seq(pos(GT, a), pos(GT, b)), "a5 b2", low=2, high=6, mode=ANY)
+pair("position over sequence failing", "001 theorem 2.3 (1)", "(pq)_> and p_> q_>, b at the baseline", "failure",
+     "(a b)_>", "a_> b_>", "a5 b2", low=2, high=6, mode=ANY)
 # p = ab, q = a, mode at least: a4 2..4, b1 is not in 2..; q from 2..9: a4 2..4. (Mode equal: 4..4.)
 # Right: p_>= fails at b, q_>= gives 2..4.
 pair("position over choice", "001 theorem 2.3 (1)", "(p/q)_>= and p_>=/q_>=", "success 1 2 4 clear",
-     pos(GE, alt(seq(a, b), a)), alt(pos(GE, seq(a, b)), pos(GE, a)), "a4 b1", low=2, high=9)
+     "(a b / a)_>=", "(a b)_>= / a_>=", "a4 b1", low=2, high=9)
 # b meets a; a under the flag: 6 in 2..6, 6..6. (Without the flag mode greater would give 2..5.)
 # Right: b_> fails, a_> under the flag gives 6..6.
-pair("position over choice with flag", "001 theorem 2.3 (1)", "(p/q)_> and p_>/q_>, flag set",
-     "success 1 6 6 clear", pos(GT, alt(b, a)), alt(pos(GT, b), pos(GT, a)), "a6", low=2, high=6, flag=1,
-     mode=GE)
+pair("position over choice with flag", "001 theorem 2.3 (1)", "(p/q)_> and p_>/q_>, flag set", "success 1 6 6 clear",
+     "(b / a)_>", "b_> / a_>", "a6", low=2, high=6, flag=1, mode=GE)
 # Mode greater: 4 is not in 5.., so ab and a both fail. (The outer mode any would take it.)
 # Right: (ab)_> and a_> both fail.
-pair("position over choice failing", "001 theorem 2.3 (1)", "(p/q)_> and p_>/q_>, a at the baseline",
-     "failure", pos(GT, alt(seq(a, b), a)), alt(pos(GT, seq(a, b)), pos(GT, a)), "a4 b5", low=4, high=4,
-     mode=ANY)
+pair("position over choice failing", "001 theorem 2.3 (1)", "(p/q)_> and p_>/q_>, a at the baseline", "failure",
+     "(a b / a)_>", "(a b)_> / a_>", "a4 b5", low=4, high=4, mode=ANY)
 # Mode greater: a4 is not in 5.., so not succeeds (in mode at least a4 would have matched).
 # Right: a_> fails, so not succeeds with the old state.
 pair("position over not", "001 theorem 2.3 (1)", "(!p)_> and !(p_>)", "success 0 4 4 clear",
-     pos(GT, no(a)), no(pos(GT, a)), "a4", low=4, high=4, mode=GE)
+     "(!a)_>", "!a_>", "a4", low=4, high=4, mode=GE)
 # Mode any: a0 matches, so not fails (in mode equal 0 is not in 4..4).
 # Right: a_any matches, so not fails.
 pair("position over not failing", "001 theorem 2.3 (1)", "(!p)_any and !(p_any), p matches", "failure",
-     pos(ANY, no(a)), no(pos(ANY, a)), "a0", low=4, high=4)
+     "(!a)_any", "!a_any", "a0", low=4, high=4)
 # flag: 5 is not in 2..3 whatever the mode; not hands the old state on, flag set.
 # Right: a_any fails under the flag too.
-pair("position over not with flag", "001 theorem 2.3 (1)", "(!p)_any and !(p_any), flag set",
-     "success 0 2 3 set", pos(ANY, no(a)), no(pos(ANY, a)), "a5", low=2, high=3, flag=1)
+pair("position over not with flag", "001 theorem 2.3 (1)", "(!p)_any and !(p_any), flag set", "success 0 2 3 set",
+     "(!a)_any", "!a_any", "a5", low=2, high=3, flag=1)
 # Mode any: a0 and a9 match and leave 2..2; then b.
 # Right: each round is in mode any.
 pair("position over repeat", "001 theorem 2.3 (1)", "(p*)_any and (p_any)*", "success 2 2 2 clear",
-     pos(ANY, star(a)), star(pos(ANY, a)), "a0 a9 b2", low=2, high=2)
+     "a*_any", "a_any*", "a0 a9 b2", low=2, high=2)
 # flag: a4 in 1..9, 4..4; mode greater: a6 in 5.., 4..4 with 0..5 = 4..4; a4 is not in 5..: ends.
 # Right: a_> under the flag 4..4, a_> 4..4, then a_> fails.
-pair("position over repeat with flag", "001 theorem 2.3 (1)", "(p*)_> and (p_>)*, flag set",
-     "success 2 4 4 clear", pos(GT, star(a)), star(pos(GT, a)), "a4 a6 a4", low=1, high=9, flag=1)
+pair("position over repeat with flag", "001 theorem 2.3 (1)", "(p*)_> and (p_>)*, flag set", "success 2 4 4 clear",
+     "a*_>", "a_>*", "a4 a6 a4", low=1, high=9, flag=1)
 # Mode greater: 5 is not in 6.., no round; the old state. (Mode at least would read it.)
 # Right: a_> fails at once.
 pair("position over repeat without a round", "001 theorem 2.3 (1)", "(p*)_> and (p_>)*, nothing read",
-     "success 0 5 5 clear", pos(GT, star(a)), star(pos(GT, a)), "a5", low=5, high=5, mode=GE)
+     "success 0 5 5 clear", "a*_>", "a_>*", "a5", low=5, high=5, mode=GE)
 # Indent greater: in 2..; mode at least: a5 2..5; out 1..6 with 0..4 = 1..4.
 # Right: in 2.. first, then mode at least: the same 2..5 and way out.
 pair("position over indent", "001 theorem 2.3 (1) and (2)", "(p^>)_>= and (p_>=)^>", "success 1 1 4 clear",
-     pos(GE, ind(GT, a)), ind(GT, pos(GE, a)), "a5", low=1, high=6)
+     "a^>_>=", "a_>=^>", "a5", low=1, high=6)
 # In 2.., flag: a4 4..4; mode greater: b5 in 5.., 4..4 with 0..4 = 4..4; out 2..6 with 0..4 = 2..4.
 # Right: the position stands inside the indent, both tokens are in it.
 pair("position over indent with flag", "001 theorem 2.3 (1) and (2)", "(p^>=)_> and (p_>)^>=, flag set",
-     "success 2 2 4 clear", pos(GT, ind(GE, seq(a, b))), ind(GE, pos(GT, seq(a, b))), "a4 b5", low=2, high=6,
-     flag=1)
+     "success 2 2 4 clear", "(a b)^>=_>", "(a b)_>^>=", "a4 b5", low=2, high=6, flag=1)
 # In 4..; mode greater: 4 is not in 5...
 # Right: in 4.., a_> needs 5...
-pair("position over indent failing", "001 theorem 2.3 (1) and (2)", "(p^>)_> and (p_>)^>, one column short",
-     "failure", pos(GT, ind(GT, a)), ind(GT, pos(GT, a)), "a4", low=3, high=3, mode=ANY)
+pair("position over indent failing", "001 theorem 2.3 (1) and (2)", "(p^>)_> and (p_>)^>, one column short", "failure",
+     "a^>_>", "a_>^>", "a4", low=3, high=3, mode=ANY)
 # Any: in N; mode equal: a0 0..0; out 5..5 with N = 5..5. (The outer mode greater would not take a0.)
 # Right: in N, a_= 0..0, out 5..5.
-pair("position over indent any", "001 theorem 2.3 (1) and (2)", "(p^any)_= and (p_=)^any",
-     "success 1 5 5 clear", pos(EQ, ind(ANY, a)), ind(ANY, pos(EQ, a)), "a0", low=5, high=5, mode=GT)
+pair("position over indent any", "001 theorem 2.3 (1) and (2)", "(p^any)_= and (p_=)^any", "success 1 5 5 clear",
+     "a^any_=", "a_=^any", "a0", low=5, high=5, mode=GT)
 
 # Theorem 2.3 (2), indent.
 # p = ab, q = a: in 3.., a4 4..4, b5 fails; q from 3..: a4 4..4; out 2..5 with 0..3 = 2..3.
 # Right: p^> fails; q^> from 2..5: in 3.., 4..4, out 2..3.
 pair("indent over choice", "001 theorem 2.3 (2)", "(p/q)^> and p^>/q^>", "success 1 2 3 clear",
-     ind(GT, alt(seq(a, b), a)), alt(ind(GT, seq(a, b)), ind(GT, a)), "a4 b5", low=2, high=5)
+     "(a b / a)^>", "(a b)^> / a^>", "a4 b5", low=2, high=5)
 # p = a^>, q = a. At least: in 3..; p: in 4.. has no 3; q: flag: 3..3; out 3..8 with 0..3 = 3..3.
 # Right: (a^>)^>= fails the same way; a^>=: in 3.., 3..3, out 3..3.
-pair("indent over choice with flag", "001 theorem 2.3 (2)", "(p/q)^>= and p^>=/q^>=, flag set",
-     "success 1 3 3 clear", ind(GE, alt(ind(GT, a), a)), alt(ind(GE, ind(GT, a)), ind(GE, a)), "a3", low=3,
-     high=8, flag=1, mode=GT)
+pair("indent over choice with flag", "001 theorem 2.3 (2)", "(p/q)^>= and p^>=/q^>=, flag set", "success 1 3 3 clear",
+     "(a^> / a)^>=", "a^>^>= / a^>=", "a3", low=3, high=8, flag=1, mode=GT)
 # In 5.., mode at least: a4 is not in 5..; q = b meets a.
 # Right: (ab)^> fails in 5.., b^> meets a.
 pair("indent over choice failing", "001 theorem 2.3 (2)", "(p/q)^> and p^>/q^>, a at the baseline", "failure",
-     ind(GT, alt(seq(a, b), b)), alt(ind(GT, seq(a, b)), ind(GT, b)), "a4 b6", low=4, high=4, mode=GE)
+     "(a b / b)^>", "(a b)^> / b^>", "a4 b6", low=4, high=4, mode=GE)
 # In N; b meets a; a0 0..0; out 6..6 with N = 6..6.
 # Right: b^any fails; a^any: in N, 0..0, out 6..6.
 pair("indent any over choice", "001 theorem 2.3 (2)", "(p/q)^any and p^any/q^any", "success 1 6 6 clear",
-     ind(ANY, alt(b, a)), alt(ind(ANY, b), ind(ANY, a)), "a0", low=6, high=6)
+     "(b / a)^any", "b^any / a^any", "a0", low=6, high=6)
 # In 5.. has no 4, a fails, not hands 5.. on; out 4..4 with 0.. = 4..4. (!a without the indent fails.)
 # Right: a^> fails, not hands the old 4..4 on.
 pair("indent over not", "001 theorem 2.3 (2)", "(!p)^> and !(p^>)", "success 0 4 4 clear",
-     ind(GT, no(a)), no(ind(GT, a)), "a4", low=4, high=4)
+     "(!a)^>", "!a^>", "a4", low=4, high=4)
 # In 3.., flag: 3 lies in it, a succeeds and not fails. (Without the flag mode greater needs 4...)
 # Right: a^> succeeds, so not fails.
-pair("indent over not failing", "001 theorem 2.3 (2)", "(!p)^> and !(p^>), p matches under the flag",
-     "failure", ind(GT, no(a)), no(ind(GT, a)), "a3", low=2, high=6, flag=1, mode=GT)
+pair("indent over not failing", "001 theorem 2.3 (2)", "(!p)^> and !(p^>), p matches under the flag", "failure",
+     "(!a)^>", "!a^>", "a3", low=2, high=6, flag=1, mode=GT)
 # In 5.., flag: 4 is not in it, not hands 5.. and set on; out 5..7 with 0.. = 5..7; flag set.
 # Right: a^>= fails, not hands 5..7 and set on.
 pair("indent over not with flag", "001 theorem 2.3 (2)", "(!p)^>= and !(p^>=), flag set", "success 0 5 7 set",
-     ind(GE, no(a)), no(ind(GE, a)), "a4", low=5, high=7, flag=1)
+     "(!a)^>=", "!a^>=", "a4", low=5, high=7, flag=1)
 
 # Theorem 2.3 (3), align.
 # p = ab, q = a: flag: a4 4..4, b3 not in 4..; q from 2..9, flag: a4 4..4.
 # Right: |p| fails at b; |q| sets the flag anew.
 pair("align over choice", "001 theorem 2.3 (3)", "|p/q| and |p|/|q|", "success 1 4 4 clear",
-     al(alt(seq(a, b), a)), alt(al(seq(a, b)), al(a)), "a4 b3", low=2, high=9, mode=GE)
+     "[a b / a]", "[a b] / [a]", "a4 b3", low=2, high=9, mode=GE)
 # b meets a; !b holds, nothing read; the flag is set before and at the inner end: set.
 # Right: |b| fails; |!b| gives set and set.
-pair("align over choice with flag", "001 theorem 2.3 (3)", "|p/q| and |p|/|q|, q = !b, flag set",
-     "success 0 2 9 set", al(alt(b, no(b))), alt(al(b), al(no(b))), "a4", low=2, high=9, flag=1, mode=GE)
+pair("align over choice with flag", "001 theorem 2.3 (3)", "|p/q| and |p|/|q|, q = !b, flag set", "success 0 2 9 set",
+     "[b / !b]", "[b] / [!b]", "a4", low=2, high=9, flag=1, mode=GE)
 # p = a^>: in 4.. has no 2. q = a: flag: 2 is not in 3..4, though the mode is any.
 # Right: |a^>| and |a| fail for the same columns.
-pair("align over choice failing", "001 theorem 2.3 (3)", "|p/q| and |p|/|q|, a left of the baseline",
-     "failure", al(alt(ind(GT, a), a)), alt(al(ind(GT, a)), al(a)), "a2", low=3, high=4, mode=ANY)
+pair("align over choice failing", "001 theorem 2.3 (3)", "|p/q| and |p|/|q|, a left of the baseline", "failure",
+     "[a^> / a]", "[a^>] / [a]", "a2", low=3, high=4, mode=ANY)
 # flag: a5 not in 2..3, so not succeeds with the old state; flag clear before, so clear after.
 # Right: |a| fails, not hands 2..3 and clear on.
 pair("align over not", "001 theorem 2.3 (3)", "|!p| and !|p|", "success 0 2 3 clear",
-     al(no(a)), no(al(a)), "a5", low=2, high=3, mode=GE)
+     "[!a]", "![a]", "a5", low=2, high=3, mode=GE)
 # flag: 4 lies in 4..4, so not fails. (Mode greater without the flag needs 5...)
 # Right: |a| succeeds, so not fails.
 pair("align over not failing", "001 theorem 2.3 (3)", "|!p| and !|p|, p matches", "failure",
-     al(no(a)), no(al(a)), "a4", low=4, high=4, mode=GT)
+     "[!a]", "![a]", "a4", low=4, high=4, mode=GT)
 # flag: 0 is not in 2..3, not hands the state on with the flag set; set before, so set.
 # Right: |a| fails, not hands 2..3 and set on.
 pair("align over not with flag", "001 theorem 2.3 (3)", "|!p| and !|p|, flag set", "success 0 2 3 set",
-     al(no(a)), no(al(a)), "a0", low=2, high=3, flag=1, mode=ANY)
+     "[!a]", "![a]", "a0", low=2, high=3, flag=1, mode=ANY)
 # flag: a3 in 2..6, 3..3, clear; mode any: b0 leaves 3..3. (The outer mode greater would not take b0.)
 # Right: the position stands outside, both tokens are in it all the same.
 pair("align over position", "001 theorem 2.3 (3)", "|p_any| and |p|_any", "success 2 3 3 clear",
-     al(pos(ANY, seq(a, b))), pos(ANY, al(seq(a, b))), "a3 b0", low=2, high=6, mode=GT)
+     "[(a b)_any]", "[a b]_any", "a3 b0", low=2, high=6, mode=GT)
 # flag: a4 4..4; mode greater: b4 is not in 5.., though the outer mode is any.
 # Right: b is in mode greater there too.
 pair("align over position failing", "001 theorem 2.3 (3)", "|p_>| and |p|_>, b at the baseline", "failure",
-     al(pos(GT, seq(a, b))), pos(GT, al(seq(a, b))), "a4 b4", low=1, high=7, mode=ANY)
+     "[(a b)_>]", "[a b]_>", "a4 b4", low=1, high=7, mode=ANY)
 # flag: 6 is not in 3..5 (mode at least would take it): no round, flag set; set before, so set.
 # Right: the same repeat in mode at least under the flag.
-pair("align over position with flag", "001 theorem 2.3 (3)", "|p_>=| and |p|_>=, p = a*, flag set",
-     "success 0 3 5 set", al(pos(GE, star(a))), pos(GE, al(star(a))), "a6", low=3, high=5, flag=1)
+pair("align over position with flag", "001 theorem 2.3 (3)", "|p_>=| and |p|_>=, p = a*, flag set", "success 0 3 5 set",
+     "[a*_>=]", "[a*]_>=", "a6", low=3, high=5, flag=1)
 
 # (pq)^> against p^> q^>: not equal.
-JOINT, APART = ind(GT, seq(a, b)), seq(ind(GT, a), ind(GT, b))
+JOINT, APART = "(a b)^>", "a^> b^>"
 SPLIT = "001 section 2.3, after theorem 2.3"
 # In 1.., a1 1..1, b2 not in 1..1.
 run("001 2.3 indent over sequence left", SPLIT, "one baseline for both", "failure", JOINT, "a1 b2")
@@ -572,8 +455,7 @@ run("001 2.3 indent over sequence right", SPLIT, "a baseline for each", "success
 # In 1.., a5 5..5, b3 fails.
 run("001 2.3 indent over falling sequence left", SPLIT, "one baseline for both", "failure", JOINT, "a5 b3")
 # a^>: out N with 0..4 = 0..4; b^>: in 1.., b3 3..3, out 0..4 with 0..2 = 0..2.
-run("001 2.3 indent over falling sequence right", SPLIT, "a baseline for each", "success 2 0 2 clear",
-    APART, "a5 b3")
+run("001 2.3 indent over falling sequence right", SPLIT, "a baseline for each", "success 2 0 2 clear", APART, "a5 b3")
 # In 3.., flag: a4 lies in it, 4..4, clear.
 # Mode at least: b3 is not in 4.., so the sequence and the indent fail.
 run("001 2.3 indent over falling sequence with flag left", SPLIT, "one baseline for both, flag set",
@@ -584,8 +466,7 @@ run("001 2.3 indent over falling sequence with flag right", SPLIT, "a baseline f
     "success 2 2 2 clear", APART, "a4 b3", low=2, high=6, flag=1, mode=GE)
 # In 1.., a1 1..1, b1 1..1, out N with 0..0 = 0..0.
 # Right: a^> gives 0..0, then in 1.., b1 1..1, out 0..0: here they agree.
-pair("indent over level sequence", SPLIT, "equal on tokens of one column", "success 2 0 0 clear",
-     JOINT, APART, "a1 b1")
+pair("indent over level sequence", SPLIT, "equal on tokens of one column", "success 2 0 0 clear", JOINT, APART, "a1 b1")
 # In 3.., flag: a4 4..4; b5 >= 4, 4..4 with 0..5 = 4..4; out 2..6 with 0..3 = 2..3.
 # Right: a^> 2..3 and clear; b^>: in 3.., 3.. with 0..5 = 3..5, out 2..3 with 0..4 = 2..3: they agree.
 pair("indent over rising sequence with flag", SPLIT, "equal where the first token sets the bound",
@@ -599,238 +480,212 @@ pair("indent over sequence at the baseline", SPLIT, "equal where the first part 
 # In 2..8; a6 2..6; b5 >= 2, 2..5; out 2..8 with 2..5 = 2..5.
 # Right: the same without way in and out.
 pair("identity indentation", "001 theorem 2.4 (1)", "p^= and p", "success 2 2 5 clear",
-     ind(EQ, seq(a, b)), seq(a, b), "a6 b5", low=2, high=8, mode=GE)
+     "(a b)^=", "a b", "a6 b5", low=2, high=8, mode=GE)
 # In 2..6; flag: a2 2..2; mode greater: b3 in 3.., 2..2 with 0..2 = 2..2; out 2..6 with 2..2 = 2..2.
 # Right: from 2..6 at once, 2..2.
 pair("identity indentation with flag", "001 theorem 2.4 (1)", "p^= and p, flag set", "success 2 2 2 clear",
-     ind(EQ, seq(a, b)), seq(a, b), "a2 b3", low=2, high=6, flag=1, mode=GT)
+     "(a b)^=", "a b", "a2 b3", low=2, high=6, flag=1, mode=GT)
 # In 2..6 keeps the upper end: 7 is not in it.
 # Right: 7 is not in 2..6.
 pair("identity indentation failing", "001 theorem 2.4 (1)", "p^= and p, a right of the interval", "failure",
-     ind(EQ, a), a, "a7", low=2, high=6)
+     "a^=", "a", "a7", low=2, high=6)
 # At least: in 2..; greater: in 3.., a5 5..5, out 2.. with 0..4 = 2..4; out 2..6 with 0..4 = 2..4.
 # Right: in 3.., 5..5, out 2..6 with 0..4.
-pair("composition", "001 theorem 2.4 (2)", "(p^>)^>= and p^>", "success 1 2 4 clear",
-     ind(GE, ind(GT, a)), ind(GT, a), "a5", low=2, high=6)
+pair("composition", "001 theorem 2.4 (2)", "(p^>)^>= and p^>", "success 1 2 4 clear", "a^>^>=", "a^>", "a5", low=2, high=6)
 # Greater: in 3..; at least: in 3.., flag: a3 3..3, out 3.. with 0..3 = 3..3; out 2..6 with 0..2 = 2..2.
 # Right: in 3.., 3..3, out 2..6 with 0..2 = 2..2.
 pair("composition with flag", "001 theorem 2.4 (2)", "(p^>=)^> and p^>, flag set", "success 1 2 2 clear",
-     ind(GT, ind(GE, a)), ind(GT, a), "a3", low=2, high=6, flag=1, mode=GE)
+     "a^>=^>", "a^>", "a3", low=2, high=6, flag=1, mode=GE)
 # At least: in 2..; greater: in 3.. has no 2.
 # Right: in 3.. has no 2.
 pair("composition failing", "001 theorem 2.4 (2)", "(p^>)^>= and p^>, a at the baseline", "failure",
-     ind(GE, ind(GT, a)), ind(GT, a), "a2", low=2, high=6)
+     "a^>^>=", "a^>", "a2", low=2, high=6)
 # At least twice: in 2.., in 2.., a5 5..5, out 2.. with 0..5 = 2..5; out 2..6 with 0..5 = 2..5.
 # Right: in 2.., 5..5, out 2..6 with 0..5 = 2..5.
 pair("composition of at least", "001 theorem 2.4 (2)", "(p^>=)^>= and p^>=", "success 1 2 5 clear",
-     ind(GE, ind(GE, a)), ind(GE, a), "a5", low=2, high=6)
+     "a^>=^>=", "a^>=", "a5", low=2, high=6)
 # Greater: in 3..; any: in N, a0 0..0, out 3.. with N = 3..; out 2..6 with 0.. = 2..6.
 # Right: in N, 0..0, out 2..6 with N.
 pair("composition with any", "001 theorem 2.4 (2)", "(p^any)^> and p^any", "success 1 2 6 clear",
-     ind(GT, ind(ANY, a)), ind(ANY, a), "a0", low=2, high=6)
+     "a^any^>", "a^any", "a0", low=2, high=6)
 # Greater: in 3..; any: in N, flag: a0 0..0, b1 >= 0, 0..0; out 3.. with N = 3..; out 2..6 with 0.. = 2..6.
 # Right: in N, 0..0, 0..0, out 2..6.
-pair("composition with any and flag", "001 theorem 2.4 (2)", "(p^any)^> and p^any, flag set",
-     "success 2 2 6 clear", ind(GT, ind(ANY, seq(a, b))), ind(ANY, seq(a, b)), "a0 b1", low=2, high=6, flag=1,
-     mode=GE)
+pair("composition with any and flag", "001 theorem 2.4 (2)", "(p^any)^> and p^any, flag set", "success 2 2 6 clear",
+     "(a b)^any^>", "(a b)^any", "a0 b1", low=2, high=6, flag=1, mode=GE)
 # Greater: in 3..; any: in N; mode greater: 0 is not in 1...
 # Right: in N; 0 is not in 1...
 pair("composition with any failing", "001 theorem 2.4 (2)", "(p^any)^> and p^any, a left of all", "failure",
-     ind(GT, ind(ANY, a)), ind(ANY, a), "a0", low=2, high=6, mode=GT)
+     "a^any^>", "a^any", "a0", low=2, high=6, mode=GT)
 # Any: in N; at least: in N; mode greater: a1 N with 0..0 = 0..0, out N with 0..0; out 5..5 with N = 5..5.
 # Right: in N, 0..0, out 5..5 with N.
 pair("composition under any", "001 theorem 2.4 (2)", "(p^>=)^any and p^any", "success 1 5 5 clear",
-     ind(ANY, ind(GE, a)), ind(ANY, a), "a1", low=5, high=5, mode=GT)
+     "a^>=^any", "a^any", "a1", low=5, high=5, mode=GT)
 # In 2.., flag: a4 4..4, b4 >= 4, 4..4; out 1..1 with 0..3 = 1..1. (000 would fail on the right.)
 # Right: the flag first, then in 2.., 4..4 and the same way out.
 pair("indentation and alignment", "001 theorem 2.4 (3)", "|p|^> and |p^>|", "success 2 1 1 clear",
-     ind(GT, al(seq(a, b))), al(ind(GT, seq(a, b))), "a4 b4", low=1, high=1, mode=GE)
+     "[a b]^>", "[(a b)^>]", "a4 b4", low=1, high=1, mode=GE)
 # In 4.., flag: 3 is not in it, though the mode is any.
 # Right: the flag first, then in 4.. has no 3. (000 would take it.)
-pair("indentation and alignment failing", "001 theorem 2.4 (3)", "|p|^> and |p^>|, a at the baseline",
-     "failure", ind(GT, al(seq(a, b))), al(ind(GT, seq(a, b))), "a3 b3", low=3, high=3, mode=ANY)
+pair("indentation and alignment failing", "001 theorem 2.4 (3)", "|p|^> and |p^>|, a at the baseline", "failure",
+     "[a b]^>", "[(a b)^>]", "a3 b3", low=3, high=3, mode=ANY)
 # In N, flag: a0 0..0; mode greater: b1 in 1.., 0..0 with 0..0; out 2..6 with N = 2..6.
 # Right: the flag first, then in N, 0..0, out 2..6; the flag is clear inside.
-pair("indentation and alignment with flag", "001 theorem 2.4 (3)", "|p|^any and |p^any|, flag set",
-     "success 2 2 6 clear", ind(ANY, al(seq(a, b))), al(ind(ANY, seq(a, b))), "a0 b1", low=2, high=6, flag=1,
-     mode=GT)
+pair("indentation and alignment with flag", "001 theorem 2.4 (3)", "|p|^any and |p^any|, flag set", "success 2 2 6 clear",
+     "[a b]^any", "[(a b)^any]", "a0 b1", low=2, high=6, flag=1, mode=GT)
 # In 4.., flag: 3 is not in it, !a holds: 4.. and set; set before; out 4..6 with 0.. = 4..6, set.
 # Right: !a in 4.., out 4..6, set inside and before.
 pair("indentation and alignment nothing read", "001 theorem 2.4 (3)", "|p|^>= and |p^>=|, p = !a, flag set",
-     "success 0 4 6 set", ind(GE, al(no(a))), al(ind(GE, no(a))), "a3", low=4, high=6, flag=1, mode=ANY)
+     "success 0 4 6 set", "[!a]^>=", "[(!a)^>=]", "a3", low=4, high=6, flag=1, mode=ANY)
 # flag: a4 4..4; mode greater: b5 in 5.., 4..4 with 0..4 = 4..4.
 # Right: one align sets the flag just as well.
-pair("alignment twice", "001 theorem 2.4 (4)", "||p|| and |p|", "success 2 4 4 clear",
-     al(al(seq(a, b))), al(seq(a, b)), "a4 b5", mode=GT)
+pair("alignment twice", "001 theorem 2.4 (4)", "||p|| and |p|", "success 2 4 4 clear", "[[a b]]", "[a b]", "a4 b5", mode=GT)
 # flag: 3 is not in 4..6, no round; inner align: set and set; outer: set and set.
 # Right: set and set once.
-pair("alignment twice with flag", "001 theorem 2.4 (4)", "||p|| and |p|, p = a*, flag set",
-     "success 0 4 6 set", al(al(star(a))), al(star(a)), "a3", low=4, high=6, flag=1, mode=GE)
+pair("alignment twice with flag", "001 theorem 2.4 (4)", "||p|| and |p|, p = a*, flag set", "success 0 4 6 set",
+     "[[a*]]", "[a*]", "a3", low=4, high=6, flag=1, mode=GE)
 # !b holds, nothing read; inner align: set and set = set; outer: clear and set = clear.
 # Right: clear and set = clear.
 pair("alignment twice nothing read", "001 theorem 2.4 (4)", "||p|| and |p|, p = !b", "success 0 2 6 clear",
-     al(al(no(b))), al(no(b)), "a9", low=2, high=6, mode=GE)
+     "[[!b]]", "[!b]", "a9", low=2, high=6, mode=GE)
 # In 3.. has no 2, so the indent and both aligns fail.
 # Right: the same 3.. under one align.
 pair("alignment twice failing", "001 theorem 2.4 (4)", "||p|| and |p|, p = a^> at the baseline", "failure",
-     al(al(ind(GT, a))), al(ind(GT, a)), "a2", low=2, high=2, mode=ANY)
+     "[[a^>]]", "[a^>]", "a2", low=2, high=2, mode=ANY)
 # Mode equal is the inner one: a4 in 3..5, 4..4.
 # Right: mode equal in place of greater: 4..4.
 pair("position twice", "001 theorem 2.4 (5)", "(p_=)_any and p_=", "success 1 4 4 clear",
-     pos(ANY, pos(EQ, a)), pos(EQ, a), "a4", low=3, high=5, mode=GT)
+     "a_=_any", "a_=", "a4", low=3, high=5, mode=GT)
 # Mode greater is the inner one: 3 is not in 4.. (any and at least would take it).
 # Right: 3 is not in 4...
 pair("position twice failing", "001 theorem 2.4 (5)", "(p_>)_any and p_>, a at the baseline", "failure",
-     pos(ANY, pos(GT, a)), pos(GT, a), "a3", low=3, high=5, mode=GE)
+     "a_>_any", "a_>", "a3", low=3, high=5, mode=GE)
 # flag: a6 in 2..6, 6..6; mode any is the inner one: b0 leaves 6..6.
 # Right: 6..6, then b0 in mode any.
-pair("position twice with flag", "001 theorem 2.4 (5)", "(p_any)_> and p_any, flag set",
-     "success 2 6 6 clear",
-     pos(GT, pos(ANY, seq(a, b))), pos(ANY, seq(a, b)), "a6 b0", low=2, high=6, flag=1)
+pair("position twice with flag", "001 theorem 2.4 (5)", "(p_any)_> and p_any, flag set", "success 2 6 6 clear",
+     "(a b)_any_>", "(a b)_any", "a6 b0", low=2, high=6, flag=1)
 # flag: a4 in 2..6, 4..4.
 # Right: mode equal: a4 in 2..6, met with 4..4.
 pair("terminal alignment", "001 theorem 2.4 (6)", "|a| and a_=", "success 1 4 4 clear",
-     al(a), pos(EQ, a), "a4", low=2, high=6, mode=GE)
+     "[a]", "a_=", "a4", low=2, high=6, mode=GE)
 # flag: 7 is not in 2..6, though the mode is any.
 # Right: mode equal: 7 is not in 2..6.
 pair("terminal alignment failing", "001 theorem 2.4 (6)", "|a| and a_=, a right of the interval", "failure",
-     al(a), pos(EQ, a), "a7", low=2, high=6, mode=ANY)
+     "[a]", "a_=", "a7", low=2, high=6, mode=ANY)
 # From 5.., flag set: a5 lies in it, 5..5, clear inside and so after.
 # Right: the flag is set: 5 in 5.., 5..5.
-pair("terminal alignment with flag", "001 theorem 2.4 (6)", "|a| and a_=, flag set, from 5 on",
-     "success 1 5 5 clear", al(a), pos(EQ, a), "a5", low=5, flag=1, mode=GT)
+pair("terminal alignment with flag", "001 theorem 2.4 (6)", "|a| and a_=, flag set, from 5 on", "success 1 5 5 clear",
+     "[a]", "a_=", "a5", low=5, flag=1, mode=GT)
 
 # Theorem 2.5.
 # The flag is set, !b holds, flag: a4 4..4.
 # Right: |!b| hands clear on, |a| sets the flag anew and gives 4..4.
-pair("align over empty first part", "001 theorem 2.5 (1)", "|pq| and |p||q|, p reads nothing",
-     "success 1 4 4 clear", al(seq(no(b), a)), seq(al(no(b)), al(a)), "a4", low=2, high=6, mode=GE)
+pair("align over empty first part", "001 theorem 2.5 (1)", "|pq| and |p||q|, p reads nothing", "success 1 4 4 clear",
+     "[!b a]", "[!b] [a]", "a4", low=2, high=6, mode=GE)
 # p = !!a, q = ab: flag: 3 in 2..6, so !a fails and !!a holds, flag set; a3 3..3; b4 in 4.., 3..3.
 # Right: |!!a| leaves the flag set (set and set); |ab| gives 3..3.
-pair("align over empty first part with flag", "001 theorem 2.5 (1) and section 3, stage 2",
-     "|!!aq| and |!!a||q|, flag set", "success 2 3 3 clear",
-     al(seq(no(no(a)), a, b)), seq(al(no(no(a))), al(seq(a, b))), "a3 b4", low=2, high=6, flag=1, mode=GT)
+pair("align over empty first part with flag", "001 theorem 2.5 (1) and section 3, stage 2", "|!!aq| and |!!a||q|, flag set",
+     "success 2 3 3 clear", "[!!a a b]", "[!!a] [a b]", "a3 b4", low=2, high=6, flag=1, mode=GT)
 # !b holds; flag: 4 is not in 2..3, though the mode is any.
 # Right: |!b| holds, |a|: 4 is not in 2..3.
-pair("align over empty first part failing", "001 theorem 2.5 (1)", "|pq| and |p||q|, a off the baseline",
-     "failure", al(seq(no(b), a)), seq(al(no(b)), al(a)), "a4", low=2, high=3, mode=ANY)
+pair("align over empty first part failing", "001 theorem 2.5 (1)", "|pq| and |p||q|, a off the baseline", "failure",
+     "[!b a]", "[!b] [a]", "a4", low=2, high=3, mode=ANY)
 # flag: c2 in 2..6, so !!c holds, twice; set inside, clear before: clear. (Mode greater needs 3...)
 # Right: the second align sets the flag anew, c2 in 2..6; clear after each.
-pair("align over two empty parts", "001 theorem 2.5 (1) and section 3, stage 2",
-     "|!!c!!c| and |!!c||!!c|", "success 0 2 6 clear",
-     al(seq(no(no(c)), no(no(c)))), seq(al(no(no(c))), al(no(no(c)))), "c2", low=2, high=6, mode=GT)
+pair("align over two empty parts", "001 theorem 2.5 (1) and section 3, stage 2", "|!!c!!c| and |!!c||!!c|",
+     "success 0 2 6 clear", "[!!c !!c]", "[!!c] [!!c]", "c2", low=2, high=6, mode=GT)
 # |!b| a: the flag is clear again at a: 4 >= 2, 2..6 with 0..4 = 2..4.
 run("001 2.3 align on an empty first part only", "001 theorem 2.5 (1)", "|p|q is not |pq| if p reads nothing",
-    "success 1 2 4 clear", seq(al(no(b)), a), "a4", low=2, high=6, mode=GE)
+    "success 1 2 4 clear", "[!b] a", "a4", low=2, high=6, mode=GE)
 # flag: a4 4..4; b5 >= 4, 4..4.
 # Right: |a| gives 4..4 and clear; b5 >= 4.
 pair("align over reading first part", "001 theorem 2.5 (2)", "|pq| and |p|q, p reads", "success 2 4 4 clear",
-     al(seq(a, b)), seq(al(a), b), "a4 b5", low=2, high=6, mode=GE)
+     "[a b]", "[a] b", "a4 b5", low=2, high=6, mode=GE)
 # flag: a4 4..4; mode greater: b4 is not in 5...
 # Right: |a| gives 4..4, b4 is not in 5...
-pair("align over reading first part failing", "001 theorem 2.5 (2)", "|pq| and |p|q, b at the baseline",
-     "failure", al(seq(a, b)), seq(al(a), b), "a4 b4", mode=GT)
+pair("align over reading first part failing", "001 theorem 2.5 (2)", "|pq| and |p|q, b at the baseline", "failure",
+     "[a b]", "[a] b", "a4 b4", mode=GT)
 # flag: a3 in 1..6, 3..3, clear; c5 >= 3, so !!c holds, nothing read; clear. (Under a flag c5 would fail.)
 # Right: |a| gives 3..3 and clear, then !!c holds.
-pair("align over reading first part with flag", "001 theorem 2.5 (2) and section 3, stage 2",
-     "|a!!c| and |a|!!c, flag set", "success 1 3 3 clear",
-     al(seq(a, no(no(c)))), seq(al(a), no(no(c))), "a3 c5", low=1, high=6, flag=1, mode=GE)
+pair("align over reading first part with flag", "001 theorem 2.5 (2) and section 3, stage 2", "|a!!c| and |a|!!c, flag set",
+     "success 1 3 3 clear", "[a !!c]", "[a] !!c", "a3 c5", low=1, high=6, flag=1, mode=GE)
 # |a||b|: 4..4, then flag: 5 is not in it.
 run("001 2.3 align on both parts", "001 theorem 2.5 (2)", "|p||q| is not |pq| if p reads", "failure",
-    seq(al(a), al(b)), "a4 b5", low=2, high=6, mode=GE)
+    "[a] [b]", "a4 b5", low=2, high=6, mode=GE)
 # In 3.., !b holds, a4 4..4; out 2..6 with 0..3 = 2..3.
 # Right: (!b)^>: in 3.., out 2..6 with 0.. = 2..6; a^>: in 3.., 4..4, out 2..3.
 pair("indent over empty first part", "001 section 2.3, after theorem 2.5", "(pq)^> and p^> q^>, p reads nothing",
-     "success 1 2 3 clear", ind(GT, seq(no(b), a)), seq(ind(GT, no(b)), ind(GT, a)), "a4", low=2, high=6)
+     "success 1 2 3 clear", "(!b a)^>", "(!b)^> a^>", "a4", low=2, high=6)
 # In 3..; flag: 3 lies in it, !!a holds, set; a3 3..3; mode greater: b4 in 4.., 3..3; out 3..8 with 0..3.
 # Right: (!!a)^>=: 3..8 and set stay; (ab)^>=: in 3.., 3..3, 3..3, out 3..3.
 pair("indent over empty first part with flag", "001 section 2.3, after theorem 2.5",
-     "(pq)^>= and p^>= q^>=, p = !!a, flag set", "success 2 3 3 clear",
-     ind(GE, seq(no(no(a)), a, b)), seq(ind(GE, no(no(a))), ind(GE, seq(a, b))), "a3 b4", low=3, high=8,
-     flag=1, mode=GT)
+     "(pq)^>= and p^>= q^>=, p = !!a, flag set", "success 2 3 3 clear", "(!!a a b)^>=", "(!!a)^>= (a b)^>=", "a3 b4", low=3,
+     high=8, flag=1, mode=GT)
 # In 3..: a3 lies in it, so !a fails. (From 2..2 itself !a would hold.)
 # Right: (!a)^> fails in 3...
 pair("indent over empty first part failing", "001 section 2.3, after theorem 2.5", "(pq)^> and p^> q^>, p = !a fails",
-     "failure", ind(GT, seq(no(a), a)), seq(ind(GT, no(a)), ind(GT, a)), "a3", low=2, high=2)
+     "failure", "(!a a)^>", "(!a)^> a^>", "a3", low=2, high=2)
 
 # Theorem 2.6.
 # Position: a4 in 3.., 2..6 with 0..3 = 2..3.
 # Right: in 3.., 4..4, out 2..6 with 0..3 = 2..3.
-pair("terminal position and indent", "001 theorem 2.6", "a_> and a^> in mode equal, flag clear",
-     "success 1 2 3 clear", pos(GT, a), ind(GT, a), "a4", low=2, high=6)
+pair("terminal position and indent", "001 theorem 2.6", "a_> and a^> in mode equal, flag clear", "success 1 2 3 clear",
+     "a_>", "a^>", "a4", low=2, high=6)
 # Position: 9 in 2.., 2..6 with 0..9 = 2..6.
 # Right: in 2.., 9..9, out 2..6 with 0..9 = 2..6.
 pair("terminal position and indent at least", "001 theorem 2.6", "a_>= and a^>= right of the interval",
-     "success 1 2 6 clear", pos(GE, a), ind(GE, a), "a9", low=2, high=6)
+     "success 1 2 6 clear", "a_>=", "a^>=", "a9", low=2, high=6)
 # Position: 0 in N, 5..8 with N = 5..8.
 # Right: in N, 0..0, out 5..8 with N = 5..8.
-pair("terminal position and indent any", "001 theorem 2.6", "a_any and a^any left of the interval",
-     "success 1 5 8 clear", pos(ANY, a), ind(ANY, a), "a0", low=5, high=8)
+pair("terminal position and indent any", "001 theorem 2.6", "a_any and a^any left of the interval", "success 1 5 8 clear",
+     "a_any", "a^any", "a0", low=5, high=8)
 # Position: 7 in N, met with 7..7.
 # Right: in N, 7..7, out N with 7..7 = 7..7.
-pair("terminal position and indent equal", "001 theorem 2.6", "a_= and a^= from 0 on",
-     "success 1 7 7 clear", pos(EQ, a), ind(EQ, a), "a7")
+pair("terminal position and indent equal", "001 theorem 2.6", "a_= and a^= from 0 on", "success 1 7 7 clear",
+     "a_=", "a^=", "a7")
 # Position: 4 is not in 5...
 # Right: in 5.. has no 4.
 pair("terminal position and indent failing", "001 theorem 2.6", "a_> and a^> at the baseline", "failure",
-     pos(GT, a), ind(GT, a), "a4", low=4, high=4)
+     "a_>", "a^>", "a4", low=4, high=4)
 # With the flag set the mode is not looked at: a4 in 2..6, 4..4.
 run("001 2.3 terminal position with flag", "001 theorem 2.6", "with the flag set a_> gives the column alone",
-    "success 1 4 4 clear", pos(GT, a), "a4", low=2, high=6, flag=1)
+    "success 1 4 4 clear", "a_>", "a4", low=2, high=6, flag=1)
 # The indent still counts: in 3.., flag: 4..4, out 2..6 with 0..3 = 2..3.
 run("001 2.3 terminal indent with flag", "001 theorem 2.6", "with the flag set a^> still moves the baseline",
-    "success 1 2 3 clear", ind(GT, a), "a4", low=2, high=6, flag=1)
+    "success 1 2 3 clear", "a^>", "a4", low=2, high=6, flag=1)
 
 # ---- 001, section 2.4: flags ----
 
 # |[b]| reads nothing; clear before, so clear after; mode greater: a5 N with 0..4 = 0..4.
 run("001 2.4 flag after an empty align", "001 section 2.4 (2)", "the flag is restored", "success 1 0 4 clear",
-    seq(al(opt(b)), a), "a5", mode=GT)
+    "[b / empty] a", "a5", mode=GT)
 # The flag was set before and at the inner end, so a5 is aligned: 5..5.
-run("001 2.4 flag set before an empty align", "001 section 2.4 (2)", "a flag set outside stays",
-    "success 1 5 5 clear", seq(al(opt(b)), a), "a5", flag=1, mode=GT)
+run("001 2.4 flag set before an empty align", "001 section 2.4 (2)", "a flag set outside stays", "success 1 5 5 clear",
+    "[b / empty] a", "a5", flag=1, mode=GT)
 # In 2.. also under the flag: 1 is not in it. (000 would take it.)
 run("001 2.4 indent under align", "001 section 2.4 (3)", "an indent inside align is not neglected", "failure",
-    al(ind(GT, seq(a, b))), "a1 b1", low=1, high=1, mode=GE)
+    "[(a b)^>]", "a1 b1", low=1, high=1, mode=GE)
 # flag: a5 5..5 whatever the position says; b6 in 6.., 5..5 with 0..5 = 5..5.
-run("001 2.4 position over an aligned block", "001 section 2.4 (3)",
-    "align overrides position at the first token", "success 2 5 5 clear", pos(GT, al(seq(a, b))), "a5 b6")
+run("001 2.4 position over an aligned block", "001 section 2.4 (3)", "align overrides position at the first token",
+    "success 2 5 5 clear", "[a b]_>", "a5 b6")
 # b5 is not in 6...
-run("001 2.4 position after the aligned token", "001 section 2.4 (3)", "position holds for the next token",
-    "failure", pos(GT, al(seq(a, b))), "a5 b5")
+run("001 2.4 position after the aligned token", "001 section 2.4 (3)", "position holds for the next token", "failure",
+    "[a b]_>", "a5 b5")
 
 # ---- 001, section 3: elimination of alignment and position ----
 
-# Sharing: !!c is written NNC.
-NNC = no(no(c))
-ORIGINAL = {"A": alt(NNC, a, r("B")), "B": seq(b, ind(GT, al(seq(r("A"), r("A")))))}
-S_ORIGINAL = pos(GE, r("A"))
+ORIGINAL = "A = !!c / a / B; B = b [A A]^>"
+S_ORIGINAL = "A_>="
 # Stage 1: A = a/B, B = b |AA / A!!c / !!cA / !!c!!c|^>, start (A/!!c)_>=.
-STAGE1 = {
-    "A": alt(a, r("B")),
-    "B": seq(b, ind(GT, al(alt(seq(r("A"), r("A")), seq(r("A"), NNC), seq(NNC, r("A")), seq(NNC, NNC))))),
-}
-S_STAGE1 = pos(GE, alt(r("A"), NNC))
+STAGE1 = "A = a / B; B = b [A A / A !!c / !!c A / !!c !!c]^>"
+S_STAGE1 = "(A / !!c)_>="
 # Stage 2: alignments moved down to terminals in mode equal.
-NNC_EQ = no(no(pos(EQ, c)))
-BODY2 = ind(GT, alt(seq(r("A'"), r("A")), seq(r("A'"), NNC), seq(NNC_EQ, r("A'")), seq(NNC_EQ, NNC_EQ)))
-STAGE2 = {
-    "A": alt(a, r("B")),
-    "B": seq(b, BODY2),
-    "A'": alt(pos(EQ, a), r("B'")),
-    "B'": seq(pos(EQ, b), BODY2),
-}
-S_STAGE2 = pos(GE, alt(r("A"), NNC))
+BODY2 = "(A' A / A' !!c / !!c_= A' / !!c_= !!c_=)^>"
+STAGE2 = f"A = a / B; B = b {BODY2}; A' = a_= / B'; B' = b_= {BODY2}"
+S_STAGE2 = "(A / !!c)_>="
 # Stage 3: positions turned into indents, start mode equal.
-NNC_GE = no(no(ind(GE, c)))
-BODY3 = ind(GT, alt(seq(r("A'"), r("A")), seq(r("A'"), NNC_GE), seq(NNC, r("A'")), seq(NNC, NNC)))
-FINAL = {
-    "A": alt(ind(GE, a), r("B")),
-    "B": seq(ind(GE, b), BODY3),
-    "A'": alt(a, r("B'")),
-    "B'": seq(b, BODY3),
-}
-S_FINAL = alt(r("A"), NNC_GE)
+BODY3 = "(A' A / A' !!c^>= / !!c A' / !!c !!c)^>"
+FINAL = f"A = a^>= / B; B = b^>= {BODY3}; A' = a / B'; B' = b {BODY3}"
+S_FINAL = "A / !!c^>="
 SEC3 = "001 section 3"
 
 
@@ -862,54 +717,51 @@ stages("empty body", "both parts of the block read nothing", "success 1 0 0 clea
 
 # p* against X = pX/empty with p = |a|: a2 2..2, a2 in it, a5 not: two read.
 run("001 3 repetition", "001 section 3, repetition eliminated", "p* with p = |a|", "success 2 2 2 clear",
-    star(al(a)), "a2 a2 a5", mode=GE)
+    "[a]*", "a2 a2 a5", mode=GE)
 run("001 3 repetition as a rule", "001 section 3, repetition eliminated", "X = pX/empty does the same",
-    "success 2 2 2 clear", r("X"), "a2 a2 a5", {"X": alt(seq(al(a), r("X")), EPS)}, mode=GE)
+    "success 2 2 2 clear", "X", "a2 a2 a5", "X = [a] X / empty", mode=GE)
 
 # p = a: flag: a3 in 2..6, 3..3; mode greater: a5 in 4.., 3..3 with 0..4 = 3..3; a3 is not in 4..: ends.
 # As a rule: pX, pX, then the third p fails and empty keeps 3..3.
 run("001 3 repetition with flag", "001 section 3, repetition eliminated", "p* with p = a, flag set", "success 2 3 3 clear",
-    star(a), "a3 a5 a3", low=2, high=6, flag=1, mode=GT)
+    "a*", "a3 a5 a3", low=2, high=6, flag=1, mode=GT)
 run("001 3 repetition with flag as a rule", "001 section 3, repetition eliminated", "X = pX/empty does the same",
-    "success 2 3 3 clear", r("X"), "a3 a5 a3", {"X": alt(seq(a, r("X")), EPS)}, low=2, high=6, flag=1,
-    mode=GT)
+    "success 2 3 3 clear", "X", "a3 a5 a3", "X = a X / empty", low=2, high=6, flag=1, mode=GT)
 # p = a^>: in 5.. has no 4: no round, the old 4..4.
 # As a rule: p fails, so empty from the old 4..4.
 run("001 3 repetition without a round", "001 section 3, repetition eliminated", "p* with p = a^> at the baseline",
-    "success 0 4 4 clear", star(ind(GT, a)), "a4", low=4, high=4)
+    "success 0 4 4 clear", "a^>*", "a4", low=4, high=4)
 run("001 3 repetition without a round as a rule", "001 section 3, repetition eliminated", "X = pX/empty does the same",
-    "success 0 4 4 clear", r("X"), "a4", {"X": alt(seq(ind(GT, a), r("X")), EPS)}, low=4, high=4)
+    "success 0 4 4 clear", "X", "a4", "X = a^> X / empty", low=4, high=4)
 
 # ---- 001, section 4 ----
 
 # flag: a2 2..2; at least: in 2.., b5 >= 2, 2..5; greater: in 3.., c4 >= 3, 3..4, out 2..5 with 0..3 = 2..3;
 # out 2..2 with 0..3 = 2..2.
-run("001 4.1 expression with a finite interval", "001 section 4.1", "|a(bc^>)^>=| in mode at least",
-    "success 3 2 2 clear", pos(GE, al(seq(a, ind(GE, seq(b, ind(GT, c)))))), "a2 b5 c4")
+run("001 4.1 expression with a finite interval", "001 section 4.1", "|a(bc^>)^>=| in mode at least", "success 3 2 2 clear",
+    "[a (b c^>)^>=]_>=", "a2 b5 c4")
 # Its inner part by itself: b5 2..5, then as above 2..3.
 run("001 4.1 the interval inside", "001 section 4.1", "bc^> from 2 on, mode at least", "success 2 2 3 clear",
-    seq(b, ind(GT, c)), "b5 c4", low=2, mode=GE)
+    "b c^>", "b5 c4", low=2, mode=GE)
 # c2 is not in 3...
-run("001 4.1 expression failing", "001 section 4.1", "c at the outer baseline", "failure",
-    pos(GE, al(seq(a, ind(GE, seq(b, ind(GT, c)))))), "a2 b5 c2")
+run("001 4.1 expression failing", "001 section 4.1", "c at the outer baseline", "failure", "[a (b c^>)^>=]_>=", "a2 b5 c2")
 # a1 1..1; in 2.., b4 4..4, out 1..1 with 0..3 = 1..1.
-run("001 4.1 second expression", "001 section 4.1", "(ab^>) in mode equal", "success 2 1 1 clear",
-    pos(EQ, seq(a, ind(GT, b))), "a1 b4")
+run("001 4.1 second expression", "001 section 4.1", "(ab^>) in mode equal", "success 2 1 1 clear", "(a b^>)_=", "a1 b4")
 # The table of outer sets: a5 under each relation from N, mode equal: 5..5 on the way out.
-OUTER = (("equal", EQ, "5 5"), ("greater", GT, "0 4"), ("at least", GE, "0 5"), ("any", ANY, "0 inf"))
+OUTER = (("equal", "=", "5 5"), ("greater", ">", "0 4"), ("at least", ">=", "0 5"), ("any", "any", "0 inf"))
 for name, relation, ends in OUTER:
     run(f"001 4.2 outer set of {name}", "001 section 4.2, table of l and h", f"column 5 under {name}",
-        f"success 1 {ends} clear", ind(relation, a), "a5")
+        f"success 1 {ends} clear", f"a^{relation}", "a5")
 
 
 # ---- 000, section 2: parsing expressions and brackets ----
 
 # A = aA / b in mode any: two rounds, then b.
 run("000 2.1 right recursion", "000 section 2.1, the basic idea", "A = aA / b", "success 3 0 inf clear",
-    r("A"), "a0 a1 b2", {"A": alt(seq(a, r("A")), b)}, mode=ANY)
+    "A", "a0 a1 b2", "A = a A / b", mode=ANY)
 # The third A meets the end of the tokens; the failure goes up through both sequences, b meets a.
 run("000 2.1 right recursion without end", "000 section 2.1, the basic idea", "A = aA / b without b", "failure",
-    r("A"), "a0 a1", {"A": alt(seq(a, r("A")), b)}, mode=ANY)
+    "A", "a0 a1", "A = a A / b", mode=ANY)
 
 # A = ( '(' A^> ')' / '['^>= A^> ']'^>= )*; the star is lost in the text ("^{1/2}"), the words of figure 2
 # need it.
@@ -938,7 +790,7 @@ run("000 2.2 contents not indented", "000 section 2.2, the bracket grammar", "co
     "success 0 0 inf clear", r("A"), "(1 [1 ]1 )1", BRACKETS, BR_NAMES)
 # B is the terminal a: a2 2..2, a2 in it, a3 not.
 run("000 2.2 repeat at one column", "000 section 2.2, the simple example", "A = B*", "success 2 2 2 clear",
-    star(r("B")), "a2 a2 a3", {"B": a})
+    "B*", "a2 a2 a3", "B = a")
 
 # ---- 000, sections 3.1 and 4.3: case ----
 
@@ -959,12 +811,10 @@ CASE = {
 # From 1..1: case3, x8, of10 each right of 1, 1..1 stays. { fails at id. In 2.., flag: Left5 5..5; y10,
 # ->12, y15 are in 6..; Right4 is not, nor in 5..5. Out 1..1 with 0..4 = 1..1. 7 read.
 run("000 4.3 derivation", "000 section 4.3, figure 7", "Right at 4 ends the alternatives that began at 5",
-    "success 7 1 1 clear", r("case"), "case3 id8 of10 id5 id10 ->12 id15 id4", CASE, CASE_NAMES, low=1,
-    high=1, mode=GT)
+    "success 7 1 1 clear", r("case"), "case3 id8 of10 id5 id10 ->12 id15 id4", CASE, CASE_NAMES, low=1, high=1, mode=GT)
 # Right5 is not in 6.. (so no argument) but in 5..5: a second alternative.
-run("000 4.3 aligned alternatives", "000 section 4.3", "Right at 5 begins the second alternative",
-    "success 11 1 1 clear", r("case"), "case3 id8 of10 id5 id10 ->12 id15 id5 id11 ->13 id16", CASE,
-    CASE_NAMES, low=1, high=1, mode=GT)
+run("000 4.3 aligned alternatives", "000 section 4.3", "Right at 5 begins the second alternative", "success 11 1 1 clear",
+    r("case"), "case3 id8 of10 id5 id10 ->12 id15 id5 id11 ->13 id16", CASE, CASE_NAMES, low=1, high=1, mode=GT)
 # The grammar word for word, > at every terminal, mode equal, by 001: in 2.., flag: id^> in 3.., Left5
 # 5..5, out 2.. with 0..4 = 2..4; y10, ->12, y15 keep 2..4; Right4: in 3.., 4..4, out 2..4 with 0..3 =
 # 2..3: read as an argument. Out 1..1 with 0..2 = 1..1. 000 would stop before Right.
@@ -986,35 +836,32 @@ run("000 3.1 explicit braces", "000 section 3.1.2, eAlts", "braces free the cont
     CASE_NAMES, low=1, high=1, mode=GT)
 # {0 is not in 2..; iAlts then reads no alternative: in 2.., |alts| fails at {, out 1..1 with 0.. = 1..1.
 run("000 3.1 opening brace too far left", "000 section 3.1.2, eAlts", "the opening brace keeps to the mode",
-    "success 3 1 1 clear", r("case"), "case3 id8 of10 {0 id2 ->4 id6 }0", CASE, CASE_NAMES, low=1, high=1,
-    mode=GT)
+    "success 3 1 1 clear", r("case"), "case3 id8 of10 {0 id2 ->4 id6 }0", CASE, CASE_NAMES, low=1, high=1, mode=GT)
 # The opening brace in mode any: {0 1..1; in N: id2 0..1, ->4, id6; out 1..1; }0.
 RELAXED_CASE = dict(CASE, eAlts=seq(pos(ANY, K_OPEN), ind(ANY, r("alts")), pos(ANY, K_CLOSE)))
-run("000 3.1 relaxed layout", "000 section 3.1.2, RelaxedLayout", "an opening brace at any column",
-    "success 8 1 1 clear", r("case"), "case3 id8 of10 {0 id2 ->4 id6 }0", RELAXED_CASE, CASE_NAMES,
-    low=1, high=1, mode=GT)
+run("000 3.1 relaxed layout", "000 section 3.1.2, RelaxedLayout", "an opening brace at any column", "success 8 1 1 clear",
+    r("case"), "case3 id8 of10 {0 id2 ->4 id6 }0", RELAXED_CASE, CASE_NAMES, low=1, high=1, mode=GT)
 # alts = [id] (; [id])* may read nothing, so its repeat is bad. Nodes: 0 id, 1 empty, 2 choice, 3 ;, 4
 # sequence, 5 repeat, 6 sequence (alts), 7 rule, 8 align, 9 repeat, 10 indent. All up to 8 pass, 9 repeats
 # what may read nothing.
 run("000 3.1 alternatives that may be empty", "000 section 3.1.2, side condition of case",
-    "a repeat of something that may read nothing", "refused 7 9",
-    ind(GT, star(al(r("alts")))), "id3", {"alts": seq(opt(K_ID), star(seq(K_SEMI, opt(K_ID))))}, CASE_NAMES,
-    mode=GT)
+    "a repeat of something that may read nothing", "refused 7 9", ind(GT, star(al(r("alts")))), "id3",
+    {"alts": seq(opt(K_ID), star(seq(K_SEMI, opt(K_ID))))}, CASE_NAMES, mode=GT)
 
 # ---- 000, section 4.2 and 5.1 ----
 
 # a1 1..1; in 2.., b2 2..2, out 1..1.
 run("000 4.2 b right of a", "000 section 4.2, biased choice", "a then (b^> or empty)", "success 2 1 1 clear",
-    seq(a, alt(ind(GT, b), EPS)), "a1 b2")
+    "a (b^> / empty)", "a1 b2")
 # a3 3..3; in 4.. has no 2; empty.
 run("000 4.2 b left of a", "000 section 4.2, biased choice", "a then (b^> or empty)", "success 1 3 3 clear",
-    seq(a, alt(ind(GT, b), EPS)), "a3 b2")
+    "a (b^> / empty)", "a3 b2")
 # In 2.., a2 2..2, out 1..2 with 0..1 = 1..1.
-run("000 4.2 indentation set 1 and 2", "000 section 4.2, indentation and absolute alignment", "p^> from {1, 2}", "success 1 1 1 clear",
-    ind(GT, a), "a2", low=1, high=2)
+run("000 4.2 indentation set 1 and 2", "000 section 4.2, indentation and absolute alignment", "p^> from {1, 2}",
+    "success 1 1 1 clear", "a^>", "a2", low=1, high=2)
 # ab fails at c, the second alternative starts again at a.
 run("000 5.1 backtracking", "000 section 5.1, continuations", "ab / ac on ac", "success 2 0 inf clear",
-    alt(seq(a, b), seq(a, c)), "a0 c1", mode=ANY)
+    "a b / a c", "a0 c1", mode=ANY)
 
 # ---- 000 as report texts. Terminal 0 number, 1 word, 2 line end, 3 on keywords ----
 
@@ -1052,8 +899,7 @@ PROGRAM = plus(al(r("statement")))
 report("000 3.2 while block", "000 section 3.2.2, while_stmt and suite", "a block, then a line at the margin",
        "success 16 0 0 clear", PYTHON_KEYS, PROGRAM, "while x:\n    y = 1\n    z = 2\nw = 3\n", PYTHON)
 # z2 is neither in 4..4 nor in 0..0: both repeats end. 4 + 4 read.
-report("000 3.2 while block badly dedented", "000 section 3.2.2, suite",
-       "a line between two baselines is left over",
+report("000 3.2 while block badly dedented", "000 section 3.2.2, suite", "a line between two baselines is left over",
        "success 8 0 0 clear", PYTHON_KEYS, PROGRAM, "while x:\n    y = 1\n  z = 2\n", PYTHON)
 # y0 is not in 1.., and simple does not begin with a line end: both forms of suite fail, so the statement
 # does.
@@ -1074,23 +920,22 @@ report("000 3.2 list over lines", "000 section 3.2.2, atom", "brackets free the 
 # Landin's rule: nothing of a phrase stands left of where it begins: |p| in mode at least.
 # flag: a2 2..2; b5 >= 2; c2 >= 2: 2..2 with 0..5 and 0..2 = 2..2.
 run("002 4.1 landin offside rule", "002 section 4.1.2, Landin's wording", "no token left of the first",
-    "success 3 2 2 clear", al(seq(a, b, c)), "a2 b5 c2", mode=GE)
+    "success 3 2 2 clear", "[a b c]", "a2 b5 c2", mode=GE)
 # c1 is not in 2...
-run("002 4.1 landin offside rule broken", "002 section 4.1.2, Landin's wording", "a token left of the first",
-    "failure", al(seq(a, b, c)), "a2 b5 c1", mode=GE)
+run("002 4.1 landin offside rule broken", "002 section 4.1.2, Landin's wording", "a token left of the first", "failure",
+    "[a b c]", "a2 b5 c1", mode=GE)
 # What is in brackets is let off: a2 2..2; any: in N, b0 0..0, out 2..2 with N; c3 >= 2.
-run("002 4.1 landin offside rule with brackets", "002 section 4.1.2, Landin's wording",
-    "a freed segment inside", "success 3 2 2 clear", al(seq(a, ind(ANY, b), c)), "a2 b0 c3", mode=GE)
+run("002 4.1 landin offside rule with brackets", "002 section 4.1.2, Landin's wording", "a freed segment inside",
+    "success 3 2 2 clear", "[a b^any c]", "a2 b0 c3", mode=GE)
 # The newer wording: further to the right: mode greater. c2 is not in 3...
-run("002 4.1 newer offside rule", "002 section 4.1.2, Amorim's wording",
-    "the first token's column is too far left", "failure", al(seq(a, b, c)), "a2 b5 c2", mode=GT)
+run("002 4.1 newer offside rule", "002 section 4.1.2, Amorim's wording", "the first token's column is too far left",
+    "failure", "[a b c]", "a2 b5 c2", mode=GT)
 
 # 1 + 1 in the layouts of chapter 2: keyword + = 3; the line may break behind any token but the last.
 SUM = al(seq(NUMBER, opt(NL), t(3), opt(NL), NUMBER, NL))
 SUMS = "002 chapter 2 and section 5.1, the three sums"
 # flag: 1 at 0 0..0; +2, 1 at 4 in 1...
-report("002 2 sum on one line", SUMS, "the offside rule over lines", "success 4 0 0 clear", "+", SUM,
-       "1 + 1\n")
+report("002 2 sum on one line", SUMS, "the offside rule over lines", "success 4 0 0 clear", "+", SUM, "1 + 1\n")
 # 1 at 0, +2, end 3, 1 at 2, end 3.
 report("002 2 sum broken behind plus", SUMS, "a continuation line further right", "success 5 0 0 clear", "+",
        SUM, "1 +\n  1\n")
@@ -1098,8 +943,7 @@ report("002 2 sum broken behind plus", SUMS, "a continuation line further right"
 report("002 2 sum broken before plus", SUMS, "a continuation line further right", "success 5 0 0 clear", "+",
        SUM, "1\n  + 1")
 # +0 is not in 1...
-report("002 2 sum at the margin", SUMS, "a line at the first column is no continuation", "failure", "+", SUM,
-       "1\n+ 1\n")
+report("002 2 sum at the margin", SUMS, "a line at the first column is no continuation", "failure", "+", SUM, "1\n+ 1\n")
 
 # Python-like definitions. Keywords def = 3, : = 4, ( = 5, ) = 6, print = 7, \ = 8.
 DEF, COLON_D, LP_D, RP_D, PRINT, JOIN = (t(k) for k in range(3, 9))
@@ -1160,15 +1004,14 @@ report("002 7.2 module block at the margin", "002 section 7.2.1", "the module's 
 report("002 7.2 module block indented", "002 section 7.2.1", "the module's block may be indented",
        "success 8 0 0 clear", "module where :", MODULE, "module M where\n  f : Int\n")
 # Greater: in 1.. has no 0.
-report("002 7.2 module block under greater", "002 section 7.2.1", "any other where needs an indented block",
-       "failure",
+report("002 7.2 module block under greater", "002 section 7.2.1", "any other where needs an indented block", "failure",
        "module where :", al(seq(t(3), WORD, t(4), NL, ind(GT, plus(al(seq(WORD, t(5), WORD, NL)))))),
        "module M where\nf : Int\n")
 
 # StmtsLine2 ::= Stmt ";" | StmtsLine2 Stmt | StmtsLine2 Stmt ";". Nodes: 0 Stmt, 1 ;, 2 sequence, 3 the
 # rule, 4 rule Stmt, 5 rule Stmt ;, 6 and 7 choices. 3 needs 7, 7 needs 4, 4 needs 3.
-run("002 5.4 left recursive statement list", "002 section 5.4, figure 5.3, StmtsLine2", "left recursion",
-    "refused 7 3", r("L"), "a0 b1", {"L": alt(seq(a, b), seq(r("L"), a), seq(r("L"), a, b))})
+run("002 5.4 left recursive statement list", "002 section 5.4, figure 5.3, StmtsLine2", "left recursion", "refused 7 3",
+    "L", "a0 b1", "L = a b / L a / L a b")
 
 # ---- Haskell-like blocks for 002, 003 and 004 ----
 
@@ -1221,9 +1064,8 @@ IFS = {
 # if0 0..0, x3 !5 =6 y8 :9, end (7). In 1.., flag: if4 4..4, x7 >9 0 at 11, :12, end (6). In 5.., flag: y8
 # 8..8, =10, x12, end (4). else0 is not in 4..4; out 0..0 with 0..3; else0 in 0..0, :4, end (3); in 1..,
 # y4 4..4, =6, -x8, end (4).
-report("003 1 dangling else", "003 section 1, figure 1(a)", "else belongs to the outer if",
-       "success 24 0 0 clear", "if else : =", plus(al(r("st"))),
-       "if x != y:\n    if x > 0:\n        y = x\nelse:\n    y = -x\n", IFS)
+report("003 1 dangling else", "003 section 1, figure 1(a)", "else belongs to the outer if", "success 24 0 0 clear",
+       "if else : =", plus(al(r("st"))), "if x != y:\n    if x > 0:\n        y = x\nelse:\n    y = -x\n", IFS)
 # else2 is neither in 4..4 nor in 0..0 and begins no statement: 7 + 6 + 4 read.
 report("003 1 else between two ifs", "003 section 1, the core idea", "else must start at the column of an if",
        "success 17 0 0 clear", "if else : =", plus(al(r("st"))),
@@ -1245,16 +1087,13 @@ haskell("003 2 three statements", "003 section 2, figure 2(a)", "a block of thre
 haskell("003 2 statement over two lines", "003 section 2, figure 2(c)", "a line further right goes on",
         "success 14 0 0 clear", "do print 1\n   print (11 + 12)\n     print 42\n")
 # With a line end as the end of a statement: a piece takes no line end, print5 is not in 3..3: 4 + 7 read.
-ONE_LINE = dict(HASKELL, piece=alt(NUMBER, WORD, H_IS, r("paren")),
-                st=seq(alt(plus(r("piece")), r("opened")), EOL))
-haskell("003 2 single line statements", "003 section 2, figure 2(b)",
-        "print 42 can not be a statement of its own",
+ONE_LINE = dict(HASKELL, piece=alt(NUMBER, WORD, H_IS, r("paren")), st=seq(alt(plus(r("piece")), r("opened")), EOL))
+haskell("003 2 single line statements", "003 section 2, figure 2(b)", "print 42 can not be a statement of its own",
         "success 11 0 0 clear", "do print 1\n   print (11 + 12)\n     print 42\n", rules=ONE_LINE)
 # do0 0..0; in 1.., flag: (3 3..3; any: in N, mode at least: do4 0..4; in 1.., print7 7..7, 11, end;
 # print7, ( ... ), and ) is no piece: the block ends; out 0..4 with 0..6 = 0..4; out 3..3; )22 any, end;
 # print3 in 3..3. 6 + 8 + 3.
-haskell("003 2 statement ends at a parenthesis", "003 section 2, figure 3(a)",
-        "the block ends where no piece fits",
+haskell("003 2 statement ends at a parenthesis", "003 section 2, figure 3(a)", "the block ends where no piece fits",
         "success 17 0 0 clear", "do (do print 11\n       print (11 + 12))\n   print 13\n")
 ONE_ST = seq(al(r("st")), H_EOF)
 # print0 0..0, (6 and its contents, )14, end (7); *4 in 1.., 13 at 6, end (3).
@@ -1267,8 +1106,7 @@ haskell("003 3 statement at the margin", "003 section 3, second print program", 
 # at least: print8 0..8, 14; ;16, end (6); print1 0..1, 15 at 7; out 3..3 with N; }10, end (4); print3 16,
 # end (3). Out 0..0.
 haskell("003 3 explicit block", "003 section 3, third print program", "ignore-layout inside a block",
-        "success 24 0 0 clear",
-        "do print (11 + 12)\n   print 13\n   do { print 14;\n print 15 }\n   print 16\n")
+        "success 24 0 0 clear", "do print (11 + 12)\n   print 13\n   do { print 14;\n print 15 }\n   print 16\n")
 NONDECREASING = "foo = do\n  print 16\n  do\n  print 17\n  print 18\n"
 # foo0 =4 do6, end; in 1.., print2 2..2, 16, end; do2 in 2..2, end; in 3.. has no 2: the inner block fails
 # and with it the statement; eof finds do.
@@ -1276,8 +1114,7 @@ haskell("003 5.3 nested block not indented", "003 section 5.3, NondecreasingInde
         "the offside rule turns it down", "failure", NONDECREASING, seq(H_PROGRAM, H_EOF))
 # print4 in 3.., 4..4, twice; out 2..2 with 0..3, out 0..0 with 0..1. 4 + 3 + 2 + 3 + 3.
 haskell("003 5.3 nested block indented", "003 section 5.3, pretty-printed", "the pretty-printed form passes",
-        "success 15 0 0 clear", "foo = do\n  print 16\n  do\n    print 17\n    print 18\n",
-        seq(H_PROGRAM, H_EOF))
+        "success 15 0 0 clear", "foo = do\n  print 16\n  do\n    print 17\n    print 18\n", seq(H_PROGRAM, H_EOF))
 # At least in place of greater: in 0.., print2 2..2; do2, end; in 2.., print2 2..2 twice; out 2..2 with
 # 0..2, out 0..0.
 haskell("003 5.3 nondecreasing indentation", "003 section 5.3, NondecreasingIndentation",
@@ -1297,13 +1134,11 @@ haskell("004 3.5 where block with tabs", "004 section 3.5, figure 42", "tab stop
 # foo0 0..0 (6); where1, end (2); in 1.., bar1 at 2 2..2, five more (6); where3 in 3.., end (2); in 3..,
 # bar1' at 4 4..4 (4); bar2 at 2 is not in 4..4; out 2..2 with 0..3; in it (4). Out 0..0 with 0..1.
 # Leading blanks are lost in the text.
-haskell("004 2.6 where inside where", "004 section 2.6.3, first program", "one blank a level",
-        "success 24 0 0 clear",
+haskell("004 2.6 where inside where", "004 section 2.6.3, first program", "one blank a level", "success 24 0 0 clear",
         "foo = bar1 + bar2\n where\n  bar1 = 2 * bar1'\n   where\n    bar1' = 3\n  bar2 = 2\n")
 # where2, bar1 at 8 8..8 (7); where10 in 9.., bar1' at 16 16..16 (5); bar2 at 8 in 8..8 (4); with line 1
 # (6).
-haskell("004 2.6 where on one line", "004 section 2.6.3, second program", "blocks behind where",
-        "success 22 0 0 clear",
+haskell("004 2.6 where on one line", "004 section 2.6.3, second program", "blocks behind where", "success 22 0 0 clear",
         "foo = bar1 + bar2\n  where bar1 = 2 * bar1'\n          where bar1' = 3\n        bar2 = 2\n")
 # bar2 at 12 is in neither 16..16, 8..8 nor 0..0, and behind where's block no piece may follow: 6 + 7 + 5
 # read.
@@ -1323,10 +1158,12 @@ haskell("004 2.6 case badly typeset", "004 section 2.6.3, case typeset", "the se
 # btype = [btype] atype. Nodes: 0 the rule, 1 empty, 2 choice, 3 atype, 4 sequence. 0 needs 4, 4 needs 2,
 # 2 needs 0.
 run("004 3.7 left recursive btype", "004 section 3.7, figure 54(a)", "left recursion", "refused 7 0",
-    r("btype"), "a0 a2", {"btype": seq(opt(r("btype")), a)})
+    "B", "a0 a2", "B = (B / empty) a")
 # The list form of the same: two atypes, mode any.
 run("004 3.7 btype as a list", "004 section 3.7, figure 54(b)", "one or more atypes", "success 2 0 inf clear",
-    plus(a), "a0 a2", mode=ANY)
+    "a a*", "a0 a2", mode=ANY)
+
 
 if __name__ == "__main__":
-    main()
+    CASES.write()
+    write({"docs/PUBLISHED.md": page().encode()})

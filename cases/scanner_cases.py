@@ -1,8 +1,5 @@
 #!/usr/bin/env python3
-"""Writes the calls that the program scanner_cases makes, and the lines that it must print.
-
-Run it at the top of the repository. It writes crates/scanner_cases/data/cases and
-crates/scanner_cases/stdout, the same bytes each time.
+"""Writes the calls that the program scanner_cases makes, and the lines that it must print (README.md).
 
 Nothing here scans a report. Each call has its tokens written beside the bytes that are put together
 for it; a family of calls has the rule that gives its tokens, in its loop or function. A comment quotes
@@ -10,18 +7,15 @@ the words of document 01 that decide it.
 """
 
 import itertools
-import pathlib
 
-from grammar_fields import EMPTY, START, TAIL, VERSION, field, keyword, node, rule, start, with_keywords
-from stored_bytes import stored
+import faults
+import grammar_fields
+from grammar_fields import EMPTY, EVERY_KIND, NINE, START, TAIL, VERSION
+from grammar_fields import field, keyword, node, rule, start, with_keywords, with_names
+from records import Cases, Pairs, spaced, wide
 
-CRATE = pathlib.Path(__file__).resolve().parent.parent / "crates" / "scanner_cases"
-
-records = []
-lines = []
-labels = set()
-file_before = b""
-report_before = b""
+CASES = Cases("scanner_cases")
+PAIRS = Pairs(60, (1, 2, 4, 9))
 
 
 # --- Records and lines ---------------------------------------------------------------------------
@@ -29,28 +23,8 @@ report_before = b""
 
 def record(kind, label, x, y, mark, file, report, line):
     """One call and the line expected of it. The layout is that of the program's first comment."""
-    global file_before, report_before
-    assert label not in labels, label
-    labels.add(label)
-    file_numbers, file_bytes = stored(file_before, file, 60, (1, 2, 4, 9))
-    report_numbers, report_bytes = stored(report_before, report, 60, (1, 2, 4, 9))
-    file_before = file
-    report_before = report
-    name = label.encode()
-    numbers = (x, y) + file_numbers + report_numbers
-    records.append(
-        kind.encode()
-        + bytes([len(name), mark])
-        + b"".join(n.to_bytes(3, "big") for n in numbers)
-        + name
-        + file_bytes
-        + report_bytes
-    )
-    lines.append(f"{label}: {line}\n")
-
-
-def spaced(head, numbers):
-    return " ".join([head] + [str(n) for n in numbers])
+    numbers, *stored = PAIRS.stretch(file, report)
+    CASES.add(label, line, kind.encode(), wide(1, mark) + wide(3, x, y) + numbers, *stored)
 
 
 FEW = 24  # Scans of no more tokens than these have every word printed.
@@ -132,7 +106,7 @@ def step(label, file, report, before, answer, after=None, kind="n"):
     record(kind, label, at, column, mark, file, report, line + state(*after))
 
 
-def walk(label, file, report, steps):
+def walk(label, file, report, *steps):
     """A scan, and a step behind each token. The steps: what is handed out, then the offset, column and
     mark reached; the last hands out none."""
     reads(label, file, report, [token for token, _ in steps[:-1]], steps[-1][1][1])
@@ -148,7 +122,6 @@ def walk(label, file, report, steps):
 
 PLAIN = with_keywords()
 LOSS = with_keywords(b"loss")
-NINE = b":,()[]=;%"  # "The bytes `: , ( ) [ ] = ; %` are tokens by themselves"
 REFUSED = [byte for byte in range(32) if byte not in (9, 10, 13)] + [127]
 RUN = [byte for byte in range(33, 256) if byte != 127 and byte not in NINE]
 DIGITS = b"0123456789"
@@ -156,26 +129,32 @@ DIGITS = b"0123456789"
 A = [(1, 0, 0, 1), (2, 1, 1, 0)]  # The tokens of `a`.
 
 
-def apart(*pairs):
-    """A line of spellings with a blank between any two, from their terminals, and its tokens."""
+def laid(between, pairs):
+    """A line of spellings with these bytes between any two, from their terminals, and its tokens: one for each
+    spelling, where it begins, then the line's end."""
     text = b""
     tokens = []
     for terminal, spelling in pairs:
-        text += b" " if text else b""
+        text += between if text else b""
         tokens.append((terminal, len(text), len(text), len(spelling)))
         text += spelling
     return text, tokens + [(2, len(text), len(text), 0)]
 
 
-def reads_apart(label, file, *pairs):
-    """`reads` of the line of `apart`: a token for each spelling, where it begins, then the line's end."""
-    text, tokens = apart(*pairs)
+def reads_apart(label, file, *pairs, between=b" "):
+    """`reads` of such a line, with blanks unless said."""
+    text, tokens = laid(between, pairs)
     reads(label, file, text, tokens, len(text))
+
+
+def reads_together(label, file, *pairs):
+    """The same with nothing between the spellings, as single bytes part them."""
+    reads_apart(label, file, *pairs, between=b"")
 
 
 def scan_apart(label, file, *pairs):
     """The same for `scan`."""
-    text, tokens = apart(*pairs)
+    text, tokens = laid(b" ", pairs)
     scan(label, file, text, tokens, 4 * len(tokens) + 6)
 
 
@@ -192,62 +171,28 @@ reads("tab then `a`", PLAIN, b"\ta", [(1, 8, 1, 1), (2, 9, 2, 0)], 9)
 
 # "With keywords `loss` and `:` .. the text `  loss: 0.03` without a break".
 BENCH = with_keywords(b"loss", b":")
-walk(
-    "bench",
-    BENCH,
-    b"  loss: 0.03",
-    [
-        ((3, 2, 2, 4), (6, 6, True)),
-        ((4, 6, 6, 1), (7, 7, True)),
-        ((0, 8, 8, 4), (12, 12, True)),
-        ((2, 12, 12, 0), (12, 12, False)),
-        (None, (12, 12, False)),
-    ],
-)
+walk("bench", BENCH, b"  loss: 0.03",
+     ((3, 2, 2, 4), (6, 6, True)), ((4, 6, 6, 1), (7, 7, True)), ((0, 8, 8, 4), (12, 12, True)),
+     ((2, 12, 12, 0), (12, 12, False)), (None, (12, 12, False)))
 
 # A file byte by byte, written out: keywords `if` and `=`.
 WRITTEN = bytes.fromhex("01 0001 01 02 0002 6966 02 0001 3d 04 0006 00 0000 0000 00 05 0003 0000 02")
-reads(
-    "bytes written out",
-    WRITTEN,
-    b"if x=-1",
-    [(3, 0, 0, 2), (1, 3, 3, 1), (4, 4, 4, 1), (0, 5, 5, 2), (2, 7, 7, 0)],
-    7,
-)
+reads("bytes written out", WRITTEN, b"if x=-1", [(3, 0, 0, 2), (1, 3, 3, 1), (4, 4, 4, 1), (0, 5, 5, 2), (2, 7, 7, 0)], 7)
 
 # A report of several lines: a tab before text, an empty line, byte 13 before a break.
 LINES = b"splice 12:\n\tloss: 0.03\n\n\tnote: ok (a, b)\r\n"
 LINES_TOKENS = [
-    (3, 0, 0, 6),
-    (0, 7, 7, 2),
-    (6, 9, 9, 1),
-    (2, 10, 10, 0),
-    (4, 8, 12, 4),
-    (6, 12, 16, 1),
-    (0, 14, 18, 4),
-    (2, 18, 22, 0),
-    (5, 8, 25, 4),
-    (6, 12, 29, 1),
-    (1, 14, 31, 2),
-    (1, 17, 34, 1),
-    (1, 18, 35, 1),
-    (1, 19, 36, 1),
-    (1, 21, 38, 1),
-    (1, 22, 39, 1),
-    (2, 24, 41, 0),
+    (3, 0, 0, 6), (0, 7, 7, 2), (6, 9, 9, 1), (2, 10, 10, 0),
+    (4, 8, 12, 4), (6, 12, 16, 1), (0, 14, 18, 4), (2, 18, 22, 0),
+    (5, 8, 25, 4), (6, 12, 29, 1), (1, 14, 31, 2), (1, 17, 34, 1), (1, 18, 35, 1),
+    (1, 19, 36, 1), (1, 21, 38, 1), (1, 22, 39, 1), (2, 24, 41, 0),
 ]
 LINES_FILE = with_keywords(b"splice", b"loss", b"note", b":")
 reads("lines of a report", LINES_FILE, LINES, LINES_TOKENS, 0)
 # The same without the last two bytes: byte 13 and the break.
 reads("lines without the last", LINES_FILE, LINES[:-2], LINES_TOKENS[:-1] + [(2, 23, 40, 0)], 23)
 # "3 + k where the spelling equals keyword k .. else 0 .. else 1": no keywords.
-reads(
-    "lines and no keywords",
-    PLAIN,
-    LINES,
-    [(1 if t > 2 else t, c, o, n) for t, c, o, n in LINES_TOKENS],
-    0,
-)
+reads("lines and no keywords", PLAIN, LINES, [(1 if t > 2 else t, c, o, n) for t, c, o, n in LINES_TOKENS], 0)
 
 # --- One byte, and one byte between two letters --------------------------------------------------
 
@@ -290,22 +235,16 @@ for byte in range(256):
         reads(behind, LOSS, b"loss" + text, [(1, 0, 0, 5), (2, 5, 5, 0)], 5)
 
 # The longest run of all: each byte that can stand in one, once.
-reads("all run bytes", PLAIN, bytes(RUN), [(1, 0, 0, len(RUN)), (2, len(RUN), len(RUN), 0)], len(RUN))
-reads("bytes 128 to 255", PLAIN, bytes(range(128, 256)), [(1, 0, 0, 128), (2, 128, 128, 0)], 128)
+reads_apart("all run bytes", PLAIN, (1, bytes(RUN)))
+reads_apart("bytes 128 to 255", PLAIN, (1, bytes(range(128, 256))))
 # "Each byte but 9 and 10 advances the column by one": a letter of two bytes takes two columns.
-reads(
-    "letters of two bytes",
-    PLAIN,
-    "\u00b5m \u00e9t\u00e9\tx".encode(),
-    [(1, 0, 0, 3), (1, 4, 4, 5), (1, 16, 10, 1), (2, 17, 11, 0)],
-    17,
-)
+reads("letters of two bytes", PLAIN, "\u00b5m \u00e9t\u00e9\tx".encode(),
+      [(1, 0, 0, 3), (1, 4, 4, 5), (1, 16, 10, 1), (2, 17, 11, 0)], 17)
 
 # "report over length or refused byte": a refused byte at every place of a text.
 for byte in (0, 8, 11, 12, 14, 31, 127):
-    for place in range(8):
-        text = b"ab : 1\n"[:place] + bytes([byte]) + b"ab : 1\n"[place:]
-        refused(f"byte {byte} at {place} of 8", 8, PLAIN, text)
+    for place, text in faults.places(b"ab : 1\n", byte):
+        refused(f"byte {byte} at {place} of 8", 8, PLAIN, bytes(text))
 
 
 # --- Blanks, tabs and columns --------------------------------------------------------------------
@@ -393,7 +332,7 @@ for n in (1, 2, 5, 30, 300):
     reads(f"{n} times `a` and a blank", PLAIN, b"a " * n, tokens, 2 * n)
 # Runs of n letters: one token.
 for n in (1, 2, 31, 32, 33, 64, 255, 256, 257, 4096):
-    reads(f"a run of {n}", PLAIN, b"a" * n, [(1, 0, 0, n), (2, n, n, 0)], n)
+    reads_apart(f"a run of {n}", PLAIN, (1, b"a" * n))
 
 
 # --- Numbers -------------------------------------------------------------------------------------
@@ -408,31 +347,24 @@ WORDS = (
     "-a a-1 .1. 1.5. -1.5.2 1.5e3 1e-3 5' 1E3 inf nan -- ---- 1.5a -x1 0- \u22121 1\u00b2 \u0661"
 ).split()
 for spelling in NUMBERS:
-    n = len(spelling)
-    reads(f"number {spelling}", PLAIN, spelling.encode(), [(0, 0, 0, n), (2, n, n, 0)], n)
+    reads_apart(f"number {spelling}", PLAIN, (0, spelling.encode()))
 for spelling in WORDS:
-    text = spelling.encode()
-    n = len(text)
-    reads(f"no number {spelling}", PLAIN, text, [(1, 0, 0, n), (2, n, n, 0)], n)
+    reads_apart(f"no number {spelling}", PLAIN, (1, spelling.encode()))
 reads_apart("all these numbers", PLAIN, *[(0, s.encode()) for s in NUMBERS])
 reads_apart("all these that are none", PLAIN, *[(1, s.encode()) for s in WORDS])
-reads_apart(
-    "numbers and others in turn",
-    PLAIN,
-    *[pair for s, t in zip(NUMBERS, WORDS) for pair in ((0, s.encode()), (1, t.encode()))],
-)
+reads_apart("numbers and others in turn", PLAIN,
+            *[pair for s, t in zip(NUMBERS, WORDS) for pair in ((0, s.encode()), (1, t.encode()))])
 # Every string of `-`, `7` and `.` to length 6: the numbers among them are put together as the words say.
 PLUS = ["7" * n for n in range(1, 7)]
 RESTS = [""] + ["." + digits for digits in PLUS]
 MADE = {sign + whole + rest for sign in ("", "-") for whole in PLUS for rest in RESTS}
 for size in (1, 2, 3, 4, 5, 6):
     strings = ["".join(s) for s in itertools.product("-7.", repeat=size)]
-    if size <= 3:
-        for s in strings:
-            tokens = [(0 if s in MADE else 1, 0, 0, size), (2, size, size, 0)]
-            reads(f"string {s}", PLAIN, s.encode(), tokens, size)
+    pairs = [(0 if s in MADE else 1, s.encode()) for s in strings]
+    for s, pair in zip(strings, pairs) if size <= 3 else ():
+        reads_apart(f"string {s}", PLAIN, pair)
     put = reads_apart if size <= 5 else scan_apart
-    put(f"strings of {size}", PLAIN, *[(0 if s in MADE else 1, s.encode()) for s in strings])
+    put(f"strings of {size}", PLAIN, *pairs)
 # Single bytes part numbers from what stands beside them.
 for label, text, tokens in (
     ("`1,5`", b"1,5", [(0, 0, 0, 1), (1, 1, 1, 1), (0, 2, 2, 1), (2, 3, 3, 0)]),
@@ -449,24 +381,10 @@ for label, text, tokens in (
 # "3 + k where .. else 0 for a number": the keyword comes first.
 for spelling in NUMBERS + WORDS:
     text = spelling.encode()
-    n = len(text)
-    if n <= 32:
-        file = with_keywords(b"x", text)
-        reads(f"keyword {spelling}", file, text, [(4, 0, 0, n), (2, n, n, 0)], n)
-reads_apart(
-    "keywords that look like numbers",
-    with_keywords(b"1.5", b"0", b"-1"),
-    (3, b"1.5"),
-    (4, b"0"),
-    (5, b"-1"),
-    (0, b"1.50"),
-    (0, b"00"),
-    (0, b"-0"),
-    (0, b"-1.0"),
-    (0, b"1"),
-    (0, b"1.51"),
-    (1, b"1.5."),
-)
+    if len(text) <= 32:
+        reads_apart(f"keyword {spelling}", with_keywords(b"x", text), (4, text))
+reads_apart("keywords that look like numbers", with_keywords(b"1.5", b"0", b"-1"), (3, b"1.5"), (4, b"0"), (5, b"-1"),
+            (0, b"1.50"), (0, b"00"), (0, b"-0"), (0, b"-1.0"), (0, b"1"), (0, b"1.51"), (1, b"1.5."))
 
 
 # --- Single bytes --------------------------------------------------------------------------------
@@ -475,63 +393,34 @@ reads_apart(
 for byte in NINE:
     text = bytes([byte])
     name = text.decode()
-    kept = with_keywords(text)
-    second = with_keywords(b"a", text)
-    for said, file, terminal in (("no keyword", PLAIN, 1), ("a keyword", kept, 3)):
+    for said, file, t in (("no keyword", PLAIN, 1), ("a keyword", with_keywords(text), 3)):
         # Alone, twice, thrice, next to words and numbers, with blanks between.
-        t = terminal
-        reads(f"`{name}` {said}, alone", file, text, [(t, 0, 0, 1), (2, 1, 1, 0)], 1)
-        reads(f"`{name}` {said}, twice", file, text * 2, [(t, 0, 0, 1), (t, 1, 1, 1), (2, 2, 2, 0)], 2)
-        thrice = [(t, 0, 0, 1), (t, 1, 1, 1), (t, 2, 2, 1), (2, 3, 3, 0)]
-        reads(f"`{name}` {said}, thrice", file, text * 3, thrice, 3)
-        between = [(1, 0, 0, 1), (t, 1, 1, 1), (1, 2, 2, 1), (2, 3, 3, 0)]
-        reads(f"`{name}` {said}, between words", file, b"a" + text + b"b", between, 3)
-        between = [(0, 0, 0, 2), (t, 2, 2, 1), (0, 3, 3, 2), (2, 5, 5, 0)]
-        reads(f"`{name}` {said}, between numbers", file, b"12" + text + b"-3", between, 5)
-        around = [(t, 0, 0, 1), (1, 1, 1, 2), (t, 3, 3, 1), (2, 4, 4, 0)]
-        reads(f"`{name}` {said}, around a word", file, text + b"ab" + text, around, 4)
+        reads_together(f"`{name}` {said}, alone", file, (t, text))
+        reads_together(f"`{name}` {said}, twice", file, (t, text), (t, text))
+        reads_together(f"`{name}` {said}, thrice", file, (t, text), (t, text), (t, text))
+        reads_together(f"`{name}` {said}, between words", file, (1, b"a"), (t, text), (1, b"b"))
+        reads_together(f"`{name}` {said}, between numbers", file, (0, b"12"), (t, text), (0, b"-3"))
+        reads_together(f"`{name}` {said}, around a word", file, (t, text), (1, b"ab"), (t, text))
         reads_apart(f"`{name}` {said}, apart", file, (1, b"a"), (t, text), (1, b"b"), (t, text))
-    between = [(3, 0, 0, 1), (4, 1, 1, 1), (3, 2, 2, 1), (2, 3, 3, 0)]
-    reads(f"`{name}` and `a` keywords", second, b"a" + text + b"a", between, 3)
+    reads_together(f"`{name}` and `a` keywords", with_keywords(b"a", text), (3, b"a"), (4, text), (3, b"a"))
 # All nine in one row; as keywords they are 3 to 11, in reverse 11 to 3.
-ROW = [(1, i, i, 1) for i in range(9)] + [(2, 9, 9, 0)]
-reads("nine in a row", PLAIN, NINE, ROW, 9)
-ALL_NINE = with_keywords(*[bytes([byte]) for byte in NINE])
-reads("nine keywords", ALL_NINE, NINE, [(3 + i, i, i, 1) for i in range(9)] + [(2, 9, 9, 0)], 9)
-BACK_NINE = with_keywords(*[bytes([byte]) for byte in reversed(NINE)])
-reads("nine keywords, reverse", BACK_NINE, NINE, [(11 - i, i, i, 1) for i in range(9)] + [(2, 9, 9, 0)], 9)
+EACH = [bytes([byte]) for byte in NINE]
+reads_together("nine in a row", PLAIN, *[(1, text) for text in EACH])
+reads_together("nine keywords", with_keywords(*EACH), *[(3 + i, text) for i, text in enumerate(EACH)])
+reads_together("nine keywords, reverse", with_keywords(*EACH[::-1]), *[(11 - i, text) for i, text in enumerate(EACH)])
 # Bytes beside them in the row of bytes are no single bytes: each is of the run.
 for byte in b"!$&'*+-./<>?@\\^_`{|}~\"#":
     text = bytes([byte])
-    reads(f"`{text.decode()}` twice", PLAIN, text * 2, [(1, 0, 0, 2), (2, 2, 2, 0)], 2)
+    reads_apart(f"`{text.decode()}` twice", PLAIN, (1, text * 2))
 
 
 # --- Keywords ------------------------------------------------------------------------------------
 
 # "3 + k where the spelling equals keyword k": equal, and of the whole longest run.
-for spelling, terminal in (
-    (b"loss", 3),
-    (b"lossy", 1),
-    (b"los", 1),
-    (b"l", 1),
-    (b"lossloss", 1),
-    (b"xloss", 1),
-    (b"loss-", 1),
-    (b"-loss", 1),
-    (b"loss.", 1),
-    (b"loss1", 1),
-    (b"1loss", 1),
-    (b"Loss", 1),
-    (b"LOSS", 1),
-    (b"lost", 1),
-    (b"lots", 1),
-    (b"moss", 1),
-    (b"sslo", 1),
-    (b"loss\x80", 1),
-):
-    n = len(spelling)
+for spelling in (b"loss lossy los l lossloss xloss loss- -loss loss. loss1 1loss Loss LOSS lost lots moss sslo "
+                 b"loss\x80").split():
     said = spelling.decode("latin-1").replace("\x80", " and byte 128")
-    reads(f"keyword loss, {said}", LOSS, spelling, [(terminal, 0, 0, n), (2, n, n, 0)], n)
+    reads_apart(f"keyword loss, {said}", LOSS, (3 if spelling == b"loss" else 1, spelling))
 reads_apart("keyword loss, thrice", LOSS, (3, b"loss"), (3, b"loss"), (1, b"lossy"), (3, b"loss"))
 reads("keyword loss, then `:`", LOSS, b"loss:", [(3, 0, 0, 4), (1, 4, 4, 1), (2, 5, 5, 0)], 5)
 reads("keyword loss, behind `:`", LOSS, b":loss", [(1, 0, 0, 1), (3, 1, 1, 4), (2, 5, 5, 0)], 5)
@@ -547,17 +436,8 @@ for said, file, terminals in (
     reads_apart(f"keywords one in the other, {said}", file, *zip(terminals, PREFIXES))
 # Keywords are bytes: 128 to 255 stand in them as any.
 BYTES = with_keywords("na\u00efve".encode(), b"\x80", b"\xff", b"\xff\x80")
-reads_apart(
-    "keywords of bytes over 127",
-    BYTES,
-    (3, "na\u00efve".encode()),
-    (4, b"\x80"),
-    (5, b"\xff"),
-    (6, b"\xff\x80"),
-    (1, b"\x80\xff"),
-    (1, b"naive"),
-    (1, b"\x81"),
-)
+reads_apart("keywords of bytes over 127", BYTES, (3, "na\u00efve".encode()), (4, b"\x80"), (5, b"\xff"),
+            (6, b"\xff\x80"), (1, b"\x80\xff"), (1, b"naive"), (1, b"\x81"))
 # "At most 253 keywords": terminals 3 to 255.
 SPELLINGS = [b"word%d" % i for i in range(253)]
 MOST = with_keywords(*SPELLINGS)
@@ -584,16 +464,10 @@ for said, spelling in (
     ("288 bytes", b"x" * 31 + b"a" * 257),
     ("65535 bytes", b"x" * 31 + b"a" * 65504),
 ):
-    n = len(spelling)
-    reads(f"32 bytes, {said}", LONGEST, spelling, [(1, 0, 0, n), (2, n, n, 0)], n)
+    reads_apart(f"32 bytes, {said}", LONGEST, (1, spelling))
 # Alike but for the first byte.
 FIRST = [bytes([first]) + b"y" * 31 for first in b"abcdefgh"]
-reads_apart(
-    "32 bytes, first differs",
-    with_keywords(*FIRST),
-    *[(3 + k, FIRST[k]) for k in range(8)],
-    (1, b"i" + b"y" * 31),
-)
+reads_apart("32 bytes, first differs", with_keywords(*FIRST), *[(3 + k, FIRST[k]) for k in range(8)], (1, b"i" + b"y" * 31))
 # Two keywords side by side: neither both together nor the end of one with the start of the next is one.
 TWO = with_keywords(b"ab", b"cd")
 reads_apart("keywords side by side", TWO, (3, b"ab"), (4, b"cd"), (1, b"abcd"), (1, b"bc"))
@@ -602,44 +476,10 @@ NAMED = VERSION + keyword(b"loss") + rule(0, b"note") + rule(0, b":") + rule(0, 
 reads_apart("names are no keywords", NAMED, (3, b"loss"), (1, b"note"), (1, b":"), (1, b"rule"))
 
 # Files of every kind of node, the largest one, and one that is not well formed: 7 is not asked here.
-FULL_NODES = (
-    (0, 0, 0, 0),
-    (1, 3, 0, 0),
-    (2, 2, 0, 0),
-    (3, 1, 2, 0),
-    (4, 3, 0, 0),
-    (5, 1, 0, 0),
-    (6, 1, 0, 0),
-    (7, 4, 0, 1),
-    (8, 7, 0, 2),
-    (9, 8, 0, 0),
-)
-FULL = (
-    VERSION
-    + keyword(b"loss")
-    + keyword(b":")
-    + rule(9, b"report")
-    + rule(3, b"line")
-    + rule(0, b"loss")
-    + b"".join(node(*n) for n in FULL_NODES)
-    + start(9, 1)
-)
-LARGEST = (
-    VERSION
-    + b"".join(keyword(b"%032d" % i) for i in range(253))
-    + b"".join(rule(511 - i, b"%032d" % i) for i in range(128))
-    + EMPTY * 512
-    + start(511, 3)
-)
+FULL = grammar_fields.file(EVERY_KIND[:10], 9, 1, (b"loss", b":"), ((9, b"report"), (3, b"line"), (0, b"loss")))
+LARGEST = grammar_fields.largest([(0, 0, 0, 0)] * 512)
 reads("file with every kind", FULL, b"loss: 1", [(3, 0, 0, 4), (4, 4, 4, 1), (0, 6, 6, 1), (2, 7, 7, 0)], 7)
-reads_apart(
-    "largest file",
-    LARGEST,
-    (3, b"0" * 32),
-    (255, b"0" * 29 + b"252"),
-    (0, b"0" * 29 + b"253"),
-    (0, b"0"),
-)
+reads_apart("largest file", LARGEST, (3, b"0" * 32), (255, b"0" * 29 + b"252"), (0, b"0" * 29 + b"253"), (0, b"0"))
 reads("file not well formed", VERSION + rule(0, b"r") + node(2, 0) + START, b"a", A, 1)
 reads("repeat of empty", VERSION + EMPTY + node(6, 0) + start(1), b"a", A, 1)
 
@@ -666,12 +506,12 @@ BAD_FILES = (
     (2, "empty keyword", with_keywords(b"")),
     (2, "keyword of 33 bytes", with_keywords(b"k" * 33)),
     (2, "equal keywords", with_keywords(b"loss", b":", b"loss")),
-    (2, "equal names", VERSION + rule(0, b"r") + rule(0, b"r") + TAIL),
-    (2, "empty name", VERSION + rule(0, b"") + TAIL),
+    (2, "equal names", with_names(b"r", b"r")),
+    (2, "empty name", with_names(b"")),
     (3, "no node", VERSION + START),
     (3, "513 nodes", VERSION + EMPTY * 513 + START),
     (3, "65535 bytes", FILE_65535),
-    (3, "129 rules", VERSION + b"".join(rule(0, b"r%d" % i) for i in range(129)) + TAIL),
+    (3, "129 rules", with_names(*[b"r%d" % i for i in range(129)])),
     (4, "node 0 a repeat of 0", VERSION + node(6, 0) + START),
     (4, "kind 10", VERSION + node(10) + START),
     (4, "no such rule", VERSION + node(2, 0) + START),
@@ -775,12 +615,8 @@ for said, report, tokens, column in (
     ("65534 digits and a letter", b"0" * 65534 + b"a", [(1, 0, 0, 65535), (2, 65535, 65535, 0)], 65535),
     ("65534 blanks and `a`", b" " * 65534 + b"a", [(1, 65534, 65534, 1), (2, 65535, 65535, 0)], 65535),
     ("65534 breaks and `a`", b"\n" * 65534 + b"a", [(1, 0, 65534, 1), (2, 1, 65535, 0)], 1),
-    (
-        "65533 letters, a break and `b`",
-        b"a" * 65533 + b"\nb",
-        [(1, 0, 0, 65533), (2, 65533, 65533, 0), (1, 0, 65534, 1), (2, 1, 65535, 0)],
-        1,
-    ),
+    ("65533 letters, a break and `b`", b"a" * 65533 + b"\nb",
+     [(1, 0, 0, 65533), (2, 65533, 65533, 0), (1, 0, 65534, 1), (2, 1, 65535, 0)], 1),
 ):
     reads(said, PLAIN, report, tokens, column)
 for byte in (0, 127):
@@ -795,13 +631,7 @@ for byte in (0, 127):
 T8191 = b"\t" * 8191
 T8192 = b"\t" * 8192
 reads("8191 tabs and `a`", PLAIN, T8191 + b"a", [(1, 65528, 8191, 1), (2, 65529, 8192, 0)], 65529)
-reads(
-    "8191 tabs, 6 blanks and `a`",
-    PLAIN,
-    T8191 + b"      a",
-    [(1, 65534, 8197, 1), (2, 65535, 8198, 0)],
-    65535,
-)
+reads("8191 tabs, 6 blanks and `a`", PLAIN, T8191 + b"      a", [(1, 65534, 8197, 1), (2, 65535, 8198, 0)], 65535)
 reads("8191 tabs and 7 letters", PLAIN, T8191 + b"abcdefg", [(1, 65528, 8191, 7), (2, 65535, 8198, 0)], 65535)
 # The line end is a token: its column counts.
 too_far("8191 tabs and 8 letters", PLAIN, T8191 + b"abcdefgh", 1, 8199, 65536, True)
@@ -810,13 +640,7 @@ too_far("8191 tabs, 7 blanks, `a` and a break", PLAIN, T8191 + b"       a\n", 1,
 too_far("8191 tabs, 8 blanks and `a`", PLAIN, T8191 + b"        a", 0, 0, 0, False)
 too_far("8191 tabs, `a` and a tab", PLAIN, T8191 + b"a\t", 1, 8192, 65529, True)
 too_far("8191 tabs, `a` and 7 blanks", PLAIN, T8191 + b"a       ", 1, 8192, 65529, True)
-reads(
-    "8191 tabs, `a` and 6 blanks",
-    PLAIN,
-    T8191 + b"a      ",
-    [(1, 65528, 8191, 1), (2, 65535, 8198, 0)],
-    65535,
-)
+reads("8191 tabs, `a` and 6 blanks", PLAIN, T8191 + b"a      ", [(1, 65528, 8191, 1), (2, 65535, 8198, 0)], 65535)
 too_far("8191 tabs, `a`, tab and `b`", PLAIN, T8191 + b"a\tb", 1, 8192, 65529, True)
 too_far("8192 tabs and `:`", PLAIN, T8192 + b":", 0, 0, 0, False)
 too_far("8192 tabs and a number", PLAIN, T8192 + b"1", 0, 0, 0, False)
@@ -832,13 +656,7 @@ reads("8192 tabs", PLAIN, T8192, [], 65536)
 reads("8192 tabs and a break", PLAIN, T8192 + b"\n", [], 0)
 reads("8192 tabs, a break and `a`", PLAIN, T8192 + b"\na", [(1, 0, 8193, 1), (2, 1, 8194, 0)], 1)
 reads("`a`, a break and 8192 tabs", PLAIN, b"a\n" + T8192, A, 65536)
-reads(
-    "`a`, a break, 8192 tabs, a break and `b`",
-    PLAIN,
-    b"a\n" + T8192 + b"\nb",
-    A + [(1, 0, 8195, 1), (2, 1, 8196, 0)],
-    1,
-)
+reads("`a`, a break, 8192 tabs, a break and `b`", PLAIN, b"a\n" + T8192 + b"\nb", A + [(1, 0, 8195, 1), (2, 1, 8196, 0)], 1)
 reads("`a`, a break and 65533 tabs", PLAIN, b"a\n" + b"\t" * 65533, A, 524264)
 
 
@@ -865,119 +683,56 @@ refused_scan("10, 5000 tokens and 8192 tabs", 10, PLAIN, b"a\n" * 2500 + T8192, 
 
 # Every choice of faults, one of each number: the answer is the lowest number chosen. In the first set
 # those of lower numbers mostly stand later in the file and in the report, in the second earlier.
-for taken in itertools.product((False, True), repeat=8):
-    chosen = tuple(n for i, n in enumerate((8, 9, 10, 1, 2, 3, 4, 5)) if taken[i])
-    file = VERSION + keyword(b"k") + rule(7 if 5 in chosen else 0, b"first")
-    file += b"".join(rule(0, b"rule%d" % i) for i in range(127 if 3 in chosen else 2))
-    file += rule(0, b"" if 2 in chosen else b"last")
-    file += node(200 if 4 in chosen else 0) + EMPTY
-    file += START[:-1] if 1 in chosen else START
+
+
+def ordered(said, chosen, file, report, tokens, lent):
+    """A scan with the faults chosen: the tokens if there are none, else refused by the lowest."""
+    if chosen:
+        refused_scan(faults.label(said, chosen), min(chosen), file, report, lent)
+    else:
+        scan(faults.label(said, chosen), file, report, tokens, lent)
+
+
+for chosen in faults.choices(8, 9, 10, 1, 2, 3, 4, 5):
     report = (T8192 if 9 in chosen else b"") + b"k" + (b"\0" if 8 in chosen else b"")
-    lent = 7 if 10 in chosen else 8
-    label = spaced("late faults", sorted(chosen) or ("none",))
-    if chosen:
-        refused_scan(label, min(chosen), file, report, lent)
-    else:
-        scan(label, file, report, [(3, 0, 0, 1), (2, 1, 1, 0)], lent)
-for taken in itertools.product((False, True), repeat=8):
-    chosen = tuple(n for i, n in enumerate((8, 9, 10, 1, 2, 3, 4, 5)) if taken[i])
-    file = field(1, b"\x02" if 1 in chosen else b"\x01")
-    file += keyword(b"a:" if 2 in chosen else b"a") + rule(1, b"r") + EMPTY
-    file += EMPTY * (511 if 3 in chosen else 1)
-    file += node(8, 0, 0, 4 if 4 in chosen else 3)
-    file += start(0, 4 if 5 in chosen else 3)
+    tokens = [(3, 0, 0, 1), (2, 1, 1, 0)]
+    ordered("late", chosen, faults.late_file(chosen), report, tokens, 7 if 10 in chosen else 8)
+for chosen in faults.choices(8, 9, 10, 1, 2, 3, 4, 5):
     report = (b"\x1f" if 8 in chosen else b"") + b"b" + (T8192 if 9 in chosen else b"") + b"\n"
-    lent = 0 if 10 in chosen else 11
-    label = spaced("early faults", sorted(chosen) or ("none",))
-    if chosen:
-        refused_scan(label, min(chosen), file, report, lent)
-    else:
-        scan(label, file, report, A, lent)
+    ordered("early", chosen, faults.early_file(chosen), report, A, 0 if 10 in chosen else 11)
 
 
 # --- Single steps --------------------------------------------------------------------------------
 
 # "After a token the value stands right behind it .." and the two sentences after it.
-walk("steps, empty", PLAIN, b"", [(None, (0, 0, False))])
-walk("steps, blanks", PLAIN, b"  ", [(None, (2, 2, False))])
-walk("steps, empty lines", PLAIN, b"\n \n\t", [(None, (4, 8, False))])
-walk(
-    "steps, `a`",
-    PLAIN,
-    b"a",
-    [((1, 0, 0, 1), (1, 1, True)), ((2, 1, 1, 0), (1, 1, False)), (None, (1, 1, False))],
-)
-walk(
-    "steps, `a` and a break",
-    PLAIN,
-    b"a\n",
-    [((1, 0, 0, 1), (1, 1, True)), ((2, 1, 1, 0), (2, 0, False)), (None, (2, 0, False))],
-)
-walk(
-    "steps, `a` and two blanks",
-    PLAIN,
-    b"a  ",
-    [((1, 0, 0, 1), (1, 1, True)), ((2, 3, 3, 0), (3, 3, False)), (None, (3, 3, False))],
-)
-walk(
-    "steps, `a`, a break and a tab",
-    PLAIN,
-    b"a\n\t",
-    [((1, 0, 0, 1), (1, 1, True)), ((2, 1, 1, 0), (2, 0, False)), (None, (3, 8, False))],
-)
-walk(
-    "steps, byte 13 before the break",
-    PLAIN,
-    b"a\r\nb\r",
-    [
-        ((1, 0, 0, 1), (1, 1, True)),
-        ((2, 2, 2, 0), (3, 0, False)),
-        ((1, 0, 3, 1), (4, 1, True)),
-        ((2, 2, 5, 0), (5, 2, False)),
-        (None, (5, 2, False)),
-    ],
-)
-walk(
-    "steps, lines",
-    LOSS,
-    b"\n x:y\n\n\tloss -1\t\n 2",
-    [
-        ((1, 1, 2, 1), (3, 2, True)),
-        ((1, 2, 3, 1), (4, 3, True)),
-        ((1, 3, 4, 1), (5, 4, True)),
-        ((2, 4, 5, 0), (6, 0, False)),
-        ((3, 8, 8, 4), (12, 12, True)),
-        ((0, 13, 13, 2), (15, 15, True)),
-        ((2, 16, 16, 0), (17, 0, False)),
-        ((0, 1, 18, 1), (19, 2, True)),
-        ((2, 2, 19, 0), (19, 2, False)),
-        (None, (19, 2, False)),
-    ],
-)
-walk(
-    "steps, 65535 letters",
-    PLAIN,
-    b"a" * 65535,
-    [
-        ((1, 0, 0, 65535), (65535, 65535, True)),
-        ((2, 65535, 65535, 0), (65535, 65535, False)),
-        (None, (65535, 65535, False)),
-    ],
-)
-walk("steps, 65535 tabs", PLAIN, b"\t" * 65535, [(None, (65535, 524280, False))])
+walk("steps, empty", PLAIN, b"", (None, (0, 0, False)))
+walk("steps, blanks", PLAIN, b"  ", (None, (2, 2, False)))
+walk("steps, empty lines", PLAIN, b"\n \n\t", (None, (4, 8, False)))
+walk("steps, `a`", PLAIN, b"a", ((1, 0, 0, 1), (1, 1, True)), ((2, 1, 1, 0), (1, 1, False)), (None, (1, 1, False)))
+walk("steps, `a` and a break", PLAIN, b"a\n",
+     ((1, 0, 0, 1), (1, 1, True)), ((2, 1, 1, 0), (2, 0, False)), (None, (2, 0, False)))
+walk("steps, `a` and two blanks", PLAIN, b"a  ",
+     ((1, 0, 0, 1), (1, 1, True)), ((2, 3, 3, 0), (3, 3, False)), (None, (3, 3, False)))
+walk("steps, `a`, a break and a tab", PLAIN, b"a\n\t",
+     ((1, 0, 0, 1), (1, 1, True)), ((2, 1, 1, 0), (2, 0, False)), (None, (3, 8, False)))
+walk("steps, byte 13 before the break", PLAIN, b"a\r\nb\r",
+     ((1, 0, 0, 1), (1, 1, True)), ((2, 2, 2, 0), (3, 0, False)), ((1, 0, 3, 1), (4, 1, True)),
+     ((2, 2, 5, 0), (5, 2, False)), (None, (5, 2, False)))
+walk("steps, lines", LOSS, b"\n x:y\n\n\tloss -1\t\n 2",
+     ((1, 1, 2, 1), (3, 2, True)), ((1, 2, 3, 1), (4, 3, True)), ((1, 3, 4, 1), (5, 4, True)),
+     ((2, 4, 5, 0), (6, 0, False)), ((3, 8, 8, 4), (12, 12, True)), ((0, 13, 13, 2), (15, 15, True)),
+     ((2, 16, 16, 0), (17, 0, False)), ((0, 1, 18, 1), (19, 2, True)), ((2, 2, 19, 0), (19, 2, False)),
+     (None, (19, 2, False)))
+walk("steps, 65535 letters", PLAIN, b"a" * 65535,
+     ((1, 0, 0, 65535), (65535, 65535, True)), ((2, 65535, 65535, 0), (65535, 65535, False)),
+     (None, (65535, 65535, False)))
+walk("steps, 65535 tabs", PLAIN, b"\t" * 65535, (None, (65535, 524280, False)))
 
 # Steps don't know 10: tokens 4,096 and on are handed out as any.
 for at in (4094, 4095, 4096, 9998):
     token = (1, at, at, 1)
     step(f"steps, `:` {at + 1} of 9999", PLAIN, b":" * 9999, (at, at, True), token, (at + 1, at + 1, True))
-step(
-    "steps, line end behind 9999 `:`",
-    PLAIN,
-    b":" * 9999,
-    (9999, 9999, True),
-    (2, 9999, 9999, 0),
-    (9999, 9999, False),
-)
+step("steps, line end behind 9999 `:`", PLAIN, b":" * 9999, (9999, 9999, True), (2, 9999, 9999, 0), (9999, 9999, False))
 
 # A value stands where it stands: the token found is the longest run from its offset on, at its column.
 for said, file, report, before, token, after in (
@@ -1094,14 +849,7 @@ for said, file, report, before, answer, after in (
     ("break at 65536, no mark, then `a`", PLAIN, b"\na", (0, 65536, False), (1, 0, 1, 1), (2, 1, True)),
     ("the next token too far", PLAIN, b"a" + T8192 + b"b", (0, 0, False), (1, 0, 0, 1), (1, 1, True)),
     ("a run past column 65535", PLAIN, b"a" * 65535, (0, 1, False), (1, 1, 0, 65535), (65535, 65536, True)),
-    (
-        "a run to column 131070",
-        PLAIN,
-        b"a" * 65535,
-        (0, 65535, False),
-        (1, 65535, 0, 65535),
-        (65535, 131070, True),
-    ),
+    ("a run to column 131070", PLAIN, b"a" * 65535, (0, 65535, False), (1, 65535, 0, 65535), (65535, 131070, True)),
 ):
     step(f"step not by 9, {said}", file, report, before, answer, after)
 
@@ -1134,14 +882,11 @@ step("step, 8 before 9, offset 2 of 1", PLAIN, b"a", (2, 65536, True), 8)
 
 # Every choice of faults, one of each number. 8 by its three ways: the text, the offset, the column.
 for way in ("byte", "offset", "column"):
-    for taken in itertools.product((False, True), repeat=7):
-        chosen = tuple(n for i, n in enumerate((8, 9, 1, 2, 3, 4, 5)) if taken[i])
+    for chosen in faults.choices(8, 9, 1, 2, 3, 4, 5):
         file = field(1, b"\x02" if 1 in chosen else b"\x01")
-        file += keyword(b"a:" if 2 in chosen else b"a") + rule(2 if 5 in chosen else 0, b"r")
-        file += EMPTY * (513 if 3 in chosen else 1)
-        file += node(8, 0, 0, 4 if 4 in chosen else 3) + START
-        if 5 in chosen and 3 in chosen:
-            file = file.replace(rule(2, b"r"), rule(600, b"r"))
+        file += keyword(b"a:" if 2 in chosen else b"a")
+        file += rule(0 if 5 not in chosen else 600 if 3 in chosen else 2, b"r")
+        file += EMPTY * (513 if 3 in chosen else 1) + node(8, 0, 0, 4 if 4 in chosen else 3) + START
         report = b"x b"
         before = (1, 65535 if 9 in chosen else 65534, True)
         if 8 in chosen:
@@ -1155,7 +900,5 @@ for way in ("byte", "offset", "column"):
             step(label, file, report, before, (1, 65535, 2, 1), (3, 65536, True))
 
 
-(CRATE / "data").mkdir(parents=True, exist_ok=True)
-(CRATE / "data" / "cases").write_bytes(b"".join(records))
-(CRATE / "stdout").write_bytes("".join(lines).encode())
-print(f"{len(records)} calls, {sum(map(len, records))} bytes")
+if __name__ == "__main__":
+    CASES.write()

@@ -1,13 +1,11 @@
+#!/usr/bin/env python3
 """Writes the files that the program scanner_value_cases reads, and the lines that it must print.
 
 Nothing here scans a report: each answer was worked out by hand from the words of 01 that are quoted.
 """
 
-import pathlib
-
 from grammar_fields import with_keywords
-
-CRATE = pathlib.Path(__file__).resolve().parent.parent / "crates" / "scanner_value_cases"
+from records import write
 
 # "Terminal: 3 + k where the spelling equals keyword k (from 0)": `loss` is 3, `:` is 4.
 GRAMMAR = with_keywords(b"loss", b":")
@@ -48,22 +46,21 @@ refused 9
 # "Its calls check .. the whole text by 8": already the first step, though `a` stands before the byte.
 ZERO = b"a\0"
 
+LINES = (
+    "report by grammar.bin\n" + REPORT_STEPS
+    + "wide by grammar.bin\n" + WIDE_STEPS
+    + "zero by grammar.bin\n" + "refused 8\n" * 2
+    + "report by keyword.bin\n" + "refused 2\n" * 2
+)
 
-def main():
-    data = CRATE / "data"
-    data.mkdir(parents=True, exist_ok=True)
-    (data / "grammar.bin").write_bytes(GRAMMAR)
-    (data / "keyword.bin").write_bytes(KEYWORD)
-    (data / "report").write_bytes(REPORT)
-    (data / "wide").write_bytes(WIDE)
-    (data / "zero").write_bytes(ZERO)
-    (CRATE / "stdout").write_text(
-        "report by grammar.bin\n" + REPORT_STEPS
-        + "wide by grammar.bin\n" + WIDE_STEPS
-        + "zero by grammar.bin\n" + "refused 8\n" * 2
-        + "report by keyword.bin\n" + "refused 2\n" * 2
-    )
-
+FILES = {
+    "data/grammar.bin": GRAMMAR,
+    "data/keyword.bin": KEYWORD,
+    "data/report": REPORT,
+    "data/wide": WIDE,
+    "data/zero": ZERO,
+    "stdout": LINES.encode(),
+}
 
 if __name__ == "__main__":
-    main()
+    write({f"crates/scanner_value_cases/{path}": content for path, content in FILES.items()})

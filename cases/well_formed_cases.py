@@ -1,70 +1,45 @@
 #!/usr/bin/env python3
-"""Writes the calls that the program well_formed_cases makes, and the lines that it must print.
-
-Run it at the top of the repository. It writes crates/well_formed_cases/data/cases and
-crates/well_formed_cases/stdout, the same bytes each time.
+"""Writes the calls that the program well_formed_cases makes, and the lines that it must print (README.md).
 
 Nothing here decides whether a table is well formed. Each table has its verdict written beside it; a
 family of tables has one verdict for all, or the rule that gives each, in its loop or function. A
-comment quotes the words of document 01 that decide it. N, S and F stand for
-the three facts: may succeed reading nothing, may succeed reading something, may fail. X, Y and Z are
-rules, a and b terminals.
+comment quotes the words of document 01 that decide it. N, S and F stand for the three facts: may succeed reading
+nothing, may succeed reading something, may fail. X, Y and Z are rules, a and b terminals.
 """
 
-import itertools
-import os
-import pathlib
+import faults
+from records import Cases, Payloads, wide
+from table_nodes import EMPTY, align, choice, flat, indent, not_, over, position, repeat, rule, seq, terminal
 
-from table_nodes import EMPTY, align, choice, indent, not_, position, repeat, rule, seq
-
-CRATE = pathlib.Path(__file__).resolve().parent.parent / "crates" / "well_formed_cases"
-
-records = []
-lines = []
-labels = set()
-payload_before = b""
+CASES = Cases("well_formed_cases")
+BEFORE = Payloads()
 
 
 # --- Records and lines ---------------------------------------------------------------------------
 
 
-def record(label, node_words, rule_words, line, again=0):
-    """One call and the line expected of it. The layout is that of the program's first comment."""
-    global payload_before
-    assert label not in labels, label
-    labels.add(label)
-    payload = b"".join(word.to_bytes(2, "big") for word in [*node_words, *rule_words])
-    same = len(os.path.commonprefix([payload_before, payload]))
-    payload_before = payload
-    name = label.encode()
-    numbers = (again, len(node_words), len(rule_words), same)
-    records.append(
-        bytes([len(name)])
-        + b"".join(n.to_bytes(2, "big") for n in numbers)
-        + name
-        + payload[same:]
-    )
-    lines.append(f"{label}: {line}\n")
-
-
-def flat(nodes):
-    return [word for node in nodes for word in node]
+def record(label, nodes, rules, line, again=0):
+    """One call, made again so many times, and the line expected of it. The layout is that of the program's first
+    comment."""
+    node_words = flat(nodes)
+    same, rest = BEFORE.front(wide(2, *node_words, *rules))
+    CASES.add(label, line, b"", wide(2, again, len(node_words), len(rules), same), rest)
 
 
 def passes(label, nodes, rules=(), again=0):
     """ "The grammar passes if every node does, reachable or not" """
-    record(label, flat(nodes), rules, "passes", again)
+    record(label, nodes, rules, "passes", again)
 
 
 def bad(label, node, nodes, rules=(), again=0):
     """ "otherwise the lowest that doesn't is named", "The answer is the number, with the node for 7" """
-    record(label, flat(nodes), rules, f"refused 7 {node}", again)
+    record(label, nodes, rules, f"refused 7 {node}", again)
 
 
-def refused(label, number, node_words, rule_words=()):
-    """Refused by 3, 4 or 5; words, not nodes, as their number may be odd."""
+def refused(label, number, nodes, rules=()):
+    """Refused by 3, 4 or 5. Single words may stand among the nodes, as their number may be odd."""
     assert number in (3, 4, 5)
-    record(label, node_words, rule_words, f"refused {number}")
+    record(label, nodes, rules, f"refused {number}")
 
 
 def verdict(label, is_bad, node, nodes, rules=()):
@@ -77,9 +52,8 @@ def verdict(label, is_bad, node, nodes, rules=()):
 
 # --- Nodes ---------------------------------------------------------------------------------------
 
-# "four words a node: kind, a, b, relation", "Unused words are 0".
-A = (1, 1, 0, 0)
-B = (1, 2, 0, 0)
+A, B = terminal(1), terminal(2)
+FORMS = (("align", align), ("indent", indent), ("position", position))
 
 
 def moved(nodes, by):
@@ -104,8 +78,8 @@ bad("case j, X = (a / empty) X", 3, [A, EMPTY, choice(0, 1), rule(0), seq(2, 3)]
 
 # The column "small input", rows 3, 4, 5 and 7.
 refused("small 3, no node", 3, [])
-refused("small 4, node 0 a repeat of 0", 4, flat([repeat(0)]))
-refused("small 5, rule 0 = node 1 of 1", 5, flat([EMPTY]), [1])
+refused("small 4, node 0 a repeat of 0", 4, [repeat(0)])
+refused("small 5, rule 0 = node 1 of 1", 5, [EMPTY], [1])
 bad("small 7, rule 0 = node 0 = rule 0", 0, [rule(0)], [0])
 
 # The same with the fault put right.
@@ -118,19 +92,10 @@ passes("rule 0 = node 0 = a", [A], [0])
 # --- Number 3 ------------------------------------------------------------------------------------
 
 # "node words no multiple of 4, node or rule count .."; "1 to 512 nodes, 0 to 128 rules".
-for count in (1, 2, 3, 5, 6, 7, 2045, 2046, 2047, 2049, 2050, 2051):
-    refused(f"{count} node words", 3, [0] * count)
-for count in (1, 2, 511, 512):
-    passes(f"{count} nodes", [EMPTY] * count)
-for count in (513, 514, 525):
-    refused(f"{count} nodes", 3, flat([EMPTY] * count))
-for count in (0, 1, 127, 128):
-    passes(f"{count} rules", [EMPTY], [0] * count)
-for count in (129, 130, 200):
-    refused(f"{count} rules", 3, flat([EMPTY]), [0] * count)
+faults.counts(refused, passes, nodes=(1, 2, 511, 512), rules=(0, 1, 127, 128))
 refused("no node and a rule", 3, [], [0])
 refused("no node and 128 rules", 3, [], [0] * 128)
-refused("513 nodes and 129 rules", 3, flat([EMPTY] * 513), [0] * 129)
+refused("513 nodes and 129 rules", 3, [EMPTY] * 513, [0] * 129)
 
 
 # --- Number 4 ------------------------------------------------------------------------------------
@@ -138,33 +103,10 @@ refused("513 nodes and 129 rules", 3, flat([EMPTY] * 513), [0] * 129)
 # "kind over 9, child not lower .. unused word not 0". The node stands behind a and b, with two rules;
 # alone, then as the middle one of three.
 ALLOWED = [
-    (0, 0, 0, 0),
-    (1, 0, 0, 0),
-    (1, 3, 0, 0),
-    (1, 254, 0, 0),
-    (1, 255, 0, 0),
-    (2, 0, 0, 0),
-    (2, 1, 0, 0),
-    (3, 0, 0, 0),
-    (3, 1, 0, 0),
-    (3, 1, 1, 0),
-    (4, 0, 0, 0),
-    (4, 0, 1, 0),
-    (4, 1, 1, 0),
-    (5, 0, 0, 0),
-    (5, 1, 0, 0),
-    (6, 0, 0, 0),
-    (6, 1, 0, 0),
-    (7, 0, 0, 0),
-    (7, 1, 0, 1),
-    (7, 1, 0, 2),
-    (7, 1, 0, 3),
-    (8, 0, 0, 0),
-    (8, 1, 0, 1),
-    (8, 1, 0, 2),
-    (8, 1, 0, 3),
-    (9, 0, 0, 0),
-    (9, 1, 0, 0),
+    (0, 0, 0, 0), (1, 0, 0, 0), (1, 3, 0, 0), (1, 254, 0, 0), (1, 255, 0, 0), (2, 0, 0, 0), (2, 1, 0, 0),
+    (3, 0, 0, 0), (3, 1, 0, 0), (3, 1, 1, 0), (4, 0, 0, 0), (4, 0, 1, 0), (4, 1, 1, 0), (5, 0, 0, 0), (5, 1, 0, 0),
+    (6, 0, 0, 0), (6, 1, 0, 0), (7, 0, 0, 0), (7, 1, 0, 1), (7, 1, 0, 2), (7, 1, 0, 3), (8, 0, 0, 0), (8, 1, 0, 1),
+    (8, 1, 0, 2), (8, 1, 0, 3), (9, 0, 0, 0), (9, 1, 0, 0),
 ]
 for node in ALLOWED:
     passes(f"allowed node {node}", [A, B, node], [0, 1])
@@ -172,112 +114,37 @@ for node in ALLOWED:
 
 NOT_ALLOWED = [
     # "kind over 9"
-    (10, 0, 0, 0),
-    (11, 0, 0, 0),
-    (15, 1, 0, 0),
-    (255, 0, 0, 0),
-    (256, 0, 0, 0),
-    (257, 0, 0, 0),
-    (265, 1, 0, 0),
-    (32768, 0, 0, 0),
-    (65535, 0, 0, 0),
+    (10, 0, 0, 0), (11, 0, 0, 0), (15, 1, 0, 0), (255, 0, 0, 0), (256, 0, 0, 0), (257, 0, 0, 0), (265, 1, 0, 0),
+    (32768, 0, 0, 0), (65535, 0, 0, 0),
     # "terminal over 255"
-    (1, 256, 0, 0),
-    (1, 257, 0, 0),
-    (1, 511, 0, 0),
-    (1, 32768, 0, 0),
-    (1, 65535, 0, 0),
+    (1, 256, 0, 0), (1, 257, 0, 0), (1, 511, 0, 0), (1, 32768, 0, 0), (1, 65535, 0, 0),
     # "no such rule": rules 0 and 1 are there
-    (2, 2, 0, 0),
-    (2, 3, 0, 0),
-    (2, 127, 0, 0),
-    (2, 128, 0, 0),
-    (2, 256, 0, 0),
-    (2, 65535, 0, 0),
+    (2, 2, 0, 0), (2, 3, 0, 0), (2, 127, 0, 0), (2, 128, 0, 0), (2, 256, 0, 0), (2, 65535, 0, 0),
     # "child not lower": the node itself is 2
-    (3, 2, 0, 0),
-    (3, 0, 2, 0),
-    (3, 2, 2, 0),
-    (3, 3, 0, 0),
-    (3, 0, 3, 0),
-    (3, 256, 0, 0),
-    (3, 0, 256, 0),
-    (3, 65535, 0, 0),
-    (3, 0, 65535, 0),
-    (4, 2, 0, 0),
-    (4, 0, 2, 0),
-    (4, 2, 2, 0),
-    (4, 3, 0, 0),
-    (4, 0, 3, 0),
-    (4, 256, 0, 0),
-    (4, 0, 256, 0),
-    (5, 2, 0, 0),
-    (5, 3, 0, 0),
-    (5, 256, 0, 0),
-    (5, 65535, 0, 0),
-    (6, 2, 0, 0),
-    (6, 3, 0, 0),
-    (6, 256, 0, 0),
-    (7, 2, 0, 0),
-    (7, 3, 0, 1),
-    (7, 256, 0, 2),
-    (8, 2, 0, 0),
-    (8, 3, 0, 1),
-    (8, 256, 0, 2),
-    (9, 2, 0, 0),
-    (9, 3, 0, 0),
-    (9, 65535, 0, 0),
+    (3, 2, 0, 0), (3, 0, 2, 0), (3, 2, 2, 0), (3, 3, 0, 0), (3, 0, 3, 0), (3, 256, 0, 0), (3, 0, 256, 0),
+    (3, 65535, 0, 0), (3, 0, 65535, 0), (4, 2, 0, 0), (4, 0, 2, 0), (4, 2, 2, 0), (4, 3, 0, 0), (4, 0, 3, 0),
+    (4, 256, 0, 0), (4, 0, 256, 0), (5, 2, 0, 0), (5, 3, 0, 0), (5, 256, 0, 0), (5, 65535, 0, 0), (6, 2, 0, 0),
+    (6, 3, 0, 0), (6, 256, 0, 0), (7, 2, 0, 0), (7, 3, 0, 1), (7, 256, 0, 2), (8, 2, 0, 0), (8, 3, 0, 1),
+    (8, 256, 0, 2), (9, 2, 0, 0), (9, 3, 0, 0), (9, 65535, 0, 0),
     # "relation over 3"
-    (7, 0, 0, 4),
-    (7, 0, 0, 5),
-    (7, 0, 0, 256),
-    (7, 0, 0, 65535),
-    (8, 0, 0, 4),
-    (8, 0, 0, 5),
-    (8, 0, 0, 257),
+    (7, 0, 0, 4), (7, 0, 0, 5), (7, 0, 0, 256), (7, 0, 0, 65535), (8, 0, 0, 4), (8, 0, 0, 5), (8, 0, 0, 257),
     (8, 0, 0, 65535),
     # "unused word not 0": empty uses none
-    (0, 1, 0, 0),
-    (0, 0, 1, 0),
-    (0, 0, 0, 1),
-    (0, 256, 0, 0),
-    (0, 0, 256, 0),
-    (0, 0, 0, 256),
+    (0, 1, 0, 0), (0, 0, 1, 0), (0, 0, 0, 1), (0, 256, 0, 0), (0, 0, 256, 0), (0, 0, 0, 256),
     # terminal and rule use a
-    (1, 0, 1, 0),
-    (1, 0, 0, 1),
-    (1, 0, 256, 0),
-    (1, 0, 0, 256),
-    (2, 0, 1, 0),
-    (2, 0, 0, 1),
-    (2, 0, 256, 0),
+    (1, 0, 1, 0), (1, 0, 0, 1), (1, 0, 256, 0), (1, 0, 0, 256), (2, 0, 1, 0), (2, 0, 0, 1), (2, 0, 256, 0),
     (2, 0, 0, 65535),
     # sequence and choice use a and b
-    (3, 0, 1, 1),
-    (3, 0, 1, 256),
-    (4, 0, 1, 1),
-    (4, 0, 1, 65535),
+    (3, 0, 1, 1), (3, 0, 1, 256), (4, 0, 1, 1), (4, 0, 1, 65535),
     # not, repeat and align use a
-    (5, 0, 1, 0),
-    (5, 0, 0, 1),
-    (5, 0, 256, 0),
-    (6, 0, 1, 0),
-    (6, 0, 0, 1),
-    (6, 0, 0, 256),
-    (9, 0, 1, 0),
-    (9, 0, 0, 1),
-    (9, 0, 256, 0),
+    (5, 0, 1, 0), (5, 0, 0, 1), (5, 0, 256, 0), (6, 0, 1, 0), (6, 0, 0, 1), (6, 0, 0, 256), (9, 0, 1, 0),
+    (9, 0, 0, 1), (9, 0, 256, 0),
     # indent and position use a and the relation
-    (7, 0, 1, 0),
-    (7, 0, 1, 3),
-    (7, 0, 256, 3),
-    (8, 0, 1, 0),
-    (8, 0, 1, 3),
-    (8, 0, 65535, 3),
+    (7, 0, 1, 0), (7, 0, 1, 3), (7, 0, 256, 3), (8, 0, 1, 0), (8, 0, 1, 3), (8, 0, 65535, 3),
 ]
 for node in NOT_ALLOWED:
-    refused(f"node {node}", 4, flat([A, B, node]), [0, 1])
-    refused(f"node {node} before another", 4, flat([A, B, node, A]), [0, 1])
+    refused(f"node {node}", 4, [A, B, node], [0, 1])
+    refused(f"node {node} before another", 4, [A, B, node, A], [0, 1])
 
 # "A child node has a lower number than its parent": node 0 has no lower one.
 for kind in (3, 4, 5, 6, 7, 8, 9):
@@ -286,21 +153,21 @@ for kind in (3, 4, 5, 6, 7, 8, 9):
     refused(f"kind {kind} as node 0, child 1", 4, [kind, 1, 0, 0, 0, 0, 0, 0])
 
 # "no such rule": with n rules the last is n - 1.
-refused("rule 0 of none", 4, flat([rule(0)]))
-refused("rule 0 of none, second node", 4, flat([A, rule(0)]))
+refused("rule 0 of none", 4, [rule(0)])
+refused("rule 0 of none, second node", 4, [A, rule(0)])
 for count in (1, 2, 3, 127, 128):
     passes(f"rule {count - 1} of {count}", [A, rule(count - 1)], [0] * count)
-    refused(f"rule {count} of {count}", 4, flat([A, rule(count)]), [0] * count)
+    refused(f"rule {count} of {count}", 4, [A, rule(count)], [0] * count)
 
 # At the end of the largest table, and at its start.
 passes("terminal 255 as node 511", [EMPTY] * 511 + [(1, 255, 0, 0)])
-refused("terminal 256 as node 511", 4, flat([EMPTY] * 511 + [(1, 256, 0, 0)]))
-refused("kind 10 as node 511", 4, flat([EMPTY] * 511 + [(10, 0, 0, 0)]))
-refused("kind 10 as node 0 of 512", 4, flat([(10, 0, 0, 0)] + [EMPTY] * 511))
+refused("terminal 256 as node 511", 4, [EMPTY] * 511 + [(1, 256, 0, 0)])
+refused("kind 10 as node 511", 4, [EMPTY] * 511 + [(10, 0, 0, 0)])
+refused("kind 10 as node 0 of 512", 4, [(10, 0, 0, 0)] + [EMPTY] * 511)
 passes("align of 510 as node 511", [EMPTY] * 511 + [align(510)])
-refused("align of 511 as node 511", 4, flat([EMPTY] * 511 + [align(511)]))
-refused("sequence of 0 and 511 as node 511", 4, flat([EMPTY] * 511 + [seq(0, 511)]))
-refused("indent of relation 4 as node 511", 4, flat([EMPTY] * 511 + [indent(0, 4)]))
+refused("align of 511 as node 511", 4, [EMPTY] * 511 + [align(511)])
+refused("sequence of 0 and 511 as node 511", 4, [EMPTY] * 511 + [seq(0, 511)])
+refused("indent of relation 4 as node 511", 4, [EMPTY] * 511 + [indent(0, 4)])
 
 
 # --- Number 5 ------------------------------------------------------------------------------------
@@ -308,76 +175,71 @@ refused("indent of relation 4 as node 511", 4, flat([EMPTY] * 511 + [indent(0, 4
 # "a rule's node .. not in the table".
 for count in (1, 2, 3, 255, 256, 257, 511, 512):
     passes(f"rule of node {count - 1} of {count}", [EMPTY] * count, [count - 1])
-    refused(f"rule of node {count} of {count}", 5, flat([EMPTY] * count), [count])
+    refused(f"rule of node {count} of {count}", 5, [EMPTY] * count, [count])
 for number in (2, 255, 256, 257, 512, 32768, 65535):
-    refused(f"rule of node {number} of 1", 5, flat([EMPTY]), [number])
+    refused(f"rule of node {number} of 1", 5, [EMPTY], [number])
 for place in range(3):
     rules = [0, 1, 0]
     rules[place] = 2
-    refused(f"rule {place} of 3 is node 2 of 2", 5, flat([EMPTY] * 2), rules)
+    refused(f"rule {place} of 3 is node 2 of 2", 5, [EMPTY] * 2, rules)
 passes("3 rules of 2 nodes", [EMPTY] * 2, [0, 1, 0])
-refused("rule 127 of 128 is node 1 of 1", 5, flat([EMPTY]), [0] * 127 + [1])
-refused("rule 0 of 128 is node 1 of 1", 5, flat([EMPTY]), [1] + [0] * 127)
-refused("rule of node 5, named by node 0", 5, flat([rule(0)]), [5])
+refused("rule 127 of 128 is node 1 of 1", 5, [EMPTY], [0] * 127 + [1])
+refused("rule 0 of 128 is node 1 of 1", 5, [EMPTY], [1] + [0] * 127)
+refused("rule of node 5, named by node 0", 5, [rule(0)], [5])
 
 
 # --- Rising order --------------------------------------------------------------------------------
 
 # "Checks run in rising number", each over the whole table: all of 3 before any of 4, and so on.
 KIND_10 = (10, 0, 0, 0)
-for number, said, node_words, rules in (
+for number, said, nodes, rules in (
     (3, "3 before 4, 5 words and kind 10", [10, 0, 0, 0, 0], []),
     (3, "3 before 4, 3 words and kind 10", [10, 0, 0], []),
-    (3, "3 before 4, 513 nodes, the first of kind 10", flat([KIND_10] + [EMPTY] * 512), []),
-    (3, "3 before 4, 513 nodes, the last of kind 10", flat([EMPTY] * 512 + [KIND_10]), []),
-    (3, "3 before 4, 129 rules and kind 10", flat([KIND_10]), [0] * 129),
-    (3, "3 before 4, 129 rules and rule 129 named", flat([rule(129)]), [0] * 129),
+    (3, "3 before 4, 513 nodes, the first of kind 10", [KIND_10] + [EMPTY] * 512, []),
+    (3, "3 before 4, 513 nodes, the last of kind 10", [EMPTY] * 512 + [KIND_10], []),
+    (3, "3 before 4, 129 rules and kind 10", [KIND_10], [0] * 129),
+    (3, "3 before 4, 129 rules and rule 129 named", [rule(129)], [0] * 129),
     (3, "3 before 5, no node and a rule of node 9", [], [9]),
     (3, "3 before 5, 3 words and a rule of node 9", [0] * 3, [9]),
-    (3, "3 before 5, 129 rules of node 1 of 1", flat([EMPTY]), [1] * 129),
-    (3, "3 before 5, 513 nodes and a rule of node 513", flat([EMPTY] * 513), [513]),
-    (3, "3 before 7, X = X and a word more", flat([rule(0)]) + [0], [0]),
-    (3, "3 before 7, X = X and 129 rules", flat([rule(0)]), [0] * 129),
-    (3, "3 before 7, X = X and 513 nodes", flat([rule(0)] + [EMPTY] * 512), [0]),
-    (3, "3 before 7, repeat of empty and 2 words more", flat([EMPTY, repeat(0)]) + [0, 0], []),
-    (4, "4 before 5, kind 10 and a bad rule node", flat([KIND_10]), [1]),
-    (4, "4 before 5, last node bad, first rule bad", flat([EMPTY, align(1)]), [2, 0]),
-    (4, "4 before 5, terminal 256 and rule 127 bad", flat([(1, 256, 0, 0)]), [0] * 127 + [1]),
-    (4, "4 before 7, X = X and kind 10", flat([rule(0), KIND_10]), [0]),
-    (4, "4 before 7, kind 10 and X = X", flat([KIND_10, rule(0)]), [1]),
-    (4, "4 before 7, repeat of empty, terminal 256", flat([EMPTY, repeat(0), (1, 256, 0, 0)]), []),
-    (4, "4 before 7, repeat of empty with b = 1", flat([EMPTY, (6, 0, 1, 0)]), []),
-    (4, "4 before 7, X = X with b = 1", flat([(2, 0, 1, 0)]), [0]),
-    (4, "4 before 7, 512 nodes, the last of kind 10", flat([rule(0)] * 511 + [KIND_10]), [0]),
-    (5, "5 before 7, X = X and rule 1 of node 1 of 1", flat([rule(0)]), [0, 1]),
-    (5, "5 before 7, X = X as rule 1, rule 0 bad", flat([rule(1)]), [1, 0]),
-    (5, "5 before 7, repeat of empty and a bad rule node", flat([EMPTY, repeat(0)]), [2]),
-    (5, "5 before 7, X = X and rule 127 bad", flat([rule(0)]), [0] * 127 + [1]),
+    (3, "3 before 5, 129 rules of node 1 of 1", [EMPTY], [1] * 129),
+    (3, "3 before 5, 513 nodes and a rule of node 513", [EMPTY] * 513, [513]),
+    (3, "3 before 7, X = X and a word more", [rule(0), 0], [0]),
+    (3, "3 before 7, X = X and 129 rules", [rule(0)], [0] * 129),
+    (3, "3 before 7, X = X and 513 nodes", [rule(0)] + [EMPTY] * 512, [0]),
+    (3, "3 before 7, repeat of empty and 2 words more", [EMPTY, repeat(0), 0, 0], []),
+    (4, "4 before 5, kind 10 and a bad rule node", [KIND_10], [1]),
+    (4, "4 before 5, last node bad, first rule bad", [EMPTY, align(1)], [2, 0]),
+    (4, "4 before 5, terminal 256 and rule 127 bad", [(1, 256, 0, 0)], [0] * 127 + [1]),
+    (4, "4 before 7, X = X and kind 10", [rule(0), KIND_10], [0]),
+    (4, "4 before 7, kind 10 and X = X", [KIND_10, rule(0)], [1]),
+    (4, "4 before 7, repeat of empty, terminal 256", [EMPTY, repeat(0), (1, 256, 0, 0)], []),
+    (4, "4 before 7, repeat of empty with b = 1", [EMPTY, (6, 0, 1, 0)], []),
+    (4, "4 before 7, X = X with b = 1", [(2, 0, 1, 0)], [0]),
+    (4, "4 before 7, 512 nodes, the last of kind 10", [rule(0)] * 511 + [KIND_10], [0]),
+    (5, "5 before 7, X = X and rule 1 of node 1 of 1", [rule(0)], [0, 1]),
+    (5, "5 before 7, X = X as rule 1, rule 0 bad", [rule(1)], [1, 0]),
+    (5, "5 before 7, repeat of empty and a bad rule node", [EMPTY, repeat(0)], [2]),
+    (5, "5 before 7, X = X and rule 127 bad", [rule(0)], [0] * 127 + [1]),
 ):
-    refused(said, number, node_words, rules)
+    refused(said, number, nodes, rules)
 
 # Every choice of faults from four, one of each number: the answer is the lowest number chosen. In the
 # first set the faults of lower numbers stand later in the words, in the second earlier.
-for taken in itertools.product((False, True), repeat=4):
-    chosen = [number for number, there in zip((3, 4, 5, 7), taken) if there]
-    said = " ".join(map(str, chosen)) or "none"
-    node_words = flat([rule(0) if 7 in chosen else A, KIND_10 if 4 in chosen else B])
-    rules = [0, 2 if 5 in chosen else 1]
-    if 3 in chosen:
-        node_words.append(0)
+
+
+def ordered(said, chosen, ill, table):
+    """A table with the faults chosen; for 7 the node is `ill`."""
+    label = faults.label(said, chosen)
     if chosen and chosen[0] != 7:
-        refused(f"late faults {said}", chosen[0], node_words, rules)
+        refused(label, chosen[0], *table)
     else:
-        record(f"late faults {said}", node_words, rules, "refused 7 0" if chosen else "passes")
-for taken in itertools.product((False, True), repeat=4):
-    chosen = [number for number, there in zip((3, 4, 5, 7), taken) if there]
-    said = " ".join(map(str, chosen)) or "none"
-    node_words = flat([(1, 256 if 4 in chosen else 255, 0, 0), EMPTY, repeat(1 if 7 in chosen else 0)])
-    rules = [3 if 5 in chosen else 2] + [0] * (128 if 3 in chosen else 1)
-    if chosen and chosen[0] != 7:
-        refused(f"early faults {said}", chosen[0], node_words, rules)
-    else:
-        record(f"early faults {said}", node_words, rules, "refused 7 2" if chosen else "passes")
+        verdict(label, bool(chosen), ill, *table)
+
+
+for chosen in faults.choices(3, 4, 5, 7):
+    ordered("late", chosen, 0, faults.late_table(chosen))
+for chosen in faults.choices(3, 4, 5, 7):
+    ordered("early", chosen, 2, faults.early_table(chosen, 255))
 
 
 # --- Leaves and one form over them ---------------------------------------------------------------
@@ -486,28 +348,20 @@ for relation in (0, 1, 2, 3):
     bad(f"X = position {relation} X", 0, [rule(0), position(0, relation)], [1])
 bad("X = (not X) a", 1, [A, rule(0), not_(1), seq(2, 0)], [3])
 bad("X = X* a", 1, [A, rule(0), repeat(1), seq(2, 0)], [3])
-bad("X = (align X) a", 1, [A, rule(0), align(1), seq(2, 0)], [3])
-bad("X = (indent X) a", 1, [A, rule(0), indent(1), seq(2, 0)], [3])
-bad("X = (position X) a", 1, [A, rule(0), position(1), seq(2, 0)], [3])
+for said, form in FORMS:
+    bad(f"X = ({said} X) a", 1, [A, rule(0), form(1), seq(2, 0)], [3])
 passes("X = a (not X)", [A, rule(0), not_(1), seq(0, 2)], [3])
 # a X* : X may fail and reads something where it succeeds, so the repeat stands.
 passes("X = a X*", [A, rule(0), repeat(1), seq(0, 2)], [3])
-passes("X = a (align X)", [A, rule(0), align(1), seq(0, 2)], [3])
-passes("X = a (indent X)", [A, rule(0), indent(1), seq(0, 2)], [3])
-passes("X = a (position X)", [A, rule(0), position(1), seq(0, 2)], [3])
-bad("X = (align empty) X", 2, [EMPTY, align(0), rule(0), seq(1, 2)], [3])
-bad("X = (indent empty) X", 2, [EMPTY, indent(0), rule(0), seq(1, 2)], [3])
-bad("X = (position empty) X", 2, [EMPTY, position(0), rule(0), seq(1, 2)], [3])
-passes("X = (align a) X", [A, align(0), rule(0), seq(1, 2)], [3])
-passes("X = (indent a) X", [A, indent(0), rule(0), seq(1, 2)], [3])
-passes("X = (position a) X", [A, position(0), rule(0), seq(1, 2)], [3])
+for said, form in FORMS:
+    passes(f"X = a ({said} X)", [A, rule(0), form(1), seq(0, 2)], [3])
+for said, form in FORMS:
+    bad(f"X = ({said} empty) X", 2, [EMPTY, form(0), rule(0), seq(1, 2)], [3])
+for said, form in FORMS:
+    passes(f"X = ({said} a) X", [A, form(0), rule(0), seq(1, 2)], [3])
 bad("X = align indent position X", 0, [rule(0), position(0), indent(1), align(2)], [3])
-bad(
-    "X = a / align indent position (empty X)",
-    2,
-    [A, EMPTY, rule(0), seq(1, 2), position(3), indent(4), align(5), choice(0, 6)],
-    [7],
-)
+bad("X = a / align indent position (empty X)", 2,
+    [A, EMPTY, rule(0), seq(1, 2), position(3), indent(4), align(5), choice(0, 6)], [7])
 # (a X / empty)* as X: the choice may read nothing, so the repeat, node 5, is bad; rule X, node 1,
 # stands for it and is lower. The sequence, node 2, passes.
 bad("X = (a X / empty)*", 1, [A, rule(0), seq(0, 1), EMPTY, choice(2, 3), repeat(4)], [5])
@@ -538,11 +392,7 @@ passes("X = Y X, Y = a Y / b", [rule(1), rule(0), seq(0, 1), A, seq(3, 0), B, ch
 # Y = a Y may only fail: it succeeds by no finite reading, and the facts "are the least ones".
 passes("X = Y X, Y = a Y", [rule(1), rule(0), seq(0, 1), A, seq(3, 0)], [2, 4])
 bad("X = (not Y) X, Y = a Y", 2, [rule(1), not_(0), rule(0), seq(1, 2), A, seq(4, 0)], [3, 5])
-passes(
-    "X = (not not Y) X, Y = a Y",
-    [rule(1), not_(0), not_(1), rule(0), seq(2, 3), A, seq(5, 0)],
-    [4, 6],
-)
+passes("X = (not not Y) X, Y = a Y", [rule(1), not_(0), not_(1), rule(0), seq(2, 3), A, seq(5, 0)], [4, 6])
 # Three rules: X = Y, Y = Z, Z = X, with one step that reads, in each place.
 bad("X = Y, Y = Z, Z = X", 0, [rule(1), rule(2), rule(0)], [0, 1, 2])
 passes("X = Y, Y = Z, Z = a X", [rule(1), rule(2), A, rule(0), seq(2, 3)], [0, 1, 4])
@@ -553,41 +403,17 @@ bad("X = Y, Y = a* Z, Z = X", 0, [rule(1), A, repeat(1), rule(2), seq(2, 3), rul
 # X = a Y passes, but Y = Z a with Z = Y does not; node 1 is rule Y.
 bad("X = a Y, Y = Z a, Z = Y", 1, [A, rule(1), seq(0, 1), rule(2), seq(3, 0)], [2, 4, 1])
 # Two ways back to Z, each behind a step that reads.
-passes(
-    "Z = X / Y, X = a Z, Y = b Z",
-    [rule(1), rule(2), choice(0, 1), A, B, rule(0), seq(3, 5), seq(4, 5)],
-    [2, 6, 7],
-)
+passes("Z = X / Y, X = a Z, Y = b Z", [rule(1), rule(2), choice(0, 1), A, B, rule(0), seq(3, 5), seq(4, 5)], [2, 6, 7])
 # Rule X, node 0, passes by its a; rule Y, node 1, needs Z, and Z needs Y.
-bad(
-    "Z = X / Y, X = a Z, Y = Z b",
-    1,
-    [rule(1), rule(2), choice(0, 1), A, B, rule(0), seq(3, 5), seq(5, 4)],
-    [2, 6, 7],
-)
+bad("Z = X / Y, X = a Z, Y = Z b", 1, [rule(1), rule(2), choice(0, 1), A, B, rule(0), seq(3, 5), seq(5, 4)], [2, 6, 7])
 # X = not Y, Y = a X: Y may fail, so X may read nothing; then Y succeeds, and X may fail.
 passes("X = not Y, Y = a X", [rule(1), not_(0), A, rule(0), seq(2, 3)], [1, 4])
 bad("(X)*, X = not Y, Y = a X", 5, [rule(1), not_(0), A, rule(0), seq(2, 3), repeat(1)], [1, 4])
 bad("(not X)*, X = not Y, Y = a X", 6, [rule(1), not_(0), A, rule(0), seq(2, 3), not_(1), repeat(5)], [1, 4])
 # A grammar of sums: sum = product + sum / product, product = unit * product / unit, unit = a / ( sum ).
 SUMS = [
-    (1, 4, 0, 0),
-    (1, 5, 0, 0),
-    (1, 6, 0, 0),
-    (1, 7, 0, 0),
-    A,
-    rule(0),
-    rule(1),
-    rule(2),
-    seq(0, 5),
-    seq(6, 8),
-    choice(9, 6),
-    seq(1, 6),
-    seq(7, 11),
-    choice(12, 7),
-    seq(5, 3),
-    seq(2, 14),
-    choice(4, 15),
+    (1, 4, 0, 0), (1, 5, 0, 0), (1, 6, 0, 0), (1, 7, 0, 0), A, rule(0), rule(1), rule(2), seq(0, 5), seq(6, 8),
+    choice(9, 6), seq(1, 6), seq(7, 11), choice(12, 7), seq(5, 3), seq(2, 14), choice(4, 15),
 ]
 passes("sums", SUMS, [10, 13, 16])
 # The same with unit = a / sum ): sum, product and unit stand on each other, from node 5 on.
@@ -596,12 +422,7 @@ bad("sums, unit = a / sum )", 5, SUMS[:15] + [choice(4, 14)], [10, 13, 15])
 passes("sums, unit = a* / ( sum )", SUMS + [repeat(4), choice(17, 15)], [10, 13, 18])
 # sum = sum + product / product: the textbook left recursion; product and unit refer to sum only
 # behind (, and pass. Node 5 is rule sum.
-bad(
-    "sums, left recursive",
-    5,
-    SUMS[:8] + [seq(0, 6), seq(5, 8), choice(9, 6)] + SUMS[11:],
-    [10, 13, 16],
-)
+bad("sums, left recursive", 5, SUMS[:8] + [seq(0, 6), seq(5, 8), choice(9, 6)] + SUMS[11:], [10, 13, 16])
 # Unused rules, and two rules for one node.
 passes("unused rules", [A, EMPTY, repeat(0)], [2, 1, 0])
 passes("two rules for one node", [A, rule(0), rule(1), seq(1, 2)], [0, 0])
@@ -633,12 +454,7 @@ bad("a X, X = (empty)*", 1, [A, rule(0), seq(0, 1), EMPTY, repeat(3)], [4])
 bad("a X passes as Y, X = (empty)*", 2, [rule(1), A, rule(0), seq(1, 2), EMPTY, repeat(4)], [5, 3])
 bad("empty X as Y, X = (empty)*", 0, [rule(1), EMPTY, rule(0), seq(1, 2), repeat(1)], [4, 3])
 bad("a* X as Y, X = (empty)*", 0, [rule(1), A, repeat(1), rule(0), seq(2, 3), EMPTY, repeat(5)], [6, 4])
-bad(
-    "(not empty) X passes as Y, X = (empty)*",
-    3,
-    [rule(1), EMPTY, not_(1), rule(0), seq(2, 3), repeat(1)],
-    [5, 4],
-)
+bad("(not empty) X passes as Y, X = (empty)*", 3, [rule(1), EMPTY, not_(1), rule(0), seq(2, 3), repeat(1)], [5, 4])
 bad("X a as Y, X = (empty)*", 0, [rule(1), A, rule(0), seq(2, 1), EMPTY, repeat(4)], [5, 3])
 # "a choice of two": bad with either.
 bad("a / X as Y, X = (empty)*", 0, [rule(1), A, rule(0), choice(1, 2), EMPTY, repeat(4)], [5, 3])
@@ -660,12 +476,7 @@ for said, form in (
     nodes = [rule(1), form, EMPTY, rule(0), seq(2, 3), EMPTY, repeat(5)]
     bad(f"{said} of empty X, X = (empty)*", 0, nodes, [6, 4])
 # Only node 3, rule X, and the repeat are bad: b stands before X, and a before b.
-bad(
-    "Y = a (b X), X = (empty)*",
-    3,
-    [rule(1), A, B, rule(0), seq(2, 3), seq(1, 4), EMPTY, repeat(6)],
-    [7, 5],
-)
+bad("Y = a (b X), X = (empty)*", 3, [rule(1), A, B, rule(0), seq(2, 3), seq(1, 4), EMPTY, repeat(6)], [7, 5])
 
 
 # --- Ford's rules fact by fact -------------------------------------------------------------------
@@ -688,23 +499,25 @@ SETS = (
 )
 
 
-def seen(label, facts, nodes, rules=()):
-    """Four tables that show the facts of the last node, which is well formed.
+def shown(label, facts, last, number):
+    """Four forms over node `last`, which is well formed, that show its facts: the label, whether it is bad, at which
+    node, the nodes behind the last, and what their rule, of this number, stands for.
 
     A repeat of it is bad exactly if it has N: "a repeat whose child is and may not succeed reading
     nothing". Not of it has N exactly if it may fail, and not of that exactly if it may succeed. A
     rule behind it in its own sequence is bad exactly if it has N: "b too if a may read nothing".
     """
-    last = len(nodes) - 1
-    rules = list(rules)
-    more = nodes + [repeat(last)]
-    verdict(f"({label})*", "N" in facts, last + 1, more, rules)
-    more = nodes + [not_(last), repeat(last + 1)]
-    verdict(f"(not ({label}))*", "F" in facts, last + 2, more, rules)
-    more = nodes + [not_(last), not_(last + 1), repeat(last + 2)]
-    verdict(f"(not not ({label}))*", "N" in facts or "S" in facts, last + 3, more, rules)
-    more = nodes + [rule(len(rules)), seq(last, last + 1)]
-    verdict(f"Z = ({label}) Z", "N" in facts, last + 1, more, rules + [last + 2])
+    succeeds = "N" in facts or "S" in facts
+    yield f"({label})*", "N" in facts, last + 1, [repeat(last)], []
+    yield f"(not ({label}))*", "F" in facts, last + 2, [not_(last), repeat(last + 1)], []
+    yield f"(not not ({label}))*", succeeds, last + 3, [not_(last), not_(last + 1), repeat(last + 2)], []
+    yield f"Z = ({label}) Z", "N" in facts, last + 1, [rule(number), seq(last, last + 1)], [last + 2]
+
+
+def seen(label, facts, nodes, rules=()):
+    """Four tables that show the facts of the last node."""
+    for said, is_bad, ill, more, own in shown(label, facts, len(nodes) - 1, len(rules)):
+        verdict(said, is_bad, ill, nodes + more, [*rules, *own])
 
 
 # The six themselves, each with only the nodes up to it.
@@ -767,22 +580,12 @@ for a, said, facts in SETS:
 def seen_early(label, facts, number, hops):
     """As `seen`, of a node of BASE, where BASE stands last and `hops` rules in a row lead to it."""
 
-    def table(probe):
-        # The probe's node 0 is rule 0. Each rule but the last stands for a node that names the next.
-        first = len(probe)
-        names = [rule(i) for i in range(1, hops)]
-        base = first + len(names)
-        nodes = probe + names + moved(BASE, base)
-        return nodes, [*range(first, base), base + number]
-
-    nodes, rules = table([rule(0), repeat(0)])
-    verdict(f"({label})*, later", "N" in facts, 1, nodes, rules)
-    nodes, rules = table([rule(0), not_(0), repeat(1)])
-    verdict(f"(not ({label}))*, later", "F" in facts, 2, nodes, rules)
-    nodes, rules = table([rule(0), not_(0), not_(1), repeat(2)])
-    verdict(f"(not not ({label}))*, later", "N" in facts or "S" in facts, 3, nodes, rules)
-    nodes, rules = table([rule(0), rule(hops), seq(0, 1)])
-    verdict(f"Z = ({label}) Z, later", "N" in facts, 1, nodes, rules + [2])
+    for said, is_bad, ill, more, own in shown(label, facts, 0, hops):
+        # Node 0 is rule 0. Each rule but the last stands for a node that names the next.
+        probe = [rule(0)] + more
+        base = len(probe) + hops - 1
+        nodes = probe + [rule(i) for i in range(1, hops)] + moved(BASE, base)
+        verdict(f"{said}, later", is_bad, ill, nodes, [*range(len(probe), base), base + number, *own])
 
 
 # "a rule may stand for any node": also a higher one, and through rules in a row.
@@ -960,11 +763,6 @@ CORE = [A, rule(0), seq(0, 1), EMPTY, choice(2, 3)]
 CORE_BAD = [EMPTY, rule(0), seq(0, 1), EMPTY, choice(2, 3)]
 
 
-def over(nodes, form, upto=512):
-    """The nodes, then the form over the one before, up to that many."""
-    return nodes + [form(i) for i in range(len(nodes) - 1, upto - 1)]
-
-
 def any_indent(i):
     return indent(i, i % 4)
 
@@ -1023,11 +821,7 @@ passes("repeat of 509 nots over empty", over([EMPTY], not_, 510) + [repeat(509),
 bad("repeat of 510 nots over a", 511, over([A], not_, 511) + [repeat(510)])
 bad("repeat of 509 nots over a", 510, over([A], not_, 510) + [repeat(509), align(510)])
 bad("repeat of 506 nots over X = a X / empty", 511, over(CORE, not_, 511) + [repeat(510)], [4])
-passes(
-    "repeat of 505 nots over X = a X / empty",
-    over(CORE, not_, 510) + [repeat(509), align(510)],
-    [4],
-)
+passes("repeat of 505 nots over X = a X / empty", over(CORE, not_, 510) + [repeat(509), align(510)], [4])
 
 # Repeats: "a repeat whose child is and may not succeed reading nothing".
 bad("511 repeats over each other", 2, over([A], repeat))
@@ -1059,11 +853,7 @@ passes("X = a (a (.. X))", over([A, rule(0)], lambda i: seq(0, i)), [511])
 bad("X = empty (empty (.. X))", 1, over([EMPTY, rule(0)], lambda i: seq(0, i)), [511])
 bad("X = (.. (X / a) ..) / a", 1, over([A, rule(0)], lambda i: choice(i, 0)), [511])
 # (not a) X needs X, and X passes by the a at its start.
-passes(
-    "X = a ((not a) (.. ((not a) X)))",
-    over([A, not_(0), rule(0)], lambda i: seq(1, i), 511) + [seq(0, 510)],
-    [511],
-)
+passes("X = a ((not a) (.. ((not a) X)))", over([A, not_(0), rule(0)], lambda i: seq(1, i), 511) + [seq(0, 510)], [511])
 
 # Leaves and rules only.
 passes("512 terminals", [(1, i % 256, 0, 0) for i in range(512)], list(range(384, 512)))
@@ -1115,11 +905,7 @@ bad("rule 64 names itself, 65 to 127 lead to it", 64, DOWN[:64] + [rule(64)] + D
 TURN = [rule((5 * i + 1) % 128) for i in range(128)]
 bad("128 rules in turn by 5 i + 1", 0, TURN, OWN)
 for number in (0, 1, 77, 127):
-    passes(
-        f"128 rules in turn by 5 i + 1, rule {number} is a",
-        TURN[:number] + [A] + TURN[number + 1 :],
-        OWN,
-    )
+    passes(f"128 rules in turn by 5 i + 1, rule {number} is a", TURN[:number] + [A] + TURN[number + 1 :], OWN)
 # Facts through 128 rules: those of the end, seen by a repeat as the last node.
 for said, chain, top in (("upward", upward, 0), ("downward", downward, 127)):
     bad(f"repeat of 128 rules {said} to empty", 128, chain(EMPTY) + [repeat(top)], OWN)
@@ -1189,30 +975,19 @@ passes("128 rules, each a before the next", blocks(lambda at, i: before(at, A, (
 EMPTIES = blocks(lambda at, i: before(at, EMPTY, (i + 1) % 128))
 bad("128 rules, each empty before the next", 1, EMPTIES, LAST)
 for k in (0, 50, 127):
-    passes(
-        f"128 rules, empty before the next but a at {k}",
-        EMPTIES[: 4 * k] + before(4 * k, A, (k + 1) % 128) + EMPTIES[4 * k + 4 :],
-        LAST,
-    )
+    passes(f"128 rules, empty before the next but a at {k}",
+           EMPTIES[: 4 * k] + before(4 * k, A, (k + 1) % 128) + EMPTIES[4 * k + 4 :], LAST)
 # a* before the next: left recursion in a cycle, and none to an end. Node 2 is the first rule named.
 REPEATS = blocks(lambda at, i: repeated(at, (i + 1) % 128))
 bad("128 rules, each a* before the next", 2, REPEATS, LAST)
 passes("128 rules, a* before the next, the last a", REPEATS[:508] + leaf(508, A), LAST)
 # The last is (empty)*, as node 509: every rule on the way needs it, as a* may read nothing.
-bad(
-    "128 rules, a* before the next, the last (empty)*",
-    2,
-    REPEATS[:508] + [EMPTY, repeat(508), align(509), align(510)],
-    LAST,
-)
+bad("128 rules, a* before the next, the last (empty)*", 2, REPEATS[:508] + [EMPTY, repeat(508), align(509), align(510)],
+    LAST)
 # With a for a* each passes for itself; only the node that names rule 127, node 505, and the repeat
 # are bad.
-bad(
-    "128 rules, a before the next, the last (empty)*",
-    505,
-    blocks(lambda at, i: before(at, A, (i + 1) % 128))[:508] + [EMPTY, repeat(508), align(509), align(510)],
-    LAST,
-)
+bad("128 rules, a before the next, the last (empty)*", 505,
+    blocks(lambda at, i: before(at, A, (i + 1) % 128))[:508] + [EMPTY, repeat(508), align(509), align(510)], LAST)
 # Three nots a rule, upward to empty: rule 127 may only succeed, rule 126 only fail, rule 125 only
 # succeed, and so on: rule 0 only fails, rule 1 only succeeds, and with nothing read.
 NOTS = blocks(lambda at, i: [rule((i + 1) % 128), not_(at), not_(at + 1), not_(at + 2)])
@@ -1272,7 +1047,5 @@ nodes, rules, at = waves()
 passes("5 times, three waves of facts", nodes, rules, 4)
 
 
-(CRATE / "data").mkdir(parents=True, exist_ok=True)
-(CRATE / "data" / "cases").write_bytes(b"".join(records))
-(CRATE / "stdout").write_bytes("".join(lines).encode())
-print(f"{len(records)} calls, {sum(map(len, records))} bytes")
+if __name__ == "__main__":
+    CASES.write()

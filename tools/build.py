@@ -1,166 +1,672 @@
 #!/usr/bin/env python3
 """Turns a grammar in words into a grammar file.
 
-    python3 tools/build.py examples/splices.grammar examples/grammar.bin
+    python3 tools/build.py GRAMMAR FILE       writes FILE and says how large it is
+    python3 tools/build.py --nodes GRAMMAR    lists the nodes, each with its rule and place
+    python3 tools/build.py --version
 
 A grammar in words, where `#` begins a comment:
 
-    keywords "loss" ":"       spellings, before their use; numbered in this order, from 0
+    keywords "loss" ":"       spellings that are tokens of their own kind; numbered in this order, from 0
     start NAME                the rule that a run begins with
     mode RELATION             the mode that it begins in
     NAME = expression         a rule; numbered in this order, from 0
 
-    a b                       sequence
-    a / b                     ordered choice; a sequence binds closer
-    !a                        not
-    a*                        repeat; it binds closest
-    indent RELATION a         a relation is equal, greater, at-least or any
-    position RELATION a
-    align a
+    a*  a+  a?                any number of times, at least once, once or not at all; these bind closest
+    !a                        not: a cannot be read here, and nothing is read
+    align a                   the first token of a stands on the baseline
+    indent RELATION a         a has a baseline of its own; RELATION is equal, greater, at-least or any
+    position RELATION a       the token mode inside a
+    a b                       a, then b
+    a / b                     a, or if a fails b; binds least
     "loss"  number  word  eol a keyword, a number, any other word, the end of a line
+    token  line  end          any one token; the rest of a line; nothing is left, at whatever column
     empty  NAME  (a)          nothing, a rule, an expression
+
+A grammar that the reader would refuse is told so with its place, and then nothing is written.
 """
 
+import argparse
+import difflib
 import re
 import sys
+from pathlib import Path
+from typing import NamedTuple, Optional, Tuple
 
+# The table: kinds, relations and terminals have the numbers that the reader knows them by.
+KINDS = ("empty", "terminal", "rule", "sequence", "choice", "not", "repeat", "indent", "position", "align")
 EMPTY, TERMINAL, RULE, SEQUENCE, CHOICE, NOT, REPEAT, INDENT, POSITION, ALIGN = range(10)
-RELATIONS = {"equal": 0, "greater": 1, "at-least": 2, "any": 3}
-TERMINALS = {"number": 0, "word": 1, "eol": 2}
-FIRST_KEYWORD = 3
-OWN = {"keywords", "start", "mode", "indent", "position", "align", "empty", *TERMINALS, *RELATIONS}
+RELATIONS = ("equal", "greater", "at-least", "any")
+ANY = RELATIONS.index("any")
+TERMINALS = ("number", "word", "eol")
+EOL, FIRST_KEYWORD = 2, 3
 
-WORD = re.compile(r'\s+|#[^\n]*|(?P<word>"[^"\s]+"|[A-Za-z][\w-]*|[=/!*()])')
+# The limits of a grammar file.
+MOST_BYTES, MOST_KEYWORDS, MOST_SPELLING, MOST_NODES, MOST_RULES = 65535, 253, 32, 512, 128
+SINGLES = ":,()[]=;%"
+
+# The words of the notation.
+STATEMENTS = ("keywords", "start", "mode")
+BUILT_IN = ("token", "line", "end")
+RESERVED = (*STATEMENTS, "align", "indent", "position", "empty", *TERMINALS, *BUILT_IN, *RELATIONS)
+
+# Enough for a table's 512 nodes one in the other, each in brackets.
+DEEPEST = 6000
+
+
+# Faults
+
+
+class Place(NamedTuple):
+    """A place in a grammar in words; lines and columns count from 1."""
+
+    line: int
+    column: int
+
+    def __str__(self):
+        return f"{self.line}:{self.column}"
+
+
+class Fault(NamedTuple):
+    """What is wrong, where, and by which number the reader would refuse it (0: it is no grammar at all)."""
+
+    place: Optional[Place]
+    text: str
+    number: int = 0
+    node: Optional[int] = None
+
+    def line(self, path):
+        """The message of a fault, as a line."""
+        where = f"{path}:{self.place}" if self.place else str(path)
+        answer = f" (the reader would answer: {self.answer()})" if self.number else ""
+        return f"{where}: {self.text}{answer}"
+
+    def answer(self):
+        return f"refused {self.number}" + ("" if self.node is None else f" {self.node}")
+
+
+class Faults(Exception):
+    """A grammar that cannot be built, with all that is known to be wrong."""
+
+    def __init__(self, *faults):
+        super().__init__(*faults)
+        self.faults = faults
+
+
+# Lexer
+
+
+class Word(NamedTuple):
+    """A word of the notation. The last one of a grammar is empty."""
+
+    text: str
+    place: Place
+
+    def is_keyword(self):
+        return self.text.startswith('"')
+
+    def is_name(self):
+        return self.text[:1].isalpha()
+
+    def told(self):
+        """The word as a message shows it."""
+        if not self.text:
+            return "the end of the file"
+        if self.is_keyword():
+            return f"the keyword {self.text}"
+        if self.text in RESERVED:
+            return f"the reserved word {self.text}"
+        return self.text if self.is_name() else f"'{self.text}'"
+
+
+LEXEME = re.compile(r'\s+|#[^\n]*|(?P<word>"[^"\n]*"|[A-Za-z][\w-]*|[=/!*?+()])')
 
 
 def words_of(text):
-    """The words of a grammar, each with its line."""
-    words, at = [], 0
+    """The words of a grammar, with an empty one behind the last."""
+    words, at, line, line_at = [], 0, 1, 0
     while at < len(text):
-        found = WORD.match(text, at)
-        line = text.count("\n", 0, at) + 1
+        found = LEXEME.match(text, at)
+        place = Place(line, at - line_at + 1)
+        if not found and text[at] == '"':
+            raise Faults(Fault(place, 'this keyword is not closed: a second " is expected on its line'))
         if not found:
-            sys.exit(f"line {line}: {text[at]!r} begins no word")
+            raise Faults(Fault(place, f"{text[at]!r} begins no word of the notation"))
         if found["word"]:
-            words.append((found["word"], line))
+            words.append(Word(found["word"], place))
+        breaks = text.count("\n", at, found.end())
         at = found.end()
-    return words
+        if breaks:
+            line, line_at = line + breaks, text.rindex("\n", 0, at) + 1
+    return [*words, Word("", Place(line, at - line_at + 1))]
 
 
-class Grammar:
-    """Reads the words of a grammar from front to back and collects its keywords, rules and nodes."""
+# Parser
+
+
+class Expression(NamedTuple):
+    """An expression: its form, where it stands, its parts, and a relation, a terminal or a spelling."""
+
+    form: str
+    place: Place
+    parts: Tuple["Expression", ...] = ()
+    value: object = None
+
+
+LOOSE = ("sequence", "choice", "not", "align", "indent", "position")
+
+
+def text_of(expression, tight=False):
+    """An expression in the notation. Tight: a sequence or choice stands in brackets."""
+    form, _, parts, value = expression
+    if form in ("sequence", "choice"):
+        inner = [text_of(part, form == "sequence" or part.form == "choice") for part in parts]
+        joined = (" " if form == "sequence" else " / ").join(inner)
+        return f"({joined})" if tight else joined
+    if form in ("*", "+", "?"):
+        loose = parts[0].form in (*LOOSE, "*", "+", "?")
+        return (f"({text_of(parts[0])})" if loose else text_of(parts[0])) + form
+    if form in LOOSE:
+        relation = "" if value is None else f" {RELATIONS[value]}"
+        return ("!" if form == "not" else f"{form}{relation} ") + text_of(parts[0], True)
+    if form == "keyword":
+        return f'"{value}"'
+    return value if form == "rule" else form
+
+
+class Rule(NamedTuple):
+    """A rule: its name, where it stands, and the expression that it stands for."""
+
+    name: str
+    place: Place
+    expression: Expression
+
+
+class Parser:
+    """Reads the words of a grammar from front to back and collects its statements."""
 
     def __init__(self, words):
         self.words, self.at = words, 0
-        self.names = [w for (w, _), (after, _) in zip(words, words[1:]) if after == "="]
-        self.keywords, self.rules, self.nodes = [], {}, []
+        self.keywords, self.rules = [], []
         self.start = self.mode = None
-        while self.word():
+        while self.word().text:
             self.statement()
-        if self.start is None or self.mode is None:
-            sys.exit("no start, or no mode")
+        for name, given in (("start", self.start), ("mode", self.mode)):
+            if given is None:
+                form = "start NAME" if name == "start" else "mode RELATION"
+                raise Faults(Fault(self.word().place, f"there is no {name}: a line `{form}` is expected"))
 
     def word(self, ahead=0):
-        """The next word, or one further ahead; empty behind the last."""
-        at = self.at + ahead
-        return self.words[at][0] if at < len(self.words) else ""
+        """The next word, or one further ahead."""
+        return self.words[min(self.at + ahead, len(self.words) - 1)]
 
     def take(self):
         self.at += 1
-        return self.words[self.at - 1][0]
+        return self.words[self.at - 1]
 
     def expected(self, what):
-        """Says what was expected in place of the next word, and ends."""
-        line = self.words[min(self.at, len(self.words) - 1)][1]
-        sys.exit(f"line {line}: {what} expected, not {self.word() or 'the end'}")
+        """Says what was expected in the place of the next word."""
+        return Faults(Fault(self.word().place, f"{what} expected, not {self.word().told()}"))
 
     def ends(self):
-        """Whether the next word begins a statement."""
-        return self.word() in ("", "keywords", "start", "mode") or self.word(1) == "="
+        """Whether the next word begins a statement, or there is none."""
+        return self.word().text in ("", *STATEMENTS) or self.word(1).text == "="
 
     def statement(self):
-        if self.word() == "keywords":
+        word = self.word()
+        if self.word(1).text == "=":
+            self.rule()
+        elif word.text == "keywords":
             self.take()
-            while self.word().startswith('"'):
-                self.keywords.append(self.take()[1:-1])
-        elif self.word() == "start":
-            self.take()
-            self.start = self.rule_number()
-        elif self.word() == "mode":
-            self.take()
-            self.mode = self.relation()
-        elif self.word(1) == "=" and self.word() not in OWN | self.rules.keys():
-            name = self.take()
-            self.take()
-            self.rules[name] = self.choice()
-            if not self.ends():
-                self.expected("keywords, start, mode or a rule")
+            if not self.word().is_keyword():
+                raise self.expected('a keyword in quotes, as "loss",')
+            while self.word().is_keyword():
+                self.keywords.append(self.take())
+        elif word.text in ("start", "mode"):
+            self.setting()
         else:
-            self.expected("keywords, start, mode or a new rule")
+            raise self.expected("keywords, start, mode or a rule `NAME = ..`")
 
-    def rule_number(self):
-        if self.word() not in self.names:
-            self.expected("the name of a rule")
-        return self.names.index(self.take())
+    def setting(self):
+        """`start NAME` or `mode RELATION`, once."""
+        word = self.take()
+        if getattr(self, word.text) is not None:
+            raise Faults(Fault(word.place, f"{word.text} is there twice"))
+        if word.text == "mode":
+            self.mode = self.relation()
+        else:
+            self.start = self.name("the name of the start rule")
+
+    def rule(self):
+        """`NAME = expression`. What follows must begin a statement."""
+        name = self.name("the name of a rule")
+        self.take()
+        self.rules.append(Rule(name.text, name.place, self.choice()))
+        if not self.ends():
+            raise self.expected("/ or the next statement")
+
+    def name(self, what):
+        """The next word as the name of a rule, which is no reserved word."""
+        word = self.word()
+        if word.text in RESERVED:
+            text = f"{what} expected, not {word.told()}; reserved are: {', '.join(RESERVED)}"
+            raise Faults(Fault(word.place, text))
+        if not word.is_name():
+            raise self.expected(what)
+        return self.take()
 
     def relation(self):
-        if self.word() not in RELATIONS:
-            self.expected("a relation")
-        return RELATIONS[self.take()]
+        if self.word().text not in RELATIONS:
+            raise self.expected("a relation (equal, greater, at-least or any)")
+        return RELATIONS.index(self.take().text)
 
-    def node(self, kind, a=0, b=0, relation=0):
-        """The number of a node. One that is there already is used again."""
-        words = (kind, a, b, relation)
-        if words not in self.nodes:
-            self.nodes.append(words)
-        return self.nodes.index(words)
+    def joined(self, form, parts):
+        return parts[0] if len(parts) == 1 else Expression(form, parts[0].place, tuple(parts))
 
     def choice(self):
-        first = self.sequence()
-        if self.word() != "/":
-            return first
-        self.take()
-        return self.node(CHOICE, first, self.choice())
+        parts = [self.sequence()]
+        while self.word().text == "/":
+            self.take()
+            parts.append(self.sequence())
+        return self.joined("choice", parts)
 
     def sequence(self):
-        first = self.prefixed()
-        if self.ends() or self.word() in ("/", ")"):
-            return first
-        return self.node(SEQUENCE, first, self.sequence())
+        parts = [self.prefixed()]
+        while not self.ends() and self.word().text not in ("/", ")"):
+            parts.append(self.prefixed())
+        return self.joined("sequence", parts)
 
     def prefixed(self):
-        if self.word() in ("!", "align"):
-            kind = NOT if self.take() == "!" else ALIGN
-            return self.node(kind, self.prefixed())
-        if self.word() in ("indent", "position"):
-            kind = INDENT if self.take() == "indent" else POSITION
-            relation = self.relation()
-            return self.node(kind, self.prefixed(), relation=relation)
+        """`!`, `align`, `indent` and `position` before an expression."""
+        word = self.word()
+        if word.text not in ("!", "align", "indent", "position"):
+            return self.postfixed()
+        self.take()
+        relation = self.relation() if word.text in ("indent", "position") else None
+        inner = self.prefixed()
+        return Expression("not" if word.text == "!" else word.text, word.place, (inner,), relation)
+
+    def postfixed(self):
+        """`*`, `+` and `?` behind an expression."""
         inner = self.single()
-        while self.word() == "*":
-            self.take()
-            inner = self.node(REPEAT, inner)
+        while self.word().text in ("*", "+", "?"):
+            inner = Expression(self.take().text, inner.place, (inner,))
         return inner
 
     def single(self):
         word = self.word()
-        if word == "(":
-            self.take()
-            inner = self.choice()
-            if self.word() != ")":
-                self.expected("a closing bracket")
-            self.take()
-            return inner
-        if word.startswith('"'):
-            if word[1:-1] not in self.keywords:
-                self.expected("a keyword")
-            return self.node(TERMINAL, FIRST_KEYWORD + self.keywords.index(self.take()[1:-1]))
-        if word in TERMINALS:
-            return self.node(TERMINAL, TERMINALS[self.take()])
-        if word == "empty":
-            self.take()
-            return self.node(EMPTY)
-        return self.node(RULE, self.rule_number())
+        if word.text == "(":
+            return self.bracketed()
+        if word.is_keyword():
+            return Expression("keyword", word.place, value=self.take().text[1:-1])
+        if word.text in (*TERMINALS, *BUILT_IN, "empty"):
+            return Expression(self.take().text, word.place)
+        if word.is_name() and word.text not in RESERVED and not self.ends():
+            return Expression("rule", word.place, value=self.take().text)
+        raise self.expected("an expression")
+
+    def bracketed(self):
+        opening = self.take()
+        inner = self.choice()
+        if self.word().text != ")":
+            raise self.expected(f"/ or the closing bracket of {opening.place}")
+        self.take()
+        return inner
+
+
+# Names
+
+
+def near(name, names):
+    """The name that is most like this one, if there is one."""
+    return next(iter(difflib.get_close_matches(name, names, 1)), None)
+
+
+def unknown_rule(source, name, place):
+    names, spellings = [rule.name for rule in source.rules], {word.text for word in source.keywords}
+    like = near(name, names)
+    if f'"{name}"' in spellings:
+        hint = f'the keyword is written "{name}"'
+    elif like:
+        hint = f"is it {like}? A rule is declared by a line `{name} = ..`"
+    else:
+        hint = f"a rule is declared by a line `{name} = ..`"
+    return Fault(place, f"no rule is named {name}; {hint}")
+
+
+def unknown_keyword(source, spelling, place):
+    spellings = [word.text[1:-1] for word in source.keywords]
+    like = near(spelling, spellings)
+    if source.keywords:
+        hint = f"add it to the keywords of line {source.keywords[0].place.line}"
+    else:
+        hint = f'declare it by a line `keywords "{spelling}"`'
+    if like:
+        hint = f'is it "{like}"? Otherwise {hint}'
+    return Fault(place, f'"{spelling}" is not among the keywords; {hint}')
+
+
+def expressions_of(expression):
+    """An expression and all inside it, from front to back."""
+    yield expression
+    for part in expression.parts:
+        yield from expressions_of(part)
+
+
+def name_faults(source):
+    """Rules and keywords that are not there, and rules that are there twice, from front to back."""
+    first, faults = {}, []
+    for rule in source.rules:
+        if rule.name in first:
+            faults.append(Fault(rule.place, f"rule {rule.name} is there twice; the first is at {first[rule.name]}"))
+        first.setdefault(rule.name, rule.place)
+    if source.start.text not in first:
+        faults.append(unknown_rule(source, source.start.text, source.start.place))
+    spellings = {word.text[1:-1] for word in source.keywords}
+    for inner in (inner for rule in source.rules for inner in expressions_of(rule.expression)):
+        if inner.form == "rule" and inner.value not in first:
+            faults.append(unknown_rule(source, inner.value, inner.place))
+        if inner.form == "keyword" and inner.value not in spellings:
+            faults.append(unknown_keyword(source, inner.value, inner.place))
+    return sorted(faults, key=lambda fault: fault.place)
+
+
+def unused(source):
+    """Rules that the start does not lead to."""
+    uses = {rule.name: {e.value for e in expressions_of(rule.expression) if e.form == "rule"} for rule in source.rules}
+    reached, ahead = set(), [source.start.text]
+    while ahead:
+        name = ahead.pop()
+        if name not in reached:
+            reached.add(name)
+            ahead += uses[name]
+    return [
+        Fault(rule.place, f"warning: rule {rule.name} is not used; the start, {source.start.text}, does not lead to it")
+        for rule in source.rules
+        if rule.name not in reached
+    ]
+
+
+# Nodes
+
+
+class Origin(NamedTuple):
+    """Where a node was first made: in which rule, for which expression, and by which of token, line and end, if by one."""
+
+    rule: str
+    expression: Expression
+    built_in: Optional[str] = None
+
+    @property
+    def place(self):
+        return self.expression.place
+
+
+class Grammar:
+    """The table of a grammar: keywords, nodes, rules and the start. What is spelled the same is one node."""
+
+    def __init__(self, source):
+        self.source = source
+        self.keywords = [word.text[1:-1] for word in source.keywords]
+        self.names = [rule.name for rule in source.rules]
+        self.nodes, self.origins, self.numbers, self.taken = [], [], {}, set()
+        self.rules = {}
+        for rule in source.rules:
+            self.rules[rule.name] = self.number(rule.name, rule.expression)
+        self.start, self.mode = self.rules[source.start.text], source.mode
+
+    def node(self, origin, kind, a=0, b=0, relation=0):
+        """The number of a node. One that is there already is used again."""
+        words = (kind, a, b, relation)
+        if words not in self.numbers:
+            self.numbers[words] = len(self.nodes)
+            self.nodes.append(words)
+            self.origins.append(origin)
+        if origin.built_in:
+            self.taken.add(self.numbers[words])
+        return self.numbers[words]
+
+    def folded(self, kind, numbers, origins):
+        """A sequence or choice of several nodes: the first, and the rest."""
+        number = numbers[-1]
+        for first, origin in zip(numbers[-2::-1], origins[-2::-1]):
+            number = self.node(origin, kind, first, number)
+        return number
+
+    def number(self, rule, expression):
+        """The number of an expression's node. Those inside it have lower ones."""
+        form, _, parts, value = expression
+        origin = Origin(rule, expression)
+        inner = [self.number(rule, part) for part in parts]
+        if form in ("sequence", "choice"):
+            return self.folded(KINDS.index(form), inner, [Origin(rule, part) for part in parts])
+        if form in ("not", "align"):
+            return self.node(origin, KINDS.index(form), inner[0])
+        if form in ("indent", "position"):
+            return self.node(origin, KINDS.index(form), inner[0], relation=value)
+        if form in ("*", "+"):
+            many = self.node(origin, REPEAT, inner[0])
+            return many if form == "*" else self.node(origin, SEQUENCE, inner[0], many)
+        if form == "?":
+            return self.node(origin, CHOICE, inner[0], self.node(origin, EMPTY))
+        return self.leaf(origin, form, value)
+
+    def leaf(self, origin, form, value):
+        if form in BUILT_IN:
+            return getattr(self, form)(origin._replace(built_in=form))
+        if form == "empty":
+            return self.node(origin, EMPTY)
+        if form == "rule":
+            return self.node(origin, RULE, self.names.index(value))
+        terminal = TERMINALS.index(form) if form in TERMINALS else FIRST_KEYWORD + self.keywords.index(value)
+        return self.node(origin, TERMINAL, terminal)
+
+    def no_eol(self, origin):
+        """Any one token but the end of a line: a choice of all other terminals."""
+        terminals = [t for t in range(FIRST_KEYWORD + len(self.keywords)) if t != EOL]
+        numbers = [self.node(origin, TERMINAL, terminal) for terminal in terminals]
+        return self.folded(CHOICE, numbers, [origin] * len(numbers))
+
+    def token(self, origin):
+        """eol / any other token: with n keywords 2n + 5 nodes."""
+        return self.node(origin, CHOICE, self.node(origin, TERMINAL, EOL), self.no_eol(origin))
+
+    def line(self, origin):
+        """The tokens up to the end of the line, and this: all in the mode that holds here."""
+        many = self.node(origin, REPEAT, self.no_eol(origin))
+        return self.node(origin, SEQUENCE, many, self.node(origin, TERMINAL, EOL))
+
+    def end(self, origin):
+        """!(indent any (position any token)): the indent so that a set flag asks for no column."""
+        position = self.node(origin, POSITION, self.token(origin), relation=ANY)
+        return self.node(origin, NOT, self.node(origin, INDENT, position, relation=ANY))
+
+    def bytes(self):
+        """How many bytes the grammar file has."""
+        keywords = sum(3 + len(spelling.encode()) for spelling in self.keywords)
+        return 4 + keywords + sum(5 + len(name.encode()) for name in self.rules) + 9 * len(self.nodes) + 6
+
+    def summary(self):
+        return f"{len(self.nodes)} nodes, {len(self.rules)} rules, {len(self.keywords)} keywords, {self.bytes()} bytes"
+
+
+# Checks: what the reader refuses by 1, 2, 3 and 7. What is built here never gives 4 or 5.
+
+
+def file_faults(grammar):
+    """1: too many keywords, or too long a file."""
+    faults = []
+    if len(grammar.keywords) > MOST_KEYWORDS:
+        place = grammar.source.keywords[MOST_KEYWORDS].place
+        faults.append(Fault(place, f"{len(grammar.keywords)} keywords, and at most {MOST_KEYWORDS} can be", 1))
+    if grammar.bytes() > MOST_BYTES:
+        text = f"the grammar file would have {grammar.bytes()} bytes, and at most {MOST_BYTES} can be"
+        faults.append(Fault(None, text, 1))
+    return faults
+
+
+def spelling_faults(grammar):
+    """2: keywords and names that break their rules."""
+    faults, first = [], {}
+    for word in grammar.source.keywords:
+        spelling = word.text[1:-1]
+        wrong = wrong_spelling(spelling) or wrong_single(spelling)
+        if spelling in first:
+            wrong = f"is there twice; the first is at {first[spelling]}"
+        first.setdefault(spelling, word.place)
+        if wrong:
+            faults.append(Fault(word.place, f'the keyword "{spelling}" {wrong}', 2))
+    for rule in grammar.source.rules:
+        wrong = wrong_spelling(rule.name)
+        if wrong:
+            faults.append(Fault(rule.place, f"the name {rule.name} {wrong}", 2))
+    return faults
+
+
+def wrong_spelling(spelling):
+    """What is wrong with a keyword or a name, if anything is."""
+    encoded = spelling.encode()
+    if not encoded:
+        return "is empty"
+    if len(encoded) > MOST_SPELLING:
+        return f"has {len(encoded)} bytes, and at most {MOST_SPELLING} can be"
+    if any(byte <= 32 or byte == 127 for byte in encoded):
+        return "holds a blank or a control character"
+    return None
+
+
+def wrong_single(spelling):
+    """A keyword that holds one of the nine single bytes beside others. The scanner cuts it there."""
+    parts = re.findall(r"[:,()\[\]=;%]|[^:,()\[\]=;%]+", spelling)
+    single = next((part for part in parts if part in SINGLES), None)
+    if len(parts) < 2 or single is None:
+        return None
+    apart = " ".join(f'"{part}"' for part in parts)
+    return f"holds '{single}', which is a token by itself; write {apart}"
+
+
+def size_faults(grammar):
+    """3: too many nodes or rules."""
+    faults = []
+    if len(grammar.nodes) > MOST_NODES:
+        origin = grammar.origins[MOST_NODES]
+        text = f"rule {origin.rule}: {len(grammar.nodes)} nodes, and at most {MOST_NODES} can be"
+        if grammar.taken:
+            text += f"; token, line and end take {len(grammar.taken)} of them, for {len(grammar.keywords)} keywords"
+        faults.append(Fault(origin.place, text, 3))
+    if len(grammar.rules) > MOST_RULES:
+        place = grammar.source.rules[MOST_RULES].place
+        faults.append(Fault(place, f"{len(grammar.rules)} rules, and at most {MOST_RULES} can be", 3))
+    return faults
+
+
+class Facts:
+    """Ford's three facts of each node, and whether it is well formed: each the least such relation."""
+
+    def __init__(self, nodes, rules):
+        self.nodes, self.rules = nodes, rules
+        count = len(nodes)
+        self.nothing, self.something, self.fails = [False] * count, [False] * count, [False] * count
+        self.well = [False] * count
+        while self.round(self.fact_changes):
+            pass
+        while self.round(self.well_changes):
+            pass
+
+    def round(self, changes):
+        """Goes once over all nodes, and says whether anything was new."""
+        return any([changes(number) for number in range(len(self.nodes))])
+
+    def fact_changes(self, number):
+        facts = (self.nothing, self.something, self.fails)
+        known, new = [fact[number] for fact in facts], self.facts(number)
+        for fact, holds in zip(facts, new):
+            fact[number] = fact[number] or holds
+        return known != [fact[number] for fact in facts]
+
+    def child(self, number):
+        kind, a = self.nodes[number][:2]
+        return self.rules[a] if kind == RULE else a
+
+    def facts(self, number):
+        """May read nothing, may read something, may fail: by what is known so far."""
+        kind, _, b, _ = self.nodes[number]
+        if kind == EMPTY:
+            return True, False, False
+        if kind == TERMINAL:
+            return False, True, True
+        a = self.child(number)
+        nothing, something, fails = self.nothing[a], self.something[a], self.fails[a]
+        succeeds, b_succeeds = nothing or something, self.nothing[b] or self.something[b]
+        if kind == SEQUENCE:
+            both = succeeds and b_succeeds
+            reads = both and (something or self.something[b])
+            return nothing and self.nothing[b], reads, fails or (succeeds and self.fails[b])
+        if kind == CHOICE:
+            second = [fails and fact[b] for fact in (self.nothing, self.something, self.fails)]
+            return nothing or second[0], something or second[1], second[2]
+        if kind == NOT:
+            return fails, False, succeeds
+        return (fails, something, False) if kind == REPEAT else (nothing, something, fails)
+
+    def well_changes(self, number):
+        known = self.well[number]
+        self.well[number] = known or self.is_well(number)
+        return known != self.well[number]
+
+    def is_well(self, number):
+        kind, _, b, _ = self.nodes[number]
+        if kind in (EMPTY, TERMINAL):
+            return True
+        a = self.child(number)
+        if kind == SEQUENCE:
+            return self.well[a] and (self.well[b] or not self.nothing[a])
+        if kind == CHOICE:
+            return self.well[a] and self.well[b]
+        return self.well[a] and not (kind == REPEAT and self.nothing[a])
+
+    def next_bad(self, number):
+        """The node inside a bad one that makes it so; none for a repeat over what may read nothing."""
+        kind, _, b, _ = self.nodes[number]
+        a = self.child(number)
+        if kind == REPEAT and self.nothing[a]:
+            return None
+        return a if not self.well[a] else b
+
+
+def well_formed_faults(grammar):
+    """7: the lowest node that is not well formed, and why it is not."""
+    rules = list(grammar.rules.values())
+    facts = Facts(grammar.nodes, rules)
+    if all(facts.well):
+        return []
+    lowest = facts.well.index(False)
+    path, number = [], lowest
+    while number is not None and number not in path:
+        path.append(number)
+        number = facts.next_bad(number)
+    if number is None:
+        origin = grammar.origins[path[-1]]
+        text = f"rule {origin.rule}: {text_of(origin.expression)} repeats what may succeed without reading a token"
+        return [Fault(origin.place, text, 7, lowest)]
+    cycle = [grammar.nodes[at][1] for at in path[path.index(number) :] if grammar.nodes[at][0] == RULE]
+    first = cycle.index(min(cycle))
+    names = [grammar.names[rule] for rule in cycle[first:] + cycle[:first]]
+    way = " -> ".join(names + names[:1])
+    text = f"rule {names[0]} is left recursive: it comes back to itself before a token is read, {way}"
+    return [Fault(grammar.source.rules[min(cycle)].place, text, 7, lowest)]
+
+
+def refusals(grammar):
+    """What the reader would refuse in a grammar, by the lowest number that applies."""
+    for faults in (file_faults, spelling_faults, size_faults, well_formed_faults):
+        found = faults(grammar)
+        if found:
+            return found
+    return []
+
+
+# Grammar files
 
 
 def pair(number):
@@ -178,18 +684,115 @@ def file_of(grammar):
     fields += [field(2, spelling.encode()) for spelling in grammar.keywords]
     fields += [field(3, pair(node) + name.encode()) for name, node in grammar.rules.items()]
     fields += [field(4, bytes([k]) + pair(a) + pair(b) + bytes([r])) for k, a, b, r in grammar.nodes]
-    start_node = list(grammar.rules.values())[grammar.start]
-    return b"".join([*fields, field(5, pair(start_node) + bytes([grammar.mode]))])
+    return b"".join([*fields, field(5, pair(grammar.start) + bytes([grammar.mode]))])
+
+
+def grammar_of(text):
+    """The grammar of a text in words, not yet checked by the reader's numbers."""
+    sys.setrecursionlimit(max(sys.getrecursionlimit(), DEEPEST))
+    try:
+        source = Parser(words_of(text))
+        faults = name_faults(source)
+        if faults:
+            raise Faults(*faults)
+        return Grammar(source)
+    except RecursionError:
+        raise Faults(Fault(None, "an expression is nested too deep")) from None
+
+
+def built(text):
+    """The grammar of a text in words and its grammar file, if the reader takes it."""
+    grammar = grammar_of(text)
+    faults = refusals(grammar)
+    if faults:
+        raise Faults(*faults)
+    return grammar, file_of(grammar)
+
+
+# Command
+
+
+def spelled(grammar, words):
+    """A node in a few words."""
+    kind, a, b, relation = words
+    if kind == TERMINAL:
+        return TERMINALS[a] if a < FIRST_KEYWORD else f'"{grammar.keywords[a - FIRST_KEYWORD]}"'
+    if kind == RULE:
+        return grammar.names[a]
+    if kind in (INDENT, POSITION):
+        return f"{RELATIONS[relation]} {a}"
+    return {EMPTY: "", SEQUENCE: f"{a} {b}", CHOICE: f"{a} / {b}", NOT: f"!{a}", REPEAT: f"{a}*", ALIGN: f"{a}"}[kind]
+
+
+def node_lines(grammar):
+    """A line for each node, then one for each rule."""
+    width = max(len(name) for name in grammar.rules)
+    yield f"node  kind       a     b     relation  {'rule':{width}}  place    in words"
+    for number, (words, origin) in enumerate(zip(grammar.nodes, grammar.origins)):
+        kind, a, b, relation = words
+        by = f"  (of {origin.built_in})" if origin.built_in else ""
+        table = f"{number:<5} {KINDS[kind]:9}  {a:<5} {b:<5} {relation:<8}"
+        yield f"{table}  {origin.rule:{width}}  {str(origin.place):7}  {spelled(grammar, words)}{by}"
+    for number, (name, node) in enumerate(grammar.rules.items()):
+        yield f"rule {number}, {name}, is node {node}"
+
+
+def version():
+    """The version, which stands in the header of the C interface."""
+    header = Path(__file__).resolve().parent.parent / "include" / "saktroum.h"
+    found = re.search(r'^#define SAKTROUM_VERSION "(.*)"$', header.read_text(encoding="utf-8"), re.MULTILINE)
+    return found[1] if found else "unknown"
+
+
+def options():
+    parser = argparse.ArgumentParser(
+        usage="build.py GRAMMAR FILE | --nodes GRAMMAR | --version | --help",
+        description=__doc__,
+        formatter_class=argparse.RawDescriptionHelpFormatter,
+        add_help=False,
+    )
+    parser.add_argument("grammar", metavar="GRAMMAR", nargs="?")
+    parser.add_argument("file", metavar="FILE", nargs="?")
+    parser.add_argument("--nodes", action="store_true")
+    parser.add_argument("--version", action="store_true")
+    parser.add_argument("--help", action="store_true")
+    given = parser.parse_args()
+    if not (given.version or given.help) and (given.grammar is None or (given.file is None) != given.nodes):
+        parser.error("GRAMMAR and FILE are expected, or --nodes and GRAMMAR")
+    return given
+
+
+def build(given):
+    """Lists the nodes, or builds the file."""
+    text = Path(given.grammar).read_text(encoding="utf-8-sig")
+    grammar = grammar_of(text)
+    for warning in unused(grammar.source):
+        print(warning.line(given.grammar), file=sys.stderr)
+    if given.nodes:
+        print("\n".join(node_lines(grammar)))
+    faults = refusals(grammar)
+    if faults:
+        raise Faults(*faults)
+    if not given.nodes:
+        Path(given.file).write_bytes(file_of(grammar))
+        print(f"{given.file}: {grammar.summary()}")
 
 
 def main():
-    if len(sys.argv) != 3:
-        sys.exit("usage: build.py GRAMMAR FILE")
-    with open(sys.argv[1], encoding="utf-8") as source:
-        text = source.read()
-    built = file_of(Grammar(words_of(text)))
-    with open(sys.argv[2], "wb") as out:
-        out.write(built)
+    given = options()
+    try:
+        if given.help:
+            print(__doc__.strip())
+        elif given.version:
+            print(f"saktroum {version()}")
+        else:
+            build(given)
+    except Faults as wrong:
+        sys.exit("\n".join(fault.line(given.grammar) for fault in wrong.faults))
+    except UnicodeDecodeError as wrong:
+        sys.exit(f"{given.grammar}: no UTF-8 text: {wrong.reason} at byte {wrong.start}")
+    except OSError as wrong:
+        sys.exit(f"{wrong.filename or 'standard output'}: {wrong.strerror}")
 
 
 if __name__ == "__main__":

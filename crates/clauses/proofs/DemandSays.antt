@@ -36,7 +36,8 @@ abbrev pub end : State Interval
 end = (2, to 0 (At 1), false)
 
 answer : runAnswer nodes [] words (from 4 atLeast) ≡ given (success end)
-unfolding nodes words eachWords runAnswer form evaluate outcomeFor fails11 fails12 every fails3 fails4 fails5 rightWords tableAnswer gives knownAfter passes wellAfter mayNothing isWell verdictFrom checkAnswer
+unfolding nodes words eachWords runAnswer form evaluate outcomeFor fails11 fails12 every fails3 fails4 fails5
+    rightWords tableAnswer gives knownAfter passes wellAfter mayNothing isWell verdictFrom checkAnswer
 answer = refl
 
 pub data Says : Outcome ColumnSet → Type 1 where

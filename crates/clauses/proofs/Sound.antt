@@ -12,7 +12,10 @@ use Rattle.table.proofs.Every.{and-left, and-right}
 use Rattle.columns.specs.Intervals.{ends, innerEnds, fits, afterToken}
 use Rattle.columns.proofs.EndLaws.{lies-true}
 use Rattle.columns.specs.declared.Interval.{Interval}
-use Rattle.clauses.specs.Clauses.{Tokens, Next, State, Outcome, success, failure, Fits, clear, aligned, Run, empty, terminal-clear, terminal-aligned, terminal-fails, rule, sequence, sequence-fails, choice-first, choice-second, not, not-fails, repeat-ends, repeat-again, indent, indent-fails, position, align, align-fails}
+use Rattle.clauses.specs.Clauses.{Tokens, Next, State, Outcome, success, failure, Fits, clear, aligned, Run}
+use Rattle.clauses.specs.Clauses.{empty, terminal-clear, terminal-aligned, terminal-fails, rule, sequence}
+use Rattle.clauses.specs.Clauses.{sequence-fails, choice-first, choice-second, not, not-fails, repeat-ends}
+use Rattle.clauses.specs.Clauses.{repeat-again, indent, indent-fails, position, align, align-fails}
 use Rattle.clauses.specs.Evaluation.{Result, ended, unfinished, after, reads, step, evaluate}
 
 never : {o : Outcome Interval} → unfinished ≡ ended o → ⊥
@@ -26,12 +29,21 @@ module _ (nodes rules : List ℕ) (tokens : Tokens) where
   is : {τ : ℕ} {f : Form} {s : State Interval} {o : Outcome Interval} → Run ends nodes rules tokens τ f s o → Derived τ f s (ended o)
   is {τ} {f} {s} {o} d = record { run-of = λ p e. let q : o ≡ p = cc in subst (λ (v : Outcome Interval). Run ends nodes rules tokens τ f s v) q d }
 
-  made : {τ τ' : ℕ} {f g : Form} {s t : State Interval} {r : Result} → ((o : Outcome Interval) → Run ends nodes rules tokens τ f s o → Run ends nodes rules tokens τ' g t o) → Derived τ f s r → Derived τ' g t r
+  made :
+      {τ τ' : ℕ} {f g : Form} {s t : State Interval} {r : Result}
+      → ((o : Outcome Interval) → Run ends nodes rules tokens τ f s o → Run ends nodes rules tokens τ' g t o)
+      → Derived τ f s r
+      → Derived τ' g t r
   made k d = record { run-of = λ o e. k o (d .run-of o e) }
 
   -- After a first run.
-  after-derived : {τ τ' : ℕ} {f g : Form} {s t : State Interval} (r : Result) (next : State Interval → Result) (otherwise : Result) → Derived τ f s r
-      → ((s' : State Interval) → Run ends nodes rules tokens τ f s (success s') → Derived τ' g t (next s')) → (Run ends nodes rules tokens τ f s failure → Derived τ' g t otherwise) → Derived τ' g t (after r next otherwise)
+  after-derived :
+      {τ τ' : ℕ} {f g : Form} {s t : State Interval} (r : Result) (next : State Interval → Result)
+      (otherwise : Result)
+      → Derived τ f s r
+      → ((s' : State Interval) → Run ends nodes rules tokens τ f s (success s') → Derived τ' g t (next s'))
+      → (Run ends nodes rules tokens τ f s failure → Derived τ' g t otherwise)
+      → Derived τ' g t (after r next otherwise)
   after-derived (ended (success s')) next otherwise d k l = k s' (d .run-of (success s') refl)
   after-derived (ended failure) next otherwise d k l = l (d .run-of failure refl)
   after-derived unfinished next otherwise d k l = record { run-of = λ o e. absurd (never e) }
@@ -45,7 +57,11 @@ module _ (nodes rules : List ℕ) (tokens : Tokens) where
   fits-true {τ} {i} {I = I} (clear m) = lies-true i (innerEnds τ I) .1 m
   fits-true {τ} {i} {I = I} (aligned m) = lies-true i I .1 m
 
-  read : {τ a i w : ℕ} {I : Interval} {b : Bool} → Next tokens a i w → Fits ends τ i I b → Run ends nodes rules tokens τ (table.terminal a) (w, I, b) (success (w + 1, afterToken b τ I i, false))
+  read :
+      {τ a i w : ℕ} {I : Interval} {b : Bool}
+      → Next tokens a i w
+      → Fits ends τ i I b
+      → Run ends nodes rules tokens τ (table.terminal a) (w, I, b) (success (w + 1, afterToken b τ I i, false))
   read n (clear m) = terminal-clear n m
   read n (aligned m) = terminal-aligned n m
 
@@ -56,7 +72,12 @@ module _ (nodes rules : List ℕ) (tokens : Tokens) where
       let y = eqb (tokens .terminal w) a in
       let z = fits b τ I (tokens .column w) in
       let p = and-left (x && y) z e in
-      read (record { there = ltb-true w (tokens .count) (and-left x y p); terminal = eqb-true (tokens .terminal w) a (and-right x y p); column = refl }) (fitting b I (and-right (x && y) z e))
+      read
+      (record {
+        there = ltb-true w (tokens .count) (and-left x y p);
+        terminal = eqb-true (tokens .terminal w) a (and-right x y p);
+        column = refl;
+      }) (fitting b I (and-right (x && y) z e))
 
   pub terminal-unread : (τ a w : ℕ) (I : Interval) (b : Bool) → reads tokens τ a (w, I, b) ≡ false → Run ends nodes rules tokens τ (table.terminal a) (w, I, b) failure
   terminal-unread τ a w I b e = terminal-fails not-read
@@ -91,5 +112,8 @@ module _ (nodes rules : List ℕ) (tokens : Tokens) where
   evaluate-derived (suc depth) τ f s = step-derived (λ τ' f' s'. evaluate nodes rules tokens depth τ' f' s') (λ τ' f' s'. evaluate-derived depth τ' f' s') τ f s
 
   -- The theorem.
-  pub evaluate-sound : (depth τ : ℕ) (f : Form) (s : State Interval) (o : Outcome Interval) → evaluate nodes rules tokens depth τ f s ≡ ended o → Run ends nodes rules tokens τ f s o
+  pub evaluate-sound :
+      (depth τ : ℕ) (f : Form) (s : State Interval) (o : Outcome Interval)
+      → evaluate nodes rules tokens depth τ f s ≡ ended o
+      → Run ends nodes rules tokens τ f s o
   evaluate-sound depth τ f s o e = evaluate-derived depth τ f s .run-of o e

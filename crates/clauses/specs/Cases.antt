@@ -51,7 +51,10 @@ abbrev pub fails : Answer (Outcome Interval)
 fails = given failure
 
 pub data Case : Type 0 where
-  run : (nodes : List Form) (rules : List ℕ) (tokens : List TokenAt) (start : Start) (expected : Answer (Outcome Interval)) → Case
+  run :
+      (nodes : List Form) (rules : List ℕ) (tokens : List TokenAt) (start : Start)
+      (expected : Answer (Outcome Interval))
+      → Case
   check : (nodes : List Form) (rules : List ℕ) (expected : Answer Unit) → Case
 
 -- What a run, or a check, answers.
@@ -64,7 +67,8 @@ expected (run nodes rules tokens start answer) = ran answer
 expected (check nodes rules answer) = checked answer
 
 unfoldable pub answered : Case → Answered
-answered (run nodes rules tokens start answer) = ran (runAnswer (eachWords fourWords nodes) rules (eachWords tokenWords tokens) start)
+answered (run nodes rules tokens start answer) =
+    ran (runAnswer (eachWords fourWords nodes) rules (eachWords tokenWords tokens) start)
 answered (check nodes rules answer) = checked (checkAnswer (eachWords fourWords nodes) rules)
 
 -- "Start interval 0 without end and flag clear unless said": node, mode.
@@ -88,26 +92,33 @@ c = 3
 unfoldable pub benchCases : List Case
 benchCases =
     -- a. |ab|^> in mode ≥ on a²b³ (001's own example).
-    run (terminal a ∷ terminal b ∷ sequence 0 1 ∷ align 2 ∷ indent 3 greater ∷ []) [] (a at 2 ∷ b at 3 ∷ []) (from 4 atLeast) (reads 2 0 (At 1) false)
+    run (terminal a ∷ terminal b ∷ sequence 0 1 ∷ align 2 ∷ indent 3 greater ∷ []) [] (a at 2 ∷ b at 3 ∷ [])
+    (from 4 atLeast) (reads 2 0 (At 1) false)
     -- b. a in mode > on a⁵ and on a⁰.
     ∷ run (terminal a ∷ []) [] (a at 5 ∷ []) (from 0 greater) (reads 1 0 (At 4) false)
     ∷ run (terminal a ∷ []) [] (a at 0 ∷ []) (from 0 greater) fails
     -- c. a in mode ≥ on a⁰.
     ∷ run (terminal a ∷ []) [] (a at 0 ∷ []) (from 0 atLeast) (reads 1 0 (At 0) false)
     -- d. a in mode > with the flag set, on a⁵.
-    ∷ run (terminal a ∷ []) [] (a at 5 ∷ []) (record { node = 0; place = 0; interval = to 0 Endless; flag = true; mode = greater }) (reads 1 5 (At 5) false)
+    ∷ run (terminal a ∷ []) [] (a at 5 ∷ [])
+    (record { node = 0; place = 0; interval = to 0 Endless; flag = true; mode = greater }) (reads 1 5 (At 5) false)
     -- e. a and ε on no tokens.
     ∷ run (terminal a ∷ []) [] [] (from 0 equal) fails
     ∷ run (empty ∷ []) [] [] (from 0 equal) (reads 0 0 Endless false)
     -- f. a(b^> / ε) in mode equal on a¹b² and on a³b².
-    ∷ run (terminal a ∷ terminal b ∷ indent 1 greater ∷ empty ∷ choice 2 3 ∷ sequence 0 4 ∷ []) [] (a at 1 ∷ b at 2 ∷ []) (from 5 equal) (reads 2 1 (At 1) false)
-    ∷ run (terminal a ∷ terminal b ∷ indent 1 greater ∷ empty ∷ choice 2 3 ∷ sequence 0 4 ∷ []) [] (a at 3 ∷ b at 2 ∷ []) (from 5 equal) (reads 1 3 (At 3) false)
+    ∷ run (terminal a ∷ terminal b ∷ indent 1 greater ∷ empty ∷ choice 2 3 ∷ sequence 0 4 ∷ []) []
+    (a at 1 ∷ b at 2 ∷ []) (from 5 equal) (reads 2 1 (At 1) false)
+    ∷ run (terminal a ∷ terminal b ∷ indent 1 greater ∷ empty ∷ choice 2 3 ∷ sequence 0 4 ∷ []) []
+    (a at 3 ∷ b at 2 ∷ []) (from 5 equal) (reads 1 3 (At 3) false)
     -- g. ab^any in mode equal on a³b⁰.
-    ∷ run (terminal a ∷ terminal b ∷ indent 1 any ∷ sequence 0 2 ∷ []) [] (a at 3 ∷ b at 0 ∷ []) (from 3 equal) (reads 2 3 (At 3) false)
+    ∷ run (terminal a ∷ terminal b ∷ indent 1 any ∷ sequence 0 2 ∷ []) [] (a at 3 ∷ b at 0 ∷ [])
+    (from 3 equal) (reads 2 3 (At 3) false)
     -- h. |ε|a in mode > on a⁵.
-    ∷ run (empty ∷ align 0 ∷ terminal a ∷ sequence 1 2 ∷ []) [] (a at 5 ∷ []) (from 3 greater) (reads 1 0 (At 4) false)
+    ∷ run (empty ∷ align 0 ∷ terminal a ∷ sequence 1 2 ∷ []) [] (a at 5 ∷ [])
+    (from 3 greater) (reads 1 0 (At 4) false)
     -- i. |a^>| in mode equal from 1 to 1 on a⁴.
-    ∷ run (terminal a ∷ indent 0 greater ∷ align 1 ∷ []) [] (a at 4 ∷ []) (record { node = 2; place = 0; interval = to 1 (At 1); flag = false; mode = equal }) (reads 1 1 (At 1) false)
+    ∷ run (terminal a ∷ indent 0 greater ∷ align 1 ∷ []) [] (a at 4 ∷ [])
+    (record { node = 2; place = 0; interval = to 1 (At 1); flag = false; mode = equal }) (reads 1 1 (At 1) false)
     -- j. The checks of ε*, of (!ε)* and of X = (a / ε)X.
     ∷ check (empty ∷ repeat 0 ∷ []) [] (refusedAt 7 1)
     ∷ check (empty ∷ not 0 ∷ repeat 1 ∷ []) [] (given tt)
@@ -118,18 +129,24 @@ benchCases =
 unfoldable pub slipCases : List Case
 slipCases =
     -- "Leaving the flag set ..": then b too would have to stand on the baseline.
-    run (empty ∷ align 0 ∷ terminal b ∷ sequence 1 2 ∷ terminal a ∷ sequence 4 3 ∷ []) [] (a at 2 ∷ b at 5 ∷ []) (from 5 atLeast) (reads 2 0 (At 2) false)
+    run (empty ∷ align 0 ∷ terminal b ∷ sequence 1 2 ∷ terminal a ∷ sequence 4 3 ∷ []) [] (a at 2 ∷ b at 5 ∷ [])
+    (from 5 atLeast) (reads 2 0 (At 2) false)
     -- "Ignoring indentation under a set flag ..": then a would have to stand at 1.
-    ∷ run (terminal a ∷ indent 0 greater ∷ align 1 ∷ []) [] (a at 1 ∷ []) (record { node = 2; place = 0; interval = to 1 (At 1); flag = false; mode = equal }) fails
+    ∷ run (terminal a ∷ indent 0 greater ∷ align 1 ∷ []) [] (a at 1 ∷ [])
+    (record { node = 2; place = 0; interval = to 1 (At 1); flag = false; mode = equal }) fails
     -- "Trying the second alternative ..": a at 5 then c, in mode equal, or a in mode greater. From 5 to 5 the second would
     -- fail.
-    ∷ run (terminal a ∷ terminal c ∷ sequence 0 1 ∷ position 2 equal ∷ choice 3 0 ∷ []) [] (a at 5 ∷ []) (from 4 greater) (reads 1 0 (At 4) false)
+    ∷ run (terminal a ∷ terminal c ∷ sequence 0 1 ∷ position 2 equal ∷ choice 3 0 ∷ []) [] (a at 5 ∷ [])
+    (from 4 greater) (reads 1 0 (At 4) false)
     -- "Capping the lower end ..": from 65,535 on, a under greater still matches (a reader that refused to pass 65,535 would
     -- fail), and an aligned a under greater is asked for past 65,535 (a reader that stopped there would read it).
-    ∷ run (terminal a ∷ indent 0 greater ∷ []) [] (a at 7 ∷ []) (record { node = 1; place = 0; interval = to 65535 Endless; flag = false; mode = any }) (reads 1 65535 Endless false)
-    ∷ run (terminal a ∷ align 0 ∷ indent 1 greater ∷ []) [] (a at 65535 ∷ []) (record { node = 2; place = 0; interval = to 65535 Endless; flag = false; mode = any }) fails
+    ∷ run (terminal a ∷ indent 0 greater ∷ []) [] (a at 7 ∷ [])
+    (record { node = 1; place = 0; interval = to 65535 Endless; flag = false; mode = any }) (reads 1 65535 Endless false)
+    ∷ run (terminal a ∷ align 0 ∷ indent 1 greater ∷ []) [] (a at 65535 ∷ [])
+    (record { node = 2; place = 0; interval = to 65535 Endless; flag = false; mode = any }) fails
     -- "Not and failure hand the old state on": not of a b in mode equal, then a in mode greater.
-    ∷ run (terminal b ∷ position 0 equal ∷ not 1 ∷ terminal a ∷ sequence 2 3 ∷ []) [] (a at 5 ∷ []) (from 4 greater) (reads 1 0 (At 4) false)
+    ∷ run (terminal b ∷ position 0 equal ∷ not 1 ∷ terminal a ∷ sequence 2 3 ∷ []) [] (a at 5 ∷ [])
+    (from 4 greater) (reads 1 0 (At 4) false)
     -- "else the repeat again from where the child ended": three tokens.
     ∷ run (terminal a ∷ repeat 0 ∷ []) [] (a at 0 ∷ a at 1 ∷ a at 2 ∷ []) (from 1 atLeast) (reads 3 0 (At 0) false)
     ∷ []

@@ -1,6 +1,6 @@
--- The meaning of a grammar: the ten clauses of 001, section 2.1, over any column domain. Above each constructor stands its
--- clause as a rule in 001's notation: its number, premises ⟹ conclusion. In e, τ ⊢ (w, I, b) → o an expression e is the form
--- of a node, w is a place in the token list, and relations ρ, σ, τ are numbers.
+-- The meaning of a grammar: the ten clauses of 001, section 2.1, over any column domain. Above each constructor stands
+-- its clause as a rule in 001's notation: its number, premises ⟹ conclusion. In e, τ ⊢ (w, I, b) → o an expression e is
+-- the form of a node, w is a place in the token list, and relations ρ, σ, τ are numbers.
 use Prim.Native.Nat.{ℕ, _+_, _<_}
 use mathlib.Core.Path.{_≡_}
 use mathlib.Core.Bool.{Bool, true, false, _&&_}
@@ -49,32 +49,70 @@ module _ {ℓ κ} (D : Domain {ℓ, κ}) (nodes rules : List ℕ) (tokens : Toke
     terminal-fails : {τ a w : ℕ} {I : D .Columns} {b : Bool} → ((i : ℕ) → Next tokens a i w → Fits D τ i I b → ⊥)
         → Run τ (table.terminal a) (w, I, b) failure
     -- (3) δ(X), τ ⊢ s → o ⟹ X, τ ⊢ s → o
-    rule : {τ x : ℕ} {s : State (D .Columns)} {o : Outcome (D .Columns)} → Run τ (form nodes (standsFor rules x)) s o → Run τ (table.rule x) s o
+    rule :
+        {τ x : ℕ} {s : State (D .Columns)} {o : Outcome (D .Columns)}
+        → Run τ (form nodes (standsFor rules x)) s o
+        → Run τ (table.rule x) s o
     -- (4) p, τ ⊢ s → ⊤(s'), q, τ ⊢ s' → o ⟹ pq, τ ⊢ s → o
-    sequence : {τ p q : ℕ} {s s' : State (D .Columns)} {o : Outcome (D .Columns)} → Run τ (form nodes p) s (success s') → Run τ (form nodes q) s' o → Run τ (table.sequence p q) s o
+    sequence :
+        {τ p q : ℕ} {s s' : State (D .Columns)} {o : Outcome (D .Columns)}
+        → Run τ (form nodes p) s (success s')
+        → Run τ (form nodes q) s' o
+        → Run τ (table.sequence p q) s o
     -- (4) p, τ ⊢ s → ⊥ ⟹ pq, τ ⊢ s → ⊥
-    sequence-fails : {τ p q : ℕ} {s : State (D .Columns)} → Run τ (form nodes p) s failure → Run τ (table.sequence p q) s failure
+    sequence-fails :
+        {τ p q : ℕ} {s : State (D .Columns)}
+        → Run τ (form nodes p) s failure
+        → Run τ (table.sequence p q) s failure
     -- (5) p, τ ⊢ s → ⊤(s') ⟹ p/q, τ ⊢ s → ⊤(s')
-    choice-first : {τ p q : ℕ} {s s' : State (D .Columns)} → Run τ (form nodes p) s (success s') → Run τ (table.choice p q) s (success s')
+    choice-first :
+        {τ p q : ℕ} {s s' : State (D .Columns)}
+        → Run τ (form nodes p) s (success s')
+        → Run τ (table.choice p q) s (success s')
     -- (5) p, τ ⊢ s → ⊥, q, τ ⊢ s → o ⟹ p/q, τ ⊢ s → o
-    choice-second : {τ p q : ℕ} {s : State (D .Columns)} {o : Outcome (D .Columns)} → Run τ (form nodes p) s failure → Run τ (form nodes q) s o → Run τ (table.choice p q) s o
+    choice-second :
+        {τ p q : ℕ} {s : State (D .Columns)} {o : Outcome (D .Columns)}
+        → Run τ (form nodes p) s failure
+        → Run τ (form nodes q) s o
+        → Run τ (table.choice p q) s o
     -- (6) p, τ ⊢ s → ⊥ ⟹ !p, τ ⊢ s → ⊤(s)
     not : {τ p : ℕ} {s : State (D .Columns)} → Run τ (form nodes p) s failure → Run τ (table.not p) s (success s)
     -- (6) p, τ ⊢ s → ⊤(s') ⟹ !p, τ ⊢ s → ⊥
-    not-fails : {τ p : ℕ} {s s' : State (D .Columns)} → Run τ (form nodes p) s (success s') → Run τ (table.not p) s failure
+    not-fails :
+        {τ p : ℕ} {s s' : State (D .Columns)}
+        → Run τ (form nodes p) s (success s')
+        → Run τ (table.not p) s failure
     -- (7) p, τ ⊢ s → ⊥ ⟹ p*, τ ⊢ s → ⊤(s)
-    repeat-ends : {τ p : ℕ} {s : State (D .Columns)} → Run τ (form nodes p) s failure → Run τ (table.repeat p) s (success s)
+    repeat-ends :
+        {τ p : ℕ} {s : State (D .Columns)}
+        → Run τ (form nodes p) s failure
+        → Run τ (table.repeat p) s (success s)
     -- (7) p, τ ⊢ s → ⊤(s'), p*, τ ⊢ s' → o ⟹ p*, τ ⊢ s → o
-    repeat-again : {τ p : ℕ} {s s' : State (D .Columns)} {o : Outcome (D .Columns)} → Run τ (form nodes p) s (success s') → Run τ (table.repeat p) s' o → Run τ (table.repeat p) s o
+    repeat-again :
+        {τ p : ℕ} {s s' : State (D .Columns)} {o : Outcome (D .Columns)}
+        → Run τ (form nodes p) s (success s')
+        → Run τ (table.repeat p) s' o
+        → Run τ (table.repeat p) s o
     -- (8) p, τ ⊢ (w, ρ⁻¹(I), b) → ⊤(w', I', b') ⟹ p^ρ, τ ⊢ (w, I, b) → ⊤(w', I ∩ ρ(I'), b')
-    indent : {τ p ρ w w' : ℕ} {I I' : D .Columns} {b b' : Bool} → Run τ (form nodes p) (w, D .inner ρ I, b) (success (w', I', b'))
+    indent :
+        {τ p ρ w w' : ℕ} {I I' : D .Columns} {b b' : Bool}
+        → Run τ (form nodes p) (w, D .inner ρ I, b) (success (w', I', b'))
         → Run τ (table.indent p ρ) (w, I, b) (success (w', D .meet I (D .outer ρ I'), b'))
     -- (8) p, τ ⊢ (w, ρ⁻¹(I), b) → ⊥ ⟹ p^ρ, τ ⊢ (w, I, b) → ⊥
-    indent-fails : {τ p ρ w : ℕ} {I : D .Columns} {b : Bool} → Run τ (form nodes p) (w, D .inner ρ I, b) failure → Run τ (table.indent p ρ) (w, I, b) failure
+    indent-fails :
+        {τ p ρ w : ℕ} {I : D .Columns} {b : Bool}
+        → Run τ (form nodes p) (w, D .inner ρ I, b) failure
+        → Run τ (table.indent p ρ) (w, I, b) failure
     -- (9) p, σ ⊢ s → o ⟹ p_σ, τ ⊢ s → o
-    position : {τ p σ : ℕ} {s : State (D .Columns)} {o : Outcome (D .Columns)} → Run σ (form nodes p) s o → Run τ (table.position p σ) s o
+    position :
+        {τ p σ : ℕ} {s : State (D .Columns)} {o : Outcome (D .Columns)}
+        → Run σ (form nodes p) s o
+        → Run τ (table.position p σ) s o
     -- (10) p, τ ⊢ (w, I, tt) → ⊤(w', I', b') ⟹ |p|, τ ⊢ (w, I, b) → ⊤(w', I', b ∧ b')
     align : {τ p w w' : ℕ} {I I' : D .Columns} {b b' : Bool} → Run τ (form nodes p) (w, I, true) (success (w', I', b'))
         → Run τ (table.align p) (w, I, b) (success (w', I', b && b'))
     -- (10) p, τ ⊢ (w, I, tt) → ⊥ ⟹ |p|, τ ⊢ (w, I, b) → ⊥
-    align-fails : {τ p w : ℕ} {I : D .Columns} {b : Bool} → Run τ (form nodes p) (w, I, true) failure → Run τ (table.align p) (w, I, b) failure
+    align-fails :
+        {τ p w : ℕ} {I : D .Columns} {b : Bool}
+        → Run τ (form nodes p) (w, I, true) failure
+        → Run τ (table.align p) (w, I, b) failure

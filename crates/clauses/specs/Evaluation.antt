@@ -5,7 +5,8 @@ use Prim.Native.Nat.{ℕ, zero, suc, _+_, _*_}
 use mathlib.Core.Bool.{Bool, true, false, cond, _&&_}
 use mathlib.Core.List.{List}
 use lib.Dec.{ltb, eqb}
-use Rattle.table.specs.Form.{Form, empty, terminal, rule, sequence, choice, not, repeat, indent, position, align, other, form, standsFor, nodeCount}
+use Rattle.table.specs.Form.{Form, empty, terminal, rule, sequence, choice, not, repeat, indent, position}
+use Rattle.table.specs.Form.{align, other, form, standsFor, nodeCount}
 use Rattle.columns.specs.Intervals.{innerEnds, outerEnds, meetEnds, fits, afterToken}
 use Rattle.columns.specs.declared.Interval.{Interval}
 use Rattle.clauses.specs.Clauses.{Tokens, State, Outcome, success, failure}
@@ -23,7 +24,10 @@ after unfinished next otherwise = unfinished
 
 -- Whether clause 2 reads the token at place w as terminal a.
 abbrev pub reads : Tokens → ℕ → ℕ → State Interval → Bool
-reads tokens τ a s = ltb (s .0) (tokens .count) && eqb (tokens .terminal (s .0)) a && fits (s .2) τ (s .1) (tokens .column (s .0))
+reads tokens τ a s =
+    ltb (s .0) (tokens .count)
+    && eqb (tokens .terminal (s .0)) a
+    && fits (s .2) τ (s .1) (tokens .column (s .0))
 
 -- The outcome in a result. One that met the bound may be anything, as no grammar that passes the check meets it
 -- (`outcome-derived`, in `Existence`); failure is the value that needs no state.
@@ -35,16 +39,21 @@ module _ (nodes rules : List ℕ) (tokens : Tokens) where
   -- The clauses, in their order, by a function for what they call.
   abbrev pub step : (ℕ → Form → State Interval → Result) → ℕ → Form → State Interval → Result
   step run τ empty s = ended (success s)
-  step run τ (terminal a) s = cond (reads tokens τ a s) (ended (success (s .0 + 1, afterToken (s .2) τ (s .1) (tokens .column (s .0)), false))) (ended failure)
+  step run τ (terminal a) s =
+      cond (reads tokens τ a s)
+      (ended (success (s .0 + 1, afterToken (s .2) τ (s .1) (tokens .column (s .0)), false))) (ended failure)
   step run τ (rule x) s = run τ (form nodes (standsFor rules x)) s
   step run τ (sequence p q) s = after (run τ (form nodes p) s) (λ s'. run τ (form nodes q) s') (ended failure)
   step run τ (choice p q) s = after (run τ (form nodes p) s) (λ s'. ended (success s')) (run τ (form nodes q) s)
   step run τ (not p) s = after (run τ (form nodes p) s) (λ s'. ended failure) (ended (success s))
   step run τ (repeat p) s = after (run τ (form nodes p) s) (λ s'. run τ (repeat p) s') (ended (success s))
   step run τ (indent p ρ) s =
-      after (run τ (form nodes p) (s .0, innerEnds ρ (s .1), s .2)) (λ s'. ended (success (s' .0, meetEnds (s .1) (outerEnds ρ (s' .1)), s' .2))) (ended failure)
+      after (run τ (form nodes p) (s .0, innerEnds ρ (s .1), s .2))
+      (λ s'. ended (success (s' .0, meetEnds (s .1) (outerEnds ρ (s' .1)), s' .2))) (ended failure)
   step run τ (position p σ) s = run σ (form nodes p) s
-  step run τ (align p) s = after (run τ (form nodes p) (s .0, s .1, true)) (λ s'. ended (success (s' .0, s' .1, s .2 && s' .2))) (ended failure)
+  step run τ (align p) s =
+      after (run τ (form nodes p) (s .0, s .1, true)) (λ s'. ended (success (s' .0, s' .1, s .2 && s' .2)))
+      (ended failure)
   step run τ other s = unfinished
 
   -- With calls at most so deep.

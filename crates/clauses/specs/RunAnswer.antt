@@ -17,7 +17,8 @@ use Rattle.clauses.specs.Evaluation.{outcomeFor}
 -- interval".
 abbrev pub SetRun : List ℕ → List ℕ → List ℕ → Start → Outcome ColumnSet → Type 1
 SetRun nodes rules words start o =
-    Run sets nodes rules (tokensOf words) (start .mode) (form nodes (start .node)) (start .place, (λ k. Lies k (start .interval)), start .flag) o
+    Run sets nodes rules (tokensOf words) (start .mode) (form nodes (start .node))
+    (start .place, (λ k. Lies k (start .interval)), start .flag) o
 
 -- A run of the clauses over two ends.
 abbrev pub EndsRun : List ℕ → List ℕ → List ℕ → Start → Outcome Interval → Type 0
@@ -26,7 +27,9 @@ EndsRun nodes rules words start o =
 
 -- The outcome over two ends, computed.
 abbrev pub ourOutcome : List ℕ → List ℕ → List ℕ → Start → Outcome Interval
-ourOutcome nodes rules words start = outcomeFor nodes rules (tokensOf words) (start .mode) (start .node) (start .place, start .interval, start .flag)
+ourOutcome nodes rules words start =
+    outcomeFor nodes rules (tokensOf words) (start .mode) (start .node)
+    (start .place, start .interval, start .flag)
 
 -- "the interpreter 3, 4, 5, 7, 11, 12": 3, 4, 5 and 7, then 11, then 12, then the outcome.
 unfoldable pub runAnswer : List ℕ → List ℕ → List ℕ → Start → Answer (Outcome Interval)

@@ -16,7 +16,10 @@ use Rattle.file_fields.specs.Offsets.{lengthAt, valueAt, nextAt, fieldAt
 use Rattle.table.proofs.Orders.{le-or-lt}
 
 -- The first field asks the rest only about a shorter list.
-first-same : (bytes : List ℕ) (f g : List ℕ → Option (List Field)) → ((rest : List ℕ) → length rest < length bytes → f rest ≡ g rest) → firstField bytes f ≡ firstField bytes g
+first-same :
+    (bytes : List ℕ) (f g : List ℕ → Option (List Field))
+    → ((rest : List ℕ) → length rest < length bytes → f rest ≡ g rest)
+    → firstField bytes f ≡ firstField bytes g
 unfolding firstField
 first-same [] f g h = refl
 first-same (t ∷ []) f g h = refl
@@ -70,15 +73,21 @@ module _ (file : List ℕ) (at : ℕ) where
   unfolding firstField
   cut-head h k =
       ⊎-elim
-      (λ a. ap fields (from-one file at h ∙ ap (λ (l : List ℕ). getD file at 0 ∷ l) (drop-of-length-le file a)) ∙ fields-first (getD file at 0) [])
       (λ a.
-      let b : length file ≤ at + 2 = omega arith in
-      ap fields (from-two file at a ∙ ap (λ (l : List ℕ). getD file at 0 ∷ getD file (at + 1) 0 ∷ l) (drop-of-length-le file b)) ∙ fields-first (getD file at 0) (getD file (at + 1) 0 ∷ []))
-      (le-or-lt (length file) (at + 1))
+      ap fields (from-one file at h ∙ ap (λ (l : List ℕ). getD file at 0 ∷ l) (drop-of-length-le file a))
+      ∙ fields-first (getD file at 0) [])
+      (λ a.
+      let b : length file ≤ at + 2 = omega arith in ap fields
+      (from-two file at a
+      ∙ ap (λ (l : List ℕ). getD file at 0 ∷ getD file (at + 1) 0 ∷ l) (drop-of-length-le file b))
+      ∙ fields-first (getD file at 0) (getD file (at + 1) 0 ∷ [])) (le-or-lt (length file) (at + 1))
 
   -- Three bytes or more: the head, and then the test on what is left.
-  whole-head : at + 2 < length file
-      → fields (drop at file) ≡ cond (leb (lengthAt file at) (length (drop (at + 3) file))) (before (fieldAt file at) (fields (drop (lengthAt file at) (drop (at + 3) file)))) none
+  whole-head :
+      at + 2 < length file
+      → fields (drop at file)
+      ≡ cond (leb (lengthAt file at) (length (drop (at + 3) file)))
+      (before (fieldAt file at) (fields (drop (lengthAt file at) (drop (at + 3) file)))) none
   unfolding firstField valueAt
   whole-head h = ap fields (from-three file at h) ∙ fields-first (getD file at 0) (getD file (at + 1) 0 ∷ getD file (at + 2) 0 ∷ drop (at + 3) file)
 

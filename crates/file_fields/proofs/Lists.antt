@@ -20,7 +20,12 @@ pub length-written : {A : Type 0} (p old : List A) (n : ℕ) → length p ≡ n 
 length-written p old n e h = simp (length-append, length-drop) (omega arith)
 
 -- One element more is written behind the first n, which makes m.
-pub write-next : {A : Type 0} (p old : List A) (n m : ℕ) (v d : A) → length p ≡ n → n < length old → m ≡ n + 1 → set (p ++ drop n old) n v ≡ (p ++ (v ∷ [])) ++ drop m old
+pub write-next :
+    {A : Type 0} (p old : List A) (n m : ℕ) (v d : A)
+    → length p ≡ n
+    → n < length old
+    → m ≡ n + 1
+    → set (p ++ drop n old) n v ≡ (p ++ (v ∷ [])) ++ drop m old
 write-next p old n m v d e h k =
     ap (λ (l : List _). set (p ++ l) n v) (drop-cons old n d h)
     ∙ set-at p (getD old n d) (drop (suc n) old) v n e

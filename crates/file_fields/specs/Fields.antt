@@ -61,10 +61,10 @@ tagged t (f ∷ fs) = cond (eqb (f .tag) t) (f ∷ tagged t fs) (tagged t fs)
 -- a node "kind (one byte), a (two), b (two), relation (one)", tag 5 "start node (two bytes), start mode (one)". No
 -- other tag is known.
 unfoldable pub rightLength : ℕ → ℕ → Bool
-rightLength zero n = false
-rightLength (suc zero) n = eqb n 1
-rightLength (suc (suc zero)) n = true
-rightLength (suc (suc (suc zero))) n = leb 2 n
-rightLength (suc (suc (suc (suc zero)))) n = eqb n 6
-rightLength (suc (suc (suc (suc (suc zero))))) n = eqb n 3
-rightLength (suc (suc (suc (suc (suc (suc t)))))) n = false
+rightLength zero n = false  -- 0, no tag
+rightLength (suc zero) n = eqb n 1  -- 1
+rightLength (suc (suc zero)) n = true  -- 2 a keyword
+rightLength (suc (suc (suc zero))) n = leb 2 n  -- 3 a rule
+rightLength (suc (suc (suc (suc zero)))) n = eqb n 6  -- 4 a node
+rightLength (suc (suc (suc (suc (suc zero))))) n = eqb n 3  -- 5 the start
+rightLength (suc (suc (suc (suc (suc (suc t)))))) n = false  -- over 5, no tag

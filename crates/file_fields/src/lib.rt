@@ -5,6 +5,8 @@ ghost use lib.ListN.{length, getD, drop};
 ghost use Rattle.file_fields.specs.Fields.{rightLength};
 ghost use Rattle.file_fields.specs.Offsets.{lengthAt, valueAt, nextAt, offsetOf, rightAt};
 
+pub mod tags;
+
 // The value of the field at an offset, as a part of the file; what is cut short ends with the file.
 pub fn value_at(file: &[u8], at: usize) -> &[u8]
     ensures { λ r. ⌜ now r ≡ valueAt (now (file .entry)) at ⌝ }
@@ -69,11 +71,11 @@ fn right_length(tag: u8, n: usize) -> bool
     ensures { λ r. ⌜ r ≡ rightLength tag n ⌝ }
 {
     match tag {
-        1 => n == 1,
-        2 => true,
-        3 => n >= 2,
-        4 => n == 6,
-        5 => n == 3,
+        tags::FORMAT => n == 1,
+        tags::KEYWORD => true,
+        tags::RULE => n >= 2,
+        tags::NODE => n == 6,
+        tags::START => n == 3,
         _ => false,
     }
 }

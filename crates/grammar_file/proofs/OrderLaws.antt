@@ -84,7 +84,10 @@ module _ (file : List ℕ) (at t : ℕ) (h : rightAt file at t ≡ true) where
 
   pub whole : at + 3 + lengthAt file at ≤ length file
   unfolding rightAt
-  whole = leb-true (at + 3 + lengthAt file at) (length file) (and-left (leb (at + 3 + lengthAt file at) (length file)) (eqb (getD file at 0) t && rightLength t (lengthAt file at)) h)
+  whole =
+      leb-true (at + 3 + lengthAt file at) (length file)
+      (and-left (leb (at + 3 + lengthAt file at) (length file))
+      (eqb (getD file at 0) t && rightLength t (lengthAt file at)) h)
 
   pub its-tag : getD file at 0 ≡ t
   its-tag = eqb-true (getD file at 0) t (and-left (eqb (getD file at 0) t) (rightLength t (lengthAt file at)) rest)
@@ -98,18 +101,34 @@ unfolding valueAt
 length-value file at h = length-take-le (lengthAt file at) (drop (at + 3) file) (rw length-drop (omega arith))
 
 -- A whole field's value is right exactly if its length is, but for tag 1.
-value-right : (file : List ℕ) (at t : ℕ) → at + 3 + lengthAt file at ≤ length file → getD file at 0 ≡ t → (t ≡ 1 → ⊥) → rightValue (fieldAt file at) ≡ rightLength t (lengthAt file at)
+value-right :
+    (file : List ℕ) (at t : ℕ)
+    → at + 3 + lengthAt file at ≤ length file
+    → getD file at 0 ≡ t
+    → (t ≡ 1 → ⊥)
+    → rightValue (fieldAt file at) ≡ rightLength t (lengthAt file at)
 unfolding rightValue
 value-right file at t h e k = rw (e, length-value file at h, ne-eqb t 1 k) (and-true _)
 
 -- One more right field of tag 2, 3 or 4 at an offset.
-pub good-step : (file : List ℕ) (at t : ℕ) → 2 ≤ t → t ≤ 4 → rightAt file at t ≡ true → good t (fields (drop at file)) ≡ good t (fields (drop (nextAt file at) file))
+pub good-step :
+    (file : List ℕ) (at t : ℕ)
+    → 2 ≤ t
+    → t ≤ 4
+    → rightAt file at t ≡ true
+    → good t (fields (drop at file)) ≡ good t (fields (drop (nextAt file at) file))
 good-step file at t a b h =
     ap (good t) (fields-whole file at (whole file at t h))
     ∙ good-before t b (fieldAt file at) (its-tag file at t h) (value-right file at t (whole file at t h) (its-tag file at t h) (omega arith) ∙ its-length file at t h) _
 
 -- A whole field that is no right one of a tag, though it has the tag, has a wrong value.
-wrong-value : (file : List ℕ) (at t : ℕ) → 2 ≤ t → at + 3 + lengthAt file at ≤ length file → rightAt file at t ≡ false → getD file at 0 ≡ t → rightValue (fieldAt file at) ≡ false
+wrong-value :
+    (file : List ℕ) (at t : ℕ)
+    → 2 ≤ t
+    → at + 3 + lengthAt file at ≤ length file
+    → rightAt file at t ≡ false
+    → getD file at 0 ≡ t
+    → rightValue (fieldAt file at) ≡ false
 unfolding rightAt
 wrong-value file at t a w h e = value-right file at t w e (omega arith) ∙ (rw (le-leb _ _ w, eq-eqb _ _ e) at h)
 
@@ -149,9 +168,18 @@ module _ (file : List ℕ) (at : ℕ) where
     unfolding right-five rightAt good laterTags rightValues
     five-ends e =
         let none-left : drop (nextAt file at) file ≡ [] = drop-of-length-le file (le-of-eq (sym e)) in
-        ap (good 5) (fields-whole file at w ∙ ap (λ (l : List ℕ). before (fieldAt file at) (fields l)) none-left ∙ ap (before (fieldAt file at)) fields-none)
+        ap (good 5)
+        (fields-whole file at w
+        ∙ ap (λ (l : List ℕ). before (fieldAt file at) (fields l)) none-left
+        ∙ ap (before (fieldAt file at)) fields-none)
         ∙ ⊎-elim
-        (λ p. rw (eq-eqb (getD file at 0) 5 p, eq-eqb (nextAt file at) (length file) e, le-leb (at + 3 + lengthAt file at) (length file) w) (ap (λ (b : Bool). b && true) (value-right file at 5 w p (omega arith))))
+        (λ p.
+        rw (
+          eq-eqb (getD file at 0) 5 p,
+          eq-eqb (nextAt file at) (length file) e,
+          le-leb (at + 3 + lengthAt file at) (length file) w,
+        )
+        (ap (λ (b : Bool). b && true) (value-right file at 5 w p (omega arith))))
         (λ p. rw (ne-eqb (getD file at 0) 5 p, le-leb (at + 3 + lengthAt file at) (length file) w) refl)
         (same-or-not (getD file at 0) 5)
 
@@ -162,10 +190,14 @@ module _ (file : List ℕ) (at : ℕ) where
         let next = nextAt file at in
         ap (good 5) (fields-whole file at w)
         ∙ ⊎-elim
-        (λ v. ap (λ (o : Option (List Field)). good 5 (before (fieldAt file at) o)) (fields-whole file next v) ∙ good-more (fieldAt file at) (fieldAt file next) (fields (drop (nextAt file next) file)))
+        (λ v.
+        ap (λ (o : Option (List Field)). good 5 (before (fieldAt file at) o)) (fields-whole file next v)
+        ∙ good-more (fieldAt file at) (fieldAt file next) (fields (drop (nextAt file next) file)))
         (λ c. ap (λ (o : Option (List Field)). good 5 (before (fieldAt file at) o)) (fields-cut file next h c))
         (le-or-lt (next + 3 + lengthAt file next) (length file))
-        ∙ sym (ap (λ (b : Bool). rightAt file at 5 && b) (ne-eqb next (length file) (omega arith)) ∙ and-false (rightAt file at 5))
+        ∙ sym
+        (ap (λ (b : Bool). rightAt file at 5 && b) (ne-eqb next (length file) (omega arith))
+        ∙ and-false (rightAt file at 5))
 
 -- The fields from an offset on are a last field alone.
 pub good-last : (file : List ℕ) (at : ℕ) → good 5 (fields (drop at file)) ≡ (rightAt file at 5 && eqb (nextAt file at) (length file))

@@ -17,7 +17,10 @@ use Rattle.table.specs.Form.{nodeCount}
 use Rattle.table.specs.Checks.{tableAnswer, fails3, fails4, fails5}
 use Rattle.file_fields.specs.Fields.{fields, inOrder, Field, twoBytes}
 use Rattle.spellings.specs.Spellings.{singleAlone, rightSpellings}
-use Rattle.grammar_file.specs.File.{mostBytes, mostKeywords, rightValues, unreadable, fails1, Contents, keywords, ruleNames, ruleNode, ruleList, wordsOf, nodeTable, startValue, startNode, startMode, fieldsOf, fails2, fails5ByFile, contents, fileAnswer, numbers}
+use Rattle.grammar_file.specs.File.{mostBytes, mostKeywords, rightValues, unreadable, fails1, Contents}
+use Rattle.grammar_file.specs.File.{keywords, ruleNames, ruleNode, ruleList, wordsOf, nodeTable, startValue}
+use Rattle.grammar_file.specs.File.{startNode, startMode, fieldsOf, fails2, fails5ByFile, contents}
+use Rattle.grammar_file.specs.File.{fileAnswer, numbers}
 use Rattle.file_fields.specs.Offsets.{keywordsFrom, valueAt, fieldsFrom, spellingsFrom}
 use Rattle.grammar_file.specs.InternalShape.{Parts}
 use Rattle.grammar_file.specs.declared.shape.Shape.{Shape}
@@ -62,7 +65,10 @@ module _ (file : List ℕ) (s : Shape) (p : Parts file s) where
   unfolding fails2
   names-by x y z =
       rw (x, y, z)
-      (ap₂ (λ (ks ns : List (List ℕ)). not (rightSpellings ks && every (length ks) (λ k. singleAlone (getD ks k [])) && rightSpellings ns)) (sym keywords-are) (sym names-are))
+      (ap₂
+      (λ (ks ns : List (List ℕ)).
+      not (rightSpellings ks && every (length ks) (λ k. singleAlone (getD ks k [])) && rightSpellings ns))
+      (sym keywords-are) (sym names-are))
 
   -- The counts, and the start read from its value.
   pub counted : {v : List ℕ} {a m : ℕ} → v ≡ valueAt file (s .start) → a ≡ twoBytes (getD v 0 0) (getD v 1 0) → m ≡ getD v 2 0
@@ -83,8 +89,12 @@ few-keywords (some fs) e = ltb-false mostKeywords (length (keywords fs)) (both-f
 -- Its keywords, by offset.
 pub keywords-stand : (file : List ℕ) (s : Shape) → Parts file s → (keywords (fieldsOf file) ≡ keywordsFrom file (s .keywords)) × (s .keywords ≤ mostKeywords)
 unfolding fails1 keywordsFrom spellingsFrom
-keywords-stand file s p =
-    (keywords-are file s p, le-trans (le-of-eq (sym (keyword-count file s p))) (few-keywords (fields file) (both-false (ltb mostBytes (length file)) (unreadable (fields file)) (p .passes) .1)))
+keywords-stand file s p = (
+  keywords-are file s p,
+  le-trans (le-of-eq (sym (keyword-count file s p)))
+      (few-keywords (fields file)
+      (both-false (ltb mostBytes (length file)) (unreadable (fields file)) (p .passes) .1)),
+)
 
 -- Numbers 3, 4 and 5 of a table, and number 5 with two tests more.
 tests-refuse : (f3 f4 f5 a b : Bool) (n : ℕ) (next : Answer Contents) → _≡_ {A = Answer Unit} (refuseIf f3 3 (refuseIf f4 4 (refuseIf f5 5 (given tt)))) (refused n)
@@ -127,12 +137,18 @@ module _ (file : List ℕ) (s : Shape) (p : Parts file s) where
         ≡ tableAnswer (wordsOf (fieldsFrom file (s .nodes .at) (s .nodes .count))) (map ruleNode (fieldsFrom file (s .rules .at) (s .rules .count)))
     same-table = ap₂ tableAnswer (nodes-are file s p) (rules-are file s p)
 
-    pub by-table : {n : ℕ} → refused n ≡ tableAnswer (wordsOf (fieldsFrom file (s .nodes .at) (s .nodes .count))) (map ruleNode (fieldsFrom file (s .rules .at) (s .rules .count)))
+    pub by-table :
+        {n : ℕ}
+        → refused n
+        ≡ tableAnswer (wordsOf (fieldsFrom file (s .nodes .at) (s .nodes .count)))
+        (map ruleNode (fieldsFrom file (s .rules .at) (s .rules .count)))
         → fileAnswer file ≡ refused n
     unfolding fileAnswer fails5ByFile tableAnswer T R
     by-table {n} t =
         rw (p .passes, e)
-        (tests-refuse (fails3 T R) (fails4 T R) (fails5 T R) (not (ltb (startNode (fieldsOf file)) (nodeCount T))) (not (ltb (startMode (fieldsOf file)) relationCount)) n (given (contents (fieldsOf file))) (same-table ∙ sym t))
+        (tests-refuse (fails3 T R) (fails4 T R) (fails5 T R) (not (ltb (startNode (fieldsOf file)) (nodeCount T)))
+        (not (ltb (startMode (fieldsOf file)) relationCount)) n (given (contents (fieldsOf file)))
+        (same-table ∙ sym t))
 
     pub by-start : given tt ≡ tableAnswer (wordsOf (fieldsFrom file (s .nodes .at) (s .nodes .count))) (map ruleNode (fieldsFrom file (s .rules .at) (s .rules .count)))
         → (a b : Bool) → ltb (startNode (fieldsOf file)) (nodeCount (nodeTable (fieldsOf file))) ≡ a → ltb (startMode (fieldsOf file)) relationCount ≡ b
@@ -140,5 +156,7 @@ module _ (file : List ℕ) (s : Shape) (p : Parts file s) where
     unfolding fileAnswer fails5ByFile tableAnswer T R
     by-start t a b x y =
         rw (p .passes, e)
-        (tests-pass (fails3 T R) (fails4 T R) (fails5 T R) (not (ltb (startNode (fieldsOf file)) (nodeCount T))) (not (ltb (startMode (fieldsOf file)) relationCount)) (given (contents (fieldsOf file))) (same-table ∙ sym t)
+        (tests-pass (fails3 T R) (fails4 T R) (fails5 T R) (not (ltb (startNode (fieldsOf file)) (nodeCount T)))
+        (not (ltb (startMode (fieldsOf file)) relationCount)) (given (contents (fieldsOf file)))
+        (same-table ∙ sym t)
         ∙ ap₂ (λ (c d : Bool). refuseIf (not c || not d) 5 (given (contents (fieldsOf file)))) x y)

@@ -10,7 +10,9 @@ use native.Mathlib.Omega.{arith}
 use borrow.Author.Tests.{le-ltb, lt-ltb}
 use Rattle.table.specs.Answer.{Answer, given, refused, refuseIf, afterwards}
 use Rattle.table.proofs.AnswerLaws.{first-refuses, first-passes}
-use Rattle.grammar_file.specs.File.{Contents, keywords, ruleNames, ruleNode, ruleList, wordsOf, nodeTable, fieldsOf, fails6, contents, fileAnswer, readAnswer, partOf, keywordBytes, nameBytes}
+use Rattle.grammar_file.specs.File.{Contents, keywords, ruleNames, ruleNode, ruleList, wordsOf, nodeTable}
+use Rattle.grammar_file.specs.File.{fieldsOf, fails6, contents, fileAnswer, readAnswer, partOf, keywordBytes}
+use Rattle.grammar_file.specs.File.{nameBytes}
 use Rattle.file_fields.specs.Offsets.{valueAt, offsetOf, fieldsFrom}
 use Rattle.grammar_file.specs.InternalShape.{Parts, Inspects}
 use Rattle.grammar_file.specs.declared.shape.Shape.{Shape}
@@ -90,14 +92,20 @@ module _ (file : List ℕ) {r : Inspected} (i : Inspects file r) where
     pub short-nodes : (n m : ℕ) → n / 4 < s .nodes .count → refused 6 ≡ readAnswer file n m
     unfolding readAnswer fails6
     short-nodes n m h =
-        ap (λ (b : Bool). refuseIf (b || ltb m (length (ruleList (fieldsOf file)))) 6 (given (contents (fieldsOf file)))) (sym (lt-ltb n (length (nodeTable (fieldsOf file))) (omega (arith, table-length))))
+        ap
+        (λ (b : Bool).
+        refuseIf (b || ltb m (length (ruleList (fieldsOf file)))) 6 (given (contents (fieldsOf file))))
+        (sym (lt-ltb n (length (nodeTable (fieldsOf file))) (omega (arith, table-length))))
         ∙ first-passes _ passes
 
     pub short-rules : (n m : ℕ) → m < s .rules .count → refused 6 ≡ readAnswer file n m
     unfolding readAnswer fails6
     short-rules n m h =
         ap (λ (b : Bool). refuseIf b 6 (given (contents (fieldsOf file))))
-        (sym (ap (λ (b : Bool). ltb n (length (nodeTable (fieldsOf file))) || b) (lt-ltb m (length (ruleList (fieldsOf file))) (omega (arith, rule-count file s parts))) ∙ or-true (ltb n (length (nodeTable (fieldsOf file))))))
+        (sym
+        (ap (λ (b : Bool). ltb n (length (nodeTable (fieldsOf file))) || b)
+        (lt-ltb m (length (ruleList (fieldsOf file))) (omega (arith, rule-count file s parts)))
+        ∙ or-true (ltb n (length (nodeTable (fieldsOf file))))))
         ∙ first-passes _ passes
 
     pub enough : (n m : ℕ) → s .nodes .count ≤ n / 4 → s .rules .count ≤ m → given (contents (fieldsOf file)) ≡ readAnswer file n m

@@ -82,7 +82,12 @@ module _ (file : List ℕ) (at t : ℕ) where
       tagged-append t (fieldsFrom file at k) (fieldAt file here ∷ [])
       ∙ ap₂ _++_ (tagged-run k (λ i a. h i (omega arith))) (tagged-one t (fieldAt file here) (its-tag file here t (h k (omega arith))))
 
-  pub tagged-none : (u : ℕ) → (t ≡ u → ⊥) → (k : ℕ) → ((i : ℕ) → i < k → rightAt file (offsetOf file at i) t ≡ true) → tagged u (fieldsFrom file at k) ≡ []
+  pub tagged-none :
+      (u : ℕ)
+      → (t ≡ u → ⊥)
+      → (k : ℕ)
+      → ((i : ℕ) → i < k → rightAt file (offsetOf file at i) t ≡ true)
+      → tagged u (fieldsFrom file at k) ≡ []
   unfolding fieldsFrom tagged
   tagged-none u d zero h = refl
   tagged-none u d (suc k) h =
@@ -195,7 +200,12 @@ run-parts file at t r l =
     ∙ ap (λ (e : ℕ). prepend (fieldsFrom file at (r .count)) (fields (drop e file))) (sym (l .ends))
 
 -- From one tag's run to the next tag.
-run-next : (file : List ℕ) (at t : ℕ) (r : Run) → 2 ≤ t → t ≤ 4 → LongestRun file at t r → good t (fields (drop at file)) ≡ good (t + 1) (fields (drop (r .end) file))
+run-next :
+    (file : List ℕ) (at t : ℕ) (r : Run)
+    → 2 ≤ t
+    → t ≤ 4
+    → LongestRun file at t r
+    → good t (fields (drop at file)) ≡ good (t + 1) (fields (drop (r .end) file))
 run-next file at t r a b l =
     run-good file at t a b (r .count) (l .each)
     ∙ ap (λ (e : ℕ). good t (fields (drop e file))) (sym (l .ends))
@@ -250,7 +260,9 @@ module _ (file : List ℕ) (k r n : Run) (K : LongestRun file 4 2 k) (R : Longes
 
     last-alone : fields (drop (n .end) file) ≡ some (fieldAt file (n .end) ∷ [])
     last-alone =
-        let e : nextAt file (n .end) ≡ length file = eqb-true (nextAt file (n .end)) (length file) (and-right (rightAt file (n .end) 5) (eqb (nextAt file (n .end)) (length file)) ended) in
+        let e : nextAt file (n .end) ≡ length file =
+        eqb-true (nextAt file (n .end)) (length file)
+        (and-right (rightAt file (n .end) 5) (eqb (nextAt file (n .end)) (length file)) ended) in
         fields-whole file (n .end) (whole file (n .end) 5 last-right)
         ∙ ap (λ (l : List ℕ). before (fieldAt file (n .end)) (fields l)) (drop-of-length-le file (le-of-eq (sym e)))
         ∙ ap (before (fieldAt file (n .end))) fields-none
@@ -267,8 +279,13 @@ module _ (file : List ℕ) (k r n : Run) (K : LongestRun file 4 2 k) (R : Longes
         ∙ ap (prepend (fieldsFrom file (k .end) (r .count))) (run-parts file (r .end) 4 n N
         ∙ ap (prepend (fieldsFrom file (r .end) (n .count))) last-alone)))
 
-    tagged-runs : (u : ℕ) → (1 ≡ u → ⊥)
-        → tagged u (fieldsOf file) ≡ tagged u (fieldsFrom file 4 (k .count)) ++ (tagged u (fieldsFrom file (k .end) (r .count)) ++ (tagged u (fieldsFrom file (r .end) (n .count)) ++ tagged u (fieldAt file (n .end) ∷ [])))
+    tagged-runs :
+        (u : ℕ)
+        → (1 ≡ u → ⊥)
+        → tagged u (fieldsOf file)
+        ≡ tagged u (fieldsFrom file 4 (k .count))
+        ++ (tagged u (fieldsFrom file (k .end) (r .count))
+        ++ (tagged u (fieldsFrom file (r .end) (n .count)) ++ tagged u (fieldAt file (n .end) ∷ [])))
     unfolding runs
     tagged-runs u d =
         ap (λ (o : Option (List Field)). tagged u (Option·getD o [])) parsed

@@ -5,7 +5,8 @@ mod tables;
 ghost use mathlib.Core.Path.{_≡_};
 ghost use lib.ListN.{length};
 ghost use Rattle.table.specs.Answer.{given, afterwards};
-ghost use Rattle.grammar_file.specs.File.{numbers, contents, fieldsOf, fails2, fileAnswer, KeywordsStand, readAnswer, nodeTable, ruleList, keywordBytes, nameBytes};
+ghost use Rattle.grammar_file.specs.File.{numbers, contents, fieldsOf, fails2, fileAnswer, KeywordsStand};
+ghost use Rattle.grammar_file.specs.File.{readAnswer, nodeTable, ruleList, keywordBytes, nameBytes};
 ghost use Rattle.grammar_file.specs.InternalShape.{Parts, Inspects};
 use file_fields::byte_in;
 use file_fields::offset_of;
@@ -16,6 +17,7 @@ use shape::shape_of;
 use spellings::right_spellings;
 use spellings::singles_alone;
 use table::Checked;
+use table::refusals;
 use tables::check_tables;
 use tables::number_in;
 use tables::write_nodes;
@@ -45,9 +47,17 @@ pub const FIRST_KEYWORD: usize = 4;
 
 // Writes the table and the rule list of a file that passes 1 to 6, and answers its counts and its start.
 pub fn read(file: &[u8], nodes: &mut [u16], rules: &mut [u16]) -> FileRead
-    ensures { λ r. ⌜ numbers r ≡ readAnswer (now (file .entry)) (length (now (nodes .entry))) (length (now (rules .entry))) ⌝ }
-    ensures { λ r. ⌜ now (nodes .exit) ≡ afterwards (numbers r) (nodeTable (fieldsOf (now (file .entry)))) (now (nodes .entry)) ⌝ }
-    ensures { λ r. ⌜ now (rules .exit) ≡ afterwards (numbers r) (ruleList (fieldsOf (now (file .entry)))) (now (rules .entry)) ⌝ }
+    ensures { λ r. ⌜
+        numbers r ≡ readAnswer (now (file .entry)) (length (now (nodes .entry))) (length (now (rules .entry)))
+        ⌝ }
+    ensures { λ r. ⌜
+        now (nodes .exit)
+        ≡ afterwards (numbers r) (nodeTable (fieldsOf (now (file .entry)))) (now (nodes .entry))
+        ⌝ }
+    ensures { λ r. ⌜
+        now (rules .exit)
+        ≡ afterwards (numbers r) (ruleList (fieldsOf (now (file .entry)))) (now (rules .entry))
+        ⌝ }
 {
     let found = inspect(file);
     match found {
@@ -58,10 +68,10 @@ pub fn read(file: &[u8], nodes: &mut [u16], rules: &mut [u16]) -> FileRead
             let node_count = node_group.count;
             let rule_count = rule_group.count;
             if nodes.len() / 4 < node_count {
-                return FileRead::Refused(6);
+                return FileRead::Refused(refusals::ROOM);
             }
             if rules.len() < rule_count {
-                return FileRead::Refused(6);
+                return FileRead::Refused(refusals::ROOM);
             }
             write_nodes(file, node_group.at, node_count, nodes);
             write_rules(file, rule_group.at, rule_count, rules);
@@ -123,10 +133,10 @@ fn inspect(file: &[u8]) -> Inspected
 {
     let s = shape_of(file);
     if !s.right {
-        return Inspected::Refused(1);
+        return Inspected::Refused(refusals::FIELDS);
     }
     if names_wrong(file, s) {
-        return Inspected::Refused(2);
+        return Inspected::Refused(refusals::SPELLING);
     }
     let nodes = s.nodes;
     let rules = s.rules;
@@ -139,10 +149,10 @@ fn inspect(file: &[u8]) -> Inspected
     }
     let value = value_at(file, s.start);
     if number_in(value, 0) as usize >= nodes.count {
-        return Inspected::Refused(5);
+        return Inspected::Refused(refusals::RULE);
     }
     if byte_in(value, 2) >= table::RELATIONS {
-        return Inspected::Refused(5);
+        return Inspected::Refused(refusals::RULE);
     }
     Inspected::Whole(s)
 }

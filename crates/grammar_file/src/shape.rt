@@ -3,6 +3,7 @@ ghost use mathlib.Core.Path.{_≡_};
 ghost use Rattle.grammar_file.specs.InternalShape.{LongestRun, framedBy, Shaped};
 use file_fields::next_at;
 use file_fields::right_at;
+use file_fields::tags;
 
 // How many fields of one tag stand in a row, and where they end.
 pub(crate) struct Run {
@@ -47,9 +48,9 @@ fn run_of(file: &[u8], at: usize, tag: u8) -> Run
 pub(crate) fn shape_of(file: &[u8]) -> Shape
     ensures { λ r. ⌜ Shaped (now (file .entry)) r ⌝ }
 {
-    let keywords = run_of(file, 4, 2);
-    let rules = run_of(file, keywords.end, 3);
-    let nodes = run_of(file, rules.end, 4);
+    let keywords = run_of(file, 4, tags::KEYWORD);
+    let rules = run_of(file, keywords.end, tags::RULE);
+    let nodes = run_of(file, rules.end, tags::NODE);
     let start = nodes.end;
     Shape {
         right: framed(file, start) && keywords.count <= KEYWORDS,
@@ -73,13 +74,13 @@ fn framed(file: &[u8], start: usize) -> bool
     if file.len() > BYTES {
         return false;
     }
-    if !right_at(file, 0, 1) {
+    if !right_at(file, 0, tags::FORMAT) {
         return false;
     }
     if file[3] != 1 {
         return false;
     }
-    if !right_at(file, start, 5) {
+    if !right_at(file, start, tags::START) {
         return false;
     }
     next_at(file, start) == file.len()

@@ -12,6 +12,7 @@ use file_fields::byte_in;
 use file_fields::next_at;
 use file_fields::value_at;
 use table::Checked;
+use table::refusals;
 
 // The two-byte number at an index of a value, high byte first.
 pub(crate) fn number_in(value: &[u8], i: usize) -> u16
@@ -26,7 +27,10 @@ pub(crate) fn number_in(value: &[u8], i: usize) -> u16
 // Writes the words of count node fields from an offset on.
 pub(crate) fn write_nodes(file: &[u8], first: usize, count: usize, out: &mut [u16])
     requires { ⌜ count * 4 ≤ length (now out) ⌝ }
-    ensures { λ _. ⌜ now (out .exit) ≡ wordsOf (fieldsFrom (now (file .entry)) first count) ++ drop (count * 4) (now (out .entry)) ⌝ }
+    ensures { λ _. ⌜
+        now (out .exit)
+        ≡ wordsOf (fieldsFrom (now (file .entry)) first count) ++ drop (count * 4) (now (out .entry))
+        ⌝ }
 {
     let mut at = first;
     let mut i = 0;
@@ -45,7 +49,10 @@ pub(crate) fn write_nodes(file: &[u8], first: usize, count: usize, out: &mut [u1
 // Writes the nodes of count rule fields from an offset on.
 pub(crate) fn write_rules(file: &[u8], first: usize, count: usize, out: &mut [u16])
     requires { ⌜ count ≤ length (now out) ⌝ }
-    ensures { λ _. ⌜ now (out .exit) ≡ map ruleNode (fieldsFrom (now (file .entry)) first count) ++ drop count (now (out .entry)) ⌝ }
+    ensures { λ _. ⌜
+        now (out .exit)
+        ≡ map ruleNode (fieldsFrom (now (file .entry)) first count) ++ drop count (now (out .entry))
+        ⌝ }
 {
     let mut at = first;
     let mut i = 0;
@@ -64,13 +71,17 @@ pub(crate) fn check_tables(
     rules_at: usize,
     rule_count: usize,
 ) -> Checked
-    ensures { λ r. ⌜ checkedNumbers r ≡ tableAnswer (wordsOf (fieldsFrom (now (file .entry)) «nodes_at» «node_count»)) (map ruleNode (fieldsFrom (now (file .entry)) «rules_at» «rule_count»)) ⌝ }
+    ensures { λ r. ⌜
+        checkedNumbers r
+        ≡ tableAnswer (wordsOf (fieldsFrom (now (file .entry)) «nodes_at» «node_count»))
+        (map ruleNode (fieldsFrom (now (file .entry)) «rules_at» «rule_count»))
+        ⌝ }
 {
     if node_count > table::NODES {
-        return Checked::Refused(3);
+        return Checked::Refused(refusals::COUNTS);
     }
     if rule_count > table::RULES {
-        return Checked::Refused(3);
+        return Checked::Refused(refusals::COUNTS);
     }
     let mut nodes = [0u16; 2048];
     let mut rules = [0u16; 128];

@@ -77,7 +77,11 @@ module _ (words : List ℕ) (τ a : ℕ) (s : State) (whole : length words % 4 �
     token-other h = rw (lt-ltb (s .place) (length words / 4) (omega arith), ne-eqb (getD words (s .place * 4) 0) a h) refl
 
     module _ (same : getD words (s .place * 4) 0 ≡ a) (b : Bool) (e : b ≡ fits (s .flag) τ (s .interval) (getD words (s .place * 4 + 1) 0)) where
-      pub token-fits : b ≡ true → (c : Interval) → c ≡ afterToken (s .flag) τ (s .interval) (getD words (s .place * 4 + 1) 0) → Success (record { place = s .place + 1; interval = c; flag = false }) ≡ tokenOutcome words τ a s
+      pub token-fits :
+          b ≡ true
+          → (c : Interval)
+          → c ≡ afterToken (s .flag) τ (s .interval) (getD words (s .place * 4 + 1) 0)
+          → Success (record { place = s .place + 1; interval = c; flag = false }) ≡ tokenOutcome words τ a s
       unfolding tokenOutcome
       token-fits t c d = rw (lt-ltb (s .place) (length words / 4) (omega arith), eq-eqb (getD words (s .place * 4) 0) a same, ← e, t, d) refl
 

@@ -6,7 +6,9 @@ use Rattle.table.specs.Form.{Form}
 use Rattle.columns.specs.Intervals.{ends, only}
 use Rattle.columns.proofs.EndLaws.{leave-low}
 use Rattle.columns.specs.declared.Interval.{Interval}
-use Rattle.clauses.specs.Clauses.{Tokens, State, success, Run, empty, terminal-clear, terminal-aligned, rule, sequence, choice-first, choice-second, not, repeat-ends, repeat-again, indent, position, align}
+use Rattle.clauses.specs.Clauses.{Tokens, State, success, Run, empty, terminal-clear, terminal-aligned, rule}
+use Rattle.clauses.specs.Clauses.{sequence, choice-first, choice-second, not, repeat-ends, repeat-again, indent}
+use Rattle.clauses.specs.Clauses.{position, align}
 
 module _ (nodes rules : List ℕ) (tokens : Tokens) (last : ℕ) (columns : (w : ℕ) → tokens .column w ≤ last) where
   pub lower-end : {τ : ℕ} {f : Form} {s s' : State Interval} → Run ends nodes rules tokens τ f s (success s') → s' .1 .lower ≤ max (s .1 .lower) last

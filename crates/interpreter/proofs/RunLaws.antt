@@ -74,7 +74,11 @@ module _ (nodes rules words : List ℕ) (start : Start) where
         unfolding runAnswer
         answered = rw (passed, tokens, begin) (ap given settled)
 
-      pub answer-failure : {o : Outcome} → o ≡ Failure → Gives nodes rules words (start .mode) (form nodes (start .node)) from o → Answered (given clauses.failure) × EndsRun nodes rules words start clauses.failure
+      pub answer-failure :
+          {o : Outcome}
+          → o ≡ Failure
+          → Gives nodes rules words (start .mode) (form nodes (start .node)) from o
+          → Answered (given clauses.failure) × EndsRun nodes rules words start clauses.failure
       answer-failure {o} e d = let f : Gives nodes rules words (start .mode) (form nodes (start .node)) from Failure = rw e at d in (answered Failure f, f .derived)
 
       module _ (u : State) {o : Outcome} (e : o ≡ Success u) (d : Gives nodes rules words (start .mode) (form nodes (start .node)) from o) where
@@ -88,5 +92,8 @@ module _ (nodes rules words : List ℕ) (start : Start) where
         read : Reads (start .place) (u .place - start .place) (u .place)
         read = let h = success-onward in omega arith
 
-        pub answer-success : Answered (given (clauses.success (start .place + (u .place - start .place), u .interval, u .flag))) × (EndsRun nodes rules words start (clauses.success (u .place, u .interval, u .flag)) × Reads (start .place) (u .place - start .place) (u .place))
+        pub answer-success :
+            Answered (given (clauses.success (start .place + (u .place - start .place), u .interval, u .flag)))
+            × (EndsRun nodes rules words start (clauses.success (u .place, u .interval, u .flag))
+            × Reads (start .place) (u .place - start .place) (u .place))
         answer-success = (ap (λ (w : ℕ). given (clauses.success (w, u .interval, u .flag))) read ∙ answered (Success u) moved, (moved .derived, read))

@@ -18,7 +18,9 @@ use Rattle.columns.specs.declared.State.{State}
 use Rattle.columns.specs.declared.Outcome.{Outcome}
 use Rattle.columns.specs.declared.Outcome.the-variants.{Success, Failure}
 use Rattle.well_formed.specs.Facts.{nothing, May}
-use Rattle.well_formed.specs.InternalRank.{Enters, enters-rule, enters-first, enters-second, enters-choice, enters-other, enters-not, enters-repeat, enters-indent, enters-position, enters-align, rank}
+use Rattle.well_formed.specs.InternalRank.{Enters, enters-rule, enters-first, enters-second, enters-choice}
+use Rattle.well_formed.specs.InternalRank.{enters-other, enters-not, enters-repeat, enters-indent, enters-position}
+use Rattle.well_formed.specs.InternalRank.{enters-align, rank}
 use Rattle.well_formed.proofs.RankLaws.{rank-falls, rank-most, repeat-reads}
 use Rattle.clauses.specs.Clauses as clauses
 use Rattle.clauses.specs.Clauses.{Run}
@@ -67,7 +69,14 @@ child-low (suc (suc (suc (suc (suc (suc (suc (suc (suc zero))))))))) r s = omega
 child-low (suc (suc (suc (suc (suc (suc (suc (suc (suc (suc q)))))))))) r s = omega arith
 
 -- A node whose kind is none of 0, 1, 2 and 8 enters a.
-enters-a : (nodes rules : List ℕ) (count q a b r : ℕ) → Inside rules count (decode q a b r) → (q ≡ 0 → ⊥) → (q ≡ 1 → ⊥) → (q ≡ 2 → ⊥) → (q ≡ 8 → ⊥) → (a < count) × Enters nodes rules (decode q a b r) a
+enters-a :
+    (nodes rules : List ℕ) (count q a b r : ℕ)
+    → Inside rules count (decode q a b r)
+    → (q ≡ 0 → ⊥)
+    → (q ≡ 1 → ⊥)
+    → (q ≡ 2 → ⊥)
+    → (q ≡ 8 → ⊥)
+    → (a < count) × Enters nodes rules (decode q a b r) a
 enters-a nodes rules count zero a b r i h0 h1 h2 h8 = absurd (h0 refl)
 enters-a nodes rules count (suc zero) a b r i h0 h1 h2 h8 = absurd (h1 refl)
 enters-a nodes rules count (suc (suc zero)) a b r i h0 h1 h2 h8 = absurd (h2 refl)
@@ -81,7 +90,19 @@ enters-a nodes rules count (suc (suc (suc (suc (suc (suc (suc (suc (suc zero))))
 enters-a nodes rules count (suc (suc (suc (suc (suc (suc (suc (suc (suc (suc q)))))))))) a b r i h0 h1 h2 h8 = absurd i
 
 -- A kind that is none of 0 to 8 is 9.
-is-nine : (rules : List ℕ) (count q a b r : ℕ) → Inside rules count (decode q a b r) → (q ≡ 0 → ⊥) → (q ≡ 1 → ⊥) → (q ≡ 2 → ⊥) → (q ≡ 3 → ⊥) → (q ≡ 4 → ⊥) → (q ≡ 5 → ⊥) → (q ≡ 6 → ⊥) → (q ≡ 7 → ⊥) → (q ≡ 8 → ⊥) → q ≡ 9
+is-nine :
+    (rules : List ℕ) (count q a b r : ℕ)
+    → Inside rules count (decode q a b r)
+    → (q ≡ 0 → ⊥)
+    → (q ≡ 1 → ⊥)
+    → (q ≡ 2 → ⊥)
+    → (q ≡ 3 → ⊥)
+    → (q ≡ 4 → ⊥)
+    → (q ≡ 5 → ⊥)
+    → (q ≡ 6 → ⊥)
+    → (q ≡ 7 → ⊥)
+    → (q ≡ 8 → ⊥)
+    → q ≡ 9
 is-nine rules count zero a b r i h0 h1 h2 h3 h4 h5 h6 h7 h8 = absurd (h0 refl)
 is-nine rules count (suc zero) a b r i h0 h1 h2 h3 h4 h5 h6 h7 h8 = absurd (h1 refl)
 is-nine rules count (suc (suc zero)) a b r i h0 h1 h2 h3 h4 h5 h6 h7 h8 = absurd (h2 refl)
@@ -99,7 +120,17 @@ module _ (nodes rules words : List ℕ) where
   made d = record { derived = d }
 
   -- Where the child failed, so do a sequence, an indent and an align.
-  failed : (count τ a b r : ℕ) (s : State) (q : ℕ) → Inside rules count (decode q a b r) → Gives nodes rules words τ (form nodes a) (childState q r s) Failure → (q ≡ 0 → ⊥) → (q ≡ 1 → ⊥) → (q ≡ 2 → ⊥) → (q ≡ 8 → ⊥) → (q ≡ 4 → ⊥) → (q ≡ 5 → ⊥) → (q ≡ 6 → ⊥)
+  failed :
+      (count τ a b r : ℕ) (s : State) (q : ℕ)
+      → Inside rules count (decode q a b r)
+      → Gives nodes rules words τ (form nodes a) (childState q r s) Failure
+      → (q ≡ 0 → ⊥)
+      → (q ≡ 1 → ⊥)
+      → (q ≡ 2 → ⊥)
+      → (q ≡ 8 → ⊥)
+      → (q ≡ 4 → ⊥)
+      → (q ≡ 5 → ⊥)
+      → (q ≡ 6 → ⊥)
       → Gives nodes rules words τ (decode q a b r) s Failure
   unfolding childState
   failed count τ a b r s zero i d h0 h1 h2 h8 h4 h5 h6 = absurd (h0 refl)
@@ -119,8 +150,18 @@ module _ (nodes rules words : List ℕ) where
   unfolding tokenOutcome
   token-gives τ a s = made (by-test (reads (tokensOf words) τ a (stateOf s)) refl)
     where
-      by-test : (t : Bool) → reads (tokensOf words) τ a (stateOf s) ≡ t
-          → Run ends nodes rules (tokensOf words) τ (table.terminal a) (stateOf s) (outcomeOf (cond (reads (tokensOf words) τ a (stateOf s)) (Success (record { place = s .place + 1; interval = afterToken (s .flag) τ (s .interval) (tokensOf words .column (s .place)); flag = false })) Failure))
+      by-test :
+          (t : Bool)
+          → reads (tokensOf words) τ a (stateOf s) ≡ t
+          → Run ends nodes rules (tokensOf words) τ (table.terminal a) (stateOf s)
+          (outcomeOf
+          (cond (reads (tokensOf words) τ a (stateOf s))
+          (Success
+          (record {
+            place = s .place + 1;
+            interval = afterToken (s .flag) τ (s .interval) (tokensOf words .column (s .place));
+            flag = false;
+          })) Failure))
       by-test true e = rw e (let q = terminal-read nodes rules (tokensOf words) τ a (s .place) (s .interval) (s .flag) e in q)
       by-test false e = rw e (terminal-unread nodes rules (tokensOf words) τ a (s .place) (s .interval) (s .flag) e)
 
@@ -135,7 +176,9 @@ module _ (nodes rules words : List ℕ) where
   weight-most n s k h =
       let few = in-limits words (k .tokens) .few in
       let small = counts-inside nodes rules (k .table) .1 in
-      let x = weighs-less (tokensOf words .count + 1) (tokensOf words .count - s .place) (nodeCount nodes) 0 (rank nodes rules n) (omega arith) (rank-most nodes rules (k .table) (k .well) n h) in
+      let x =
+      weighs-less (tokensOf words .count + 1) (tokensOf words .count - s .place) (nodeCount nodes) 0
+      (rank nodes rules n) (omega arith) (rank-most nodes rules (k .table) (k .well) n h) in
       let one : tokensOf words .count + 1 ≤ 4097 = omega arith in
       let two : nodeCount nodes + 1 ≤ 513 = omega arith in
       let y : (tokensOf words .count + 1) * (nodeCount nodes + 1) ≤ 4097 * 513 = mul-le-mul one two in
@@ -143,26 +186,53 @@ module _ (nodes rules words : List ℕ) where
 
   module _ (n : ℕ) (s : State) (h : Ready nodes rules words n s) where
     -- A child that is entered at the same place.
-    entered : (c : ℕ) → c < nodeCount nodes → Enters nodes rules (form nodes n) c → (u : State) → u .place ≡ s .place → u .interval .lower ≤ s .interval .lower + 1 → Lighter (weight nodes rules words n s) c u
+    entered :
+        (c : ℕ)
+        → c < nodeCount nodes
+        → Enters nodes rules (form nodes n) c
+        → (u : State)
+        → u .place ≡ s .place
+        → u .interval .lower ≤ s .interval .lower + 1
+        → Lighter (weight nodes rules words n s) c u
     unfolding weight
     entered c i enter u p l =
         let q = rank-falls nodes rules (h .checked .table) (h .checked .well) n c (h .node) enter in
         let b = h .place in
         let m = h .room in
-        let less : (tokensOf words .count - u .place) * (nodeCount nodes + 1) + rank nodes rules c < (tokensOf words .count - s .place) * (nodeCount nodes + 1) + rank nodes rules n = rw p (omega arith) in
-        record { less = less; ready = record { checked = h .checked; node = i; place = omega arith; room = omega arith } }
+        let less :
+        (tokensOf words .count - u .place) * (nodeCount nodes + 1) + rank nodes rules c
+        < (tokensOf words .count - s .place) * (nodeCount nodes + 1) + rank nodes rules n =
+        rw p (omega arith) in
+        record {
+          less = less;
+          ready = record { checked = h .checked; node = i; place = omega arith; room = omega arith };
+        }
 
     -- A child that is entered after a success of another, at the same place or after a token, weighs less.
-    lighter : (a c τ : ℕ) (u : State) → c < nodeCount nodes → Run ends nodes rules (tokensOf words) τ (form nodes a) (stateOf s) (clauses.success (stateOf u)) → (May nodes rules (form nodes a) nothing → rank nodes rules c < rank nodes rules n) → weight nodes rules words c u < weight nodes rules words n s
+    lighter :
+        (a c τ : ℕ) (u : State)
+        → c < nodeCount nodes
+        → Run ends nodes rules (tokensOf words) τ (form nodes a) (stateOf s) (clauses.success (stateOf u))
+        → (May nodes rules (form nodes a) nothing → rank nodes rules c < rank nodes rules n)
+        → weight nodes rules words c u < weight nodes rules words n s
     unfolding weight
     lighter a c τ u i d q =
         let far = within ends nodes rules (tokensOf words) (h .place) d in
         ⊎-elim
-        (λ (e : s .place ≡ u .place). let k = q (shown ends nodes rules (tokensOf words) d nothing (at-once (sym e))) in rw (← e) (omega arith))
-        (λ (l : s .place < u .place). weighs-less (tokensOf words .count - s .place) (tokensOf words .count - u .place) (nodeCount nodes) (rank nodes rules n) (rank nodes rules c) (omega arith) (rank-most nodes rules (h .checked .table) (h .checked .well) c i))
+        (λ (e : s .place ≡ u .place).
+        let k = q (shown ends nodes rules (tokensOf words) d nothing (at-once (sym e))) in rw (← e) (omega arith))
+        (λ (l : s .place < u .place).
+        weighs-less (tokensOf words .count - s .place) (tokensOf words .count - u .place) (nodeCount nodes)
+        (rank nodes rules n) (rank nodes rules c) (omega arith)
+        (rank-most nodes rules (h .checked .table) (h .checked .well) c i))
         (eq-or-lt-of-le (onward ends nodes rules (tokensOf words) d))
 
-    after : (a c τ : ℕ) (u : State) → c < nodeCount nodes → Run ends nodes rules (tokensOf words) τ (form nodes a) (stateOf s) (clauses.success (stateOf u)) → (May nodes rules (form nodes a) nothing → rank nodes rules c < rank nodes rules n) → Lighter (weight nodes rules words n s) c u
+    after :
+        (a c τ : ℕ) (u : State)
+        → c < nodeCount nodes
+        → Run ends nodes rules (tokensOf words) τ (form nodes a) (stateOf s) (clauses.success (stateOf u))
+        → (May nodes rules (form nodes a) nothing → rank nodes rules c < rank nodes rules n)
+        → Lighter (weight nodes rules words n s) c u
     after a c τ u i d q =
         let low = lower-end nodes rules (tokensOf words) mostColumn (in-limits words (h .checked .tokens) .column) d in
         let w = weight-most c u (h .checked) i in
@@ -208,7 +278,11 @@ module _ {nodes rules words : List ℕ} {τ₀ n₀ : ℕ} {s₀ : State} {τ n 
   out o q p d = h .back o (rw (formed nodes n q p) d)
 
   -- The next turn.
-  turn : (τ' n' : ℕ) (u : State) → Lighter nodes rules words (weight nodes rules words n s) n' u → ((o : Outcome) → Gives nodes rules words τ' (form nodes n') u o → Gives nodes rules words τ (form nodes n) s o) → Walk nodes rules words τ₀ n₀ s₀ τ' n' u
+  turn :
+      (τ' n' : ℕ) (u : State)
+      → Lighter nodes rules words (weight nodes rules words n s) n' u
+      → ((o : Outcome) → Gives nodes rules words τ' (form nodes n') u o → Gives nodes rules words τ (form nodes n) s o)
+      → Walk nodes rules words τ₀ n₀ s₀ τ' n' u
   turn τ' n' u x f = let l = x .less in let k = h .low in record { ready = x .ready; low = omega arith; back = λ o d. h .back o (f o d) }
 
   pub for-node : n * 4 + 3 < length nodes
@@ -257,15 +331,37 @@ module _ {nodes rules words : List ℕ} {τ₀ n₀ : ℕ} {s₀ : State} {τ n 
   pub for-child : s .interval .lower + 1 < 2 ^ 32
   for-child = let m = h .ready .room in omega arith
 
-  call : {i : State} → i ≡ childState kind r s → (kind ≡ 0 → ⊥) → (kind ≡ 1 → ⊥) → (kind ≡ 2 → ⊥) → (kind ≡ 8 → ⊥) → Lighter nodes rules words (weight nodes rules words n s) a i
+  call :
+      {i : State}
+      → i ≡ childState kind r s
+      → (kind ≡ 0 → ⊥)
+      → (kind ≡ 1 → ⊥)
+      → (kind ≡ 2 → ⊥)
+      → (kind ≡ 8 → ⊥)
+      → Lighter nodes rules words (weight nodes rules words n s) a i
   call {i} e h0 h1 h2 h8 =
       let x = enters-a nodes rules (nodeCount nodes) kind a b r (inside kind refl) h0 h1 h2 h8 in
       entered nodes rules words n s (h .ready) a (x .0) (enters kind a refl (x .1)) i (ap (λ (u : State). u .place) e ∙ child-place kind r s) (rw e (child-low kind r s))
 
-  pub call-less : {i : State} {T : ℕ} → 2 * weight nodes rules words n₀ s₀ ≡ T → i ≡ childState kind r s → (kind ≡ 0 → ⊥) → (kind ≡ 1 → ⊥) → (kind ≡ 2 → ⊥) → (kind ≡ 8 → ⊥) → 2 * weight nodes rules words a i + 1 < T
+  pub call-less :
+      {i : State} {T : ℕ}
+      → 2 * weight nodes rules words n₀ s₀ ≡ T
+      → i ≡ childState kind r s
+      → (kind ≡ 0 → ⊥)
+      → (kind ≡ 1 → ⊥)
+      → (kind ≡ 2 → ⊥)
+      → (kind ≡ 8 → ⊥)
+      → 2 * weight nodes rules words a i + 1 < T
   call-less q e h0 h1 h2 h8 = let l = call e h0 h1 h2 h8 .less in let k = h .low in omega arith
 
-  pub call-ready : {i : State} → i ≡ childState kind r s → (kind ≡ 0 → ⊥) → (kind ≡ 1 → ⊥) → (kind ≡ 2 → ⊥) → (kind ≡ 8 → ⊥) → Ready nodes rules words a i
+  pub call-ready :
+      {i : State}
+      → i ≡ childState kind r s
+      → (kind ≡ 0 → ⊥)
+      → (kind ≡ 1 → ⊥)
+      → (kind ≡ 2 → ⊥)
+      → (kind ≡ 8 → ⊥)
+      → Ready nodes rules words a i
   call-ready e h0 h1 h2 h8 = call e h0 h1 h2 h8 .ready
 
   -- After it: the state i that it was asked in, and the outcome x that it gave.
@@ -312,8 +408,19 @@ module _ {nodes rules words : List ℕ} {τ₀ n₀ : ℕ} {s₀ : State} {τ n 
       pub out-repeat : kind ≡ 6 → Whole (Success s)
       out-repeat p = out (Success s) 6 p (record { derived = clauses.repeat-ends (sixth p z) })
 
-      pub out-failed : (kind ≡ 0 → ⊥) → (kind ≡ 1 → ⊥) → (kind ≡ 2 → ⊥) → (kind ≡ 8 → ⊥) → (kind ≡ 4 → ⊥) → (kind ≡ 5 → ⊥) → (kind ≡ 6 → ⊥) → Whole Failure
-      out-failed h0 h1 h2 h8 h4 h5 h6 = out Failure kind refl (failed nodes rules words (nodeCount nodes) τ a b r s kind (inside kind refl) (record { derived = gave kind refl z }) h0 h1 h2 h8 h4 h5 h6)
+      pub out-failed :
+          (kind ≡ 0 → ⊥)
+          → (kind ≡ 1 → ⊥)
+          → (kind ≡ 2 → ⊥)
+          → (kind ≡ 8 → ⊥)
+          → (kind ≡ 4 → ⊥)
+          → (kind ≡ 5 → ⊥)
+          → (kind ≡ 6 → ⊥)
+          → Whole Failure
+      out-failed h0 h1 h2 h8 h4 h5 h6 =
+          out Failure kind refl
+          (failed nodes rules words (nodeCount nodes) τ a b r s kind (inside kind refl)
+          (record { derived = gave kind refl z }) h0 h1 h2 h8 h4 h5 h6)
 
     -- The child succeeded.
     module _ (u : State) (z : x ≡ Success u) where
@@ -347,7 +454,9 @@ module _ {nodes rules words : List ℕ} {τ₀ n₀ : ℕ} {s₀ : State} {τ n 
       pub repeat-again : kind ≡ 6 → Walk nodes rules words τ₀ n₀ s₀ τ n u
       repeat-again p =
           turn τ n u (repeat-next p)
-          (λ o f. let g : Gives nodes rules words τ (table.repeat a) u o = rw (formed nodes n 6 p) at f in rw (formed nodes n 6 p) (record { derived = clauses.repeat-again (sixth p z) (g .derived) }))
+          (λ o f.
+          let g : Gives nodes rules words τ (table.repeat a) u o = rw (formed nodes n 6 p) at f in rw
+          (formed nodes n 6 p) (record { derived = clauses.repeat-again (sixth p z) (g .derived) }))
 
       indented : kind ≡ 7 → Gives nodes rules words τ (table.indent a r) s (Success (leftState r s u))
       unfolding childState
@@ -360,7 +469,19 @@ module _ {nodes rules words : List ℕ} {τ₀ n₀ : ℕ} {s₀ : State} {τ n 
       unfolding childState
       aligned p = record { derived = clauses.align (gave 9 p z) }
 
-      pub out-align : (kind ≡ 0 → ⊥) → (kind ≡ 1 → ⊥) → (kind ≡ 2 → ⊥) → (kind ≡ 8 → ⊥) → (kind ≡ 3 → ⊥) → (kind ≡ 4 → ⊥) → (kind ≡ 5 → ⊥) → (kind ≡ 6 → ⊥) → (kind ≡ 7 → ⊥) → {v : State} → v ≡ alignedState s u → Whole (Success v)
+      pub out-align :
+          (kind ≡ 0 → ⊥)
+          → (kind ≡ 1 → ⊥)
+          → (kind ≡ 2 → ⊥)
+          → (kind ≡ 8 → ⊥)
+          → (kind ≡ 3 → ⊥)
+          → (kind ≡ 4 → ⊥)
+          → (kind ≡ 5 → ⊥)
+          → (kind ≡ 6 → ⊥)
+          → (kind ≡ 7 → ⊥)
+          → {v : State}
+          → v ≡ alignedState s u
+          → Whole (Success v)
       out-align h0 h1 h2 h8 h3 h4 h5 h6 h7 {v} y =
           let p = is-nine rules (nodeCount nodes) kind a b r (inside kind refl) h0 h1 h2 h3 h4 h5 h6 h7 h8 in
           rw y (out (Success (alignedState s u)) 9 p (aligned p))

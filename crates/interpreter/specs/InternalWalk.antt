@@ -34,17 +34,17 @@ withFlag s b = record { place = s .place; interval = s .interval; flag = b }
 
 -- The state in which the first child of a node of a kind is walked.
 unfoldable pub childState : ℕ → ℕ → State → State
-childState zero r s = s
-childState (suc zero) r s = s
-childState (suc (suc zero)) r s = s
-childState (suc (suc (suc zero))) r s = s
-childState (suc (suc (suc (suc zero)))) r s = s
-childState (suc (suc (suc (suc (suc zero))))) r s = s
-childState (suc (suc (suc (suc (suc (suc zero)))))) r s = s
-childState (suc (suc (suc (suc (suc (suc (suc zero))))))) r s = withInterval s (innerEnds r (s .interval))
-childState (suc (suc (suc (suc (suc (suc (suc (suc zero)))))))) r s = s
-childState (suc (suc (suc (suc (suc (suc (suc (suc (suc zero))))))))) r s = withFlag s true
-childState (suc (suc (suc (suc (suc (suc (suc (suc (suc (suc k)))))))))) r s = s
+childState zero r s = s  -- 0 empty
+childState (suc zero) r s = s  -- 1 terminal
+childState (suc (suc zero)) r s = s  -- 2 rule
+childState (suc (suc (suc zero))) r s = s  -- 3 sequence
+childState (suc (suc (suc (suc zero)))) r s = s  -- 4 choice
+childState (suc (suc (suc (suc (suc zero))))) r s = s  -- 5 not
+childState (suc (suc (suc (suc (suc (suc zero)))))) r s = s  -- 6 repeat
+childState (suc (suc (suc (suc (suc (suc (suc zero))))))) r s = withInterval s (innerEnds r (s .interval))  -- 7 indent
+childState (suc (suc (suc (suc (suc (suc (suc (suc zero)))))))) r s = s  -- 8 position
+childState (suc (suc (suc (suc (suc (suc (suc (suc (suc zero))))))))) r s = withFlag s true  -- 9 align
+childState (suc (suc (suc (suc (suc (suc (suc (suc (suc (suc k)))))))))) r s = s  -- over 9
 
 abbrev pub leftState : ℕ → State → State → State
 leftState r s u = withInterval u (meetEnds (s .interval) (outerEnds r (u .interval)))
@@ -56,8 +56,12 @@ alignedState s u = withFlag u (s .flag && u .flag)
 unfoldable pub tokenOutcome : List ℕ → ℕ → ℕ → State → Outcome
 tokenOutcome words τ a s =
     cond (reads (tokensOf words) τ a (stateOf s))
-    (Success (record { place = s .place + 1; interval = afterToken (s .flag) τ (s .interval) (tokensOf words .column (s .place)); flag = false }))
-    Failure
+    (Success
+    (record {
+      place = s .place + 1;
+      interval = afterToken (s .flag) τ (s .interval) (tokensOf words .column (s .place));
+      flag = false;
+    })) Failure
 
 pub record ReadyToken (words : List ℕ) (s : State) : Type 0 where
   pub whole : length words % 4 ≡ 0

@@ -19,7 +19,9 @@ numbers place (IllFormed node) = refusedAt 7 node
 
 -- The outcome has a derivation by the ten clauses over two ends, and the state's place is where the tokens read end.
 abbrev pub Derived : List ℕ → List ℕ → List ℕ → Start → Ran → Type 0
-Derived nodes rules words start (Success read s) = EndsRun nodes rules words start (success (s .place, s .interval, s .flag)) × Reads (start .place) read (s .place)
+Derived nodes rules words start (Success read s) =
+    EndsRun nodes rules words start (success (s .place, s .interval, s .flag))
+    × Reads (start .place) read (s .place)
 Derived nodes rules words start Failure = EndsRun nodes rules words start failure
 Derived nodes rules words start (Refused number) = Unit
 Derived nodes rules words start (IllFormed node) = Unit

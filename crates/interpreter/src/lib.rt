@@ -9,6 +9,7 @@ use columns::Start;
 use columns::State;
 use limits::start_wrong;
 use limits::tokens_wrong;
+use table::refusals;
 use walk::expression;
 use well_formed::Verdict;
 ghost use mathlib.Core.Path.{_≡_};
@@ -28,7 +29,10 @@ pub enum Ran {
 
 // Runs a grammar on tokens from a start. It writes nothing.
 pub fn run(nodes: &[u16], rules: &[u16], tokens: &[u32], start: Start) -> Ran
-    ensures { λ r. ⌜ numbers (start .place) r ≡ runAnswer (now (nodes .entry)) (now (rules .entry)) (now (tokens .entry)) start ⌝ }
+    ensures { λ r. ⌜
+        numbers (start .place) r
+        ≡ runAnswer (now (nodes .entry)) (now (rules .entry)) (now (tokens .entry)) start
+        ⌝ }
     ensures { λ r. ⌜ Derived (now (nodes .entry)) (now (rules .entry)) (now (tokens .entry)) start r ⌝ }
 {
     match well_formed::check(nodes, rules) {
@@ -41,14 +45,17 @@ pub fn run(nodes: &[u16], rules: &[u16], tokens: &[u32], start: Start) -> Ran
 // Runs a grammar that passes the check.
 fn begin(nodes: &[u16], rules: &[u16], tokens: &[u32], start: Start) -> Ran
     requires { ⌜ checkAnswer (now nodes) (now rules) ≡ passed tt ⌝ }
-    ensures { λ r. ⌜ numbers (start .place) r ≡ runAnswer (now (nodes .entry)) (now (rules .entry)) (now (tokens .entry)) start ⌝ }
+    ensures { λ r. ⌜
+        numbers (start .place) r
+        ≡ runAnswer (now (nodes .entry)) (now (rules .entry)) (now (tokens .entry)) start
+        ⌝ }
     ensures { λ r. ⌜ Derived (now (nodes .entry)) (now (rules .entry)) (now (tokens .entry)) start r ⌝ }
 {
     if tokens_wrong(tokens) {
-        return Ran::Refused(11);
+        return Ran::Refused(refusals::TOKENS);
     }
     if start_wrong(nodes, tokens, start) {
-        return Ran::Refused(12);
+        return Ran::Refused(refusals::START);
     }
     let interval = start.interval;
     let from = start.place;

@@ -7,6 +7,7 @@ use columns::Interval;
 use columns::Outcome;
 use columns::State;
 use columns::Upper;
+use table::kinds;
 ghost use mathlib.Core.Path.{_≡_};
 ghost use Prim.Native.Nat.{_+_, _<_, _^_};
 ghost use Rattle.interpreter.specs.InternalWalk.{childState, leftState, alignedState, tokenOutcome, ReadyToken};
@@ -27,7 +28,7 @@ fn entered(kind: u16, r: u16, s: State) -> State
 {
     let c = s.interval;
     match kind {
-        7 => {
+        kinds::INDENT => {
             let narrowed = inner(r, c);
             State {
                 place: s.place,
@@ -35,7 +36,7 @@ fn entered(kind: u16, r: u16, s: State) -> State
                 flag: s.flag,
             }
         }
-        9 => State {
+        kinds::ALIGN => State {
             place: s.place,
             interval: c,
             flag: true,

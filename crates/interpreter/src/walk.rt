@@ -7,6 +7,7 @@ use crate::states::left;
 use crate::states::token;
 use columns::Outcome;
 use columns::State;
+use table::kinds;
 ghost use Rattle.table.specs.Form.{form, rule as rule-form};
 ghost use Rattle.interpreter.specs.InternalWalk.{Ready, ReadyRule, Gives};
 
@@ -20,7 +21,10 @@ pub(crate) fn expression(
     s0: State,
 ) -> Outcome
     requires { ⌜ Ready (now nodes) (now rules) (now tokens) node0 s0 ⌝ }
-    ensures { λ x. ⌜ Gives (now (nodes .entry)) (now (rules .entry)) (now (tokens .entry)) mode0 (form (now (nodes .entry)) node0) s0 x ⌝ }
+    ensures { λ x. ⌜
+        Gives (now (nodes .entry)) (now (rules .entry)) (now (tokens .entry)) mode0
+        (form (now (nodes .entry)) node0) s0 x
+        ⌝ }
 {
     let mut mode = mode0;
     let mut node = node0;
@@ -32,16 +36,16 @@ pub(crate) fn expression(
         let b = nodes[at + 2];
         let r = nodes[at + 3];
         match kind {
-            0 => {
+            kinds::EMPTY => {
                 return Outcome::Success(s);
             }
-            1 => {
+            kinds::TERMINAL => {
                 return token(tokens, a, mode, s);
             }
-            2 => {
+            kinds::RULE => {
                 return rule(nodes, rules, tokens, mode, a, s);
             }
-            8 => {
+            kinds::POSITION => {
                 mode = r;
                 node = a;
             }
@@ -51,13 +55,13 @@ pub(crate) fn expression(
                 match x {
                     Outcome::Failure => {
                         match kind {
-                            4 => {
+                            kinds::CHOICE => {
                                 node = b;
                             }
-                            5 => {
+                            kinds::NOT => {
                                 return Outcome::Success(s);
                             }
-                            6 => {
+                            kinds::REPEAT => {
                                 return Outcome::Success(s);
                             }
                             _ => {
@@ -67,20 +71,20 @@ pub(crate) fn expression(
                     }
                     Outcome::Success(u) => {
                         match kind {
-                            3 => {
+                            kinds::SEQUENCE => {
                                 s = u;
                                 node = b;
                             }
-                            4 => { // the first alternative
+                            kinds::CHOICE => { // the first alternative
                                 return Outcome::Success(u);
                             }
-                            5 => {
+                            kinds::NOT => {
                                 return Outcome::Failure; // a not of what succeeds
                             }
-                            6 => { // a round was read
+                            kinds::REPEAT => { // a round was read
                                 s = u; // the next round
                             }
-                            7 => {
+                            kinds::INDENT => {
                                 let v = left(r, s, u);
                                 return Outcome::Success(v);
                             }
@@ -99,10 +103,13 @@ pub(crate) fn expression(
 // The outcome of a first child: a terminal needs no nested call.
 fn first(nodes: &[u16], rules: &[u16], tokens: &[u32], mode: u16, node: u16, s: State) -> Outcome
     requires { ⌜ Ready (now nodes) (now rules) (now tokens) node s ⌝ }
-    ensures { λ x. ⌜ Gives (now (nodes .entry)) (now (rules .entry)) (now (tokens .entry)) mode (form (now (nodes .entry)) node) s x ⌝ }
+    ensures { λ x. ⌜
+        Gives (now (nodes .entry)) (now (rules .entry)) (now (tokens .entry)) mode
+        (form (now (nodes .entry)) node) s x
+        ⌝ }
 {
     let at = (node as usize) * 4;
-    if nodes[at] == 1 {
+    if nodes[at] == kinds::TERMINAL {
         return token(tokens, nodes[at + 1], mode, s);
     }
     expression(nodes, rules, tokens, mode, node, s)

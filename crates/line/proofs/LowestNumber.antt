@@ -111,10 +111,21 @@ module _ (e11 e12 : Bool) (count : ℕ) (c : Contents) (x : Outcome Interval) wh
   -- The scanner refuses a file that passes.
   refused-report : (k n : ℕ) → k ≤ 10 → n ≡ k → Least {B = Contents} {C = ℕ} (given c) (given tt) (refused k) (ran e11 e12 x) n
   refused-report k n h e =
-      record { over-read = λ m r. absurd r; over-check = λ m r. absurd r; over-scan = λ m r. omega arith; over-run = over-ran n (given tt) e11 e12 x (omega arith) (λ m r. absurd r); one-of = inr (inr (inl e)) }
+      record {
+        over-read = λ m r. absurd r;
+        over-check = λ m r. absurd r;
+        over-scan = λ m r. omega arith;
+        over-run = over-ran n (given tt) e11 e12 x (omega arith) (λ m r. absurd r);
+        one-of = inr (inr (inl e));
+      }
 
   -- The file reader refuses, and the scanner with it.
-  refused-file : (k n : ℕ) (check : Answer Unit) → k ≤ 5 → Over n check → n ≡ k → Least {B = Contents} {C = ℕ} (refused k) check (refused k) (andThen check (ran e11 e12 x)) n
+  refused-file :
+      (k n : ℕ) (check : Answer Unit)
+      → k ≤ 5
+      → Over n check
+      → n ≡ k
+      → Least {B = Contents} {C = ℕ} (refused k) check (refused k) (andThen check (ran e11 e12 x)) n
   refused-file k n check h o e =
       record { over-read = λ m r. omega arith; over-check = o; over-scan = λ m r. omega arith; over-run = over-ran n check e11 e12 x (omega arith) o; one-of = inl e }
 
@@ -135,9 +146,21 @@ module _ (e11 e12 : Bool) (count : ℕ) (c : Contents) (x : Outcome Interval) wh
   by-verdict : (f6 g8 g9 g10 : Bool) (v : Answer Unit) (n : ℕ) → Seven v → Lowers false false false false false false f6 g8 g9 g10 v n
   by-verdict true g8 g9 g10 v n s e =
       let o = over-verdict n v (omega arith) s in
-      record { over-read = λ m r. omega arith; over-check = o; over-scan = over-scanned n g8 g9 g10 count (omega arith); over-run = over-ran n v e11 e12 x (omega arith) o; one-of = inl e }
+      record {
+        over-read = λ m r. omega arith;
+        over-check = o;
+        over-scan = over-scanned n g8 g9 g10 count (omega arith);
+        over-run = over-ran n v e11 e12 x (omega arith) o;
+        one-of = inl e;
+      }
   by-verdict false g8 g9 g10 (refusedAt number node) n s e =
-      record { over-read = λ m r. absurd r; over-check = λ m r. omega arith; over-scan = over-scanned n g8 g9 g10 count (omega arith); over-run = λ m r. omega arith; one-of = inr (inl e) }
+      record {
+        over-read = λ m r. absurd r;
+        over-check = λ m r. omega arith;
+        over-scan = over-scanned n g8 g9 g10 count (omega arith);
+        over-run = λ m r. omega arith;
+        one-of = inr (inl e);
+      }
   by-verdict false g8 g9 g10 (refused number) n s e = absurd s
   by-verdict false g8 g9 g10 (given tt) n s e = by-scan g8 g9 g10 n e
 
@@ -171,7 +194,10 @@ module _ (e11 e12 : Bool) (count : ℕ) (c : Contents) (x : Outcome Interval) wh
   none-scan false false true y m e r = no-refusal e
   none-scan false false false y m e r = ⊎-elim (λ z. z) (⊎-elim (λ z. z) (⊎-elim (λ z. z) (none-run e11 e12 y m e))) r
 
-  none-file : (f1 f2 f3 f4 f5 t5 f6 g8 g9 g10 : Bool) (v : Answer Unit) (y : Outcome Interval) (m : ℕ) → (t5 ≡ true → f5 ≡ true) → None f1 f2 f3 f4 f5 t5 f6 g8 g9 g10 v y m
+  none-file :
+      (f1 f2 f3 f4 f5 t5 f6 g8 g9 g10 : Bool) (v : Answer Unit) (y : Outcome Interval) (m : ℕ)
+      → (t5 ≡ true → f5 ≡ true)
+      → None f1 f2 f3 f4 f5 t5 f6 g8 g9 g10 v y m
   none-file true f2 f3 f4 f5 t5 f6 g8 g9 g10 v y m h e r = no-refusal e
   none-file false true f3 f4 f5 t5 f6 g8 g9 g10 v y m h e r = no-refusal e
   none-file false false true f4 f5 t5 f6 g8 g9 g10 v y m h e r = no-refusal e
@@ -217,13 +243,24 @@ module _ (file report : List ℕ) where
         lowest = λ m g. lower least m g;
       }
     where
-      lower : {n : ℕ} → Least (readAnswer file (mostNodes * 4) mostRules) (checkAnswer nodes rules) (scanAnswer file report (mostTokens * 4)) (runAnswer nodes rules words start) n → (m : ℕ) → Gives file report m → n ≤ m
+      lower :
+          {n : ℕ}
+          → Least (readAnswer file (mostNodes * 4) mostRules) (checkAnswer nodes rules)
+          (scanAnswer file report (mostTokens * 4)) (runAnswer nodes rules words start) n
+          → (m : ℕ)
+          → Gives file report m
+          → n ≤ m
       lower l m (by-reader r) = l .over-read m r
       lower l m (by-check r) = l .over-check m r
       lower l m (by-scanner r) = l .over-scan m r
       lower l m (by-interpreter r) = l .over-run m r
 
-  part-of : {m : ℕ} → Gives file report m → Refuses (readAnswer file (mostNodes * 4) mostRules) m ⊎ (Refuses (checkAnswer nodes rules) m ⊎ (Refuses (scanAnswer file report (mostTokens * 4)) m ⊎ Refuses (runAnswer nodes rules words start) m))
+  part-of :
+      {m : ℕ}
+      → Gives file report m
+      → Refuses (readAnswer file (mostNodes * 4) mostRules) m
+      ⊎ (Refuses (checkAnswer nodes rules) m
+      ⊎ (Refuses (scanAnswer file report (mostTokens * 4)) m ⊎ Refuses (runAnswer nodes rules words start) m))
   part-of (by-reader r) = inl r
   part-of (by-check r) = inr (inl r)
   part-of (by-scanner r) = inr (inr (inl r))

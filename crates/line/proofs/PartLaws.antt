@@ -54,15 +54,25 @@ module _ (file report : List ℕ) (n : ℕ) (e : given n ≡ scanAnswer file rep
   pub scan-whole : length (wordsOf (scanTokens file report)) ≡ n * 4
   scan-whole = scan-counts .1
 
-  pub scan-front : (old : List ℕ) {after : List ℕ} → after ≡ afterwards (given n) (wordsOf (scanTokens file report)) old → take (n * 4) after ≡ wordsOf (scanTokens file report)
+  pub scan-front :
+      (old : List ℕ) {after : List ℕ}
+      → after ≡ afterwards (given n) (wordsOf (scanTokens file report)) old
+      → take (n * 4) after ≡ wordsOf (scanTokens file report)
   scan-front old e = rw e (front (wordsOf (scanTokens file report)) (drop (length (wordsOf (scanTokens file report))) old) (n * 4) (scan-counts .1))
 
   -- The run is the answer.
-  pub scan-run : (nodes rules : List ℕ) (node mode : ℕ) {words : List ℕ} {v : Answer (Outcome Interval)} → words ≡ wordsOf (scanTokens file report) → v ≡ runAnswer nodes rules words (startAt node mode) → v ≡ scanAndRun file report nodes rules node mode
+  pub scan-run :
+      (nodes rules : List ℕ) (node mode : ℕ) {words : List ℕ} {v : Answer (Outcome Interval)}
+      → words ≡ wordsOf (scanTokens file report)
+      → v ≡ runAnswer nodes rules words (startAt node mode)
+      → v ≡ scanAndRun file report nodes rules node mode
   unfolding scanAndRun
   scan-run nodes rules node mode q d = d ∙ rw (q, ← e) refl
 
-pub scan-refuses : (file report nodes rules : List ℕ) (node mode : ℕ) {k : ℕ} → refused k ≡ scanAnswer file report 16384 → refused k ≡ scanAndRun file report nodes rules node mode
+pub scan-refuses :
+    (file report nodes rules : List ℕ) (node mode : ℕ) {k : ℕ}
+    → refused k ≡ scanAnswer file report 16384
+    → refused k ≡ scanAndRun file report nodes rules node mode
 unfolding scanAndRun
 scan-refuses file report nodes rules node mode e = first-refuses _ e
 
@@ -76,7 +86,11 @@ module _ (file report nodes rules : List ℕ) (node mode : ℕ) where
   unfolding checkAndRun
   check-names e = first-names _ e
 
-  pub check-passes : {v : Answer (Outcome Interval)} → given tt ≡ checkAnswer nodes rules → v ≡ scanAndRun file report nodes rules node mode → v ≡ checkAndRun file report nodes rules node mode
+  pub check-passes :
+      {v : Answer (Outcome Interval)}
+      → given tt ≡ checkAnswer nodes rules
+      → v ≡ scanAndRun file report nodes rules node mode
+      → v ≡ checkAndRun file report nodes rules node mode
   unfolding checkAndRun
   check-passes e d = d ∙ first-passes _ e
 
@@ -110,7 +124,14 @@ module _ (file : List ℕ) (x : Contents) (e : given x ≡ readAnswer file 2048 
       let w : length (nodeTable fs) ≡ length (tagged 4 fs) * 4 = length-words fourWords (λ f. refl) (tagged 4 fs) in
       let n : x .nodes ≡ length (nodeTable fs) / 4 = ap (λ (c : Contents). c .nodes) (read-six .1) in
       let r : x .rules ≡ length (ruleList fs) = ap (λ (c : Contents). c .rules) (read-six .1) in
-      record { few-nodes = omega arith; few-rules = omega arith; all-nodes = omega arith; all-rules = sym r; node = ap (λ (c : Contents). c .start) (read-six .1); mode-of = ap (λ (c : Contents). c .mode) (read-six .1) }
+      record {
+        few-nodes = omega arith;
+        few-rules = omega arith;
+        all-nodes = omega arith;
+        all-rules = sym r;
+        node = ap (λ (c : Contents). c .start) (read-six .1);
+        mode-of = ap (λ (c : Contents). c .mode) (read-six .1);
+      }
 
   pub nodes-front : (old : List ℕ) {after : List ℕ} → after ≡ afterwards (given x) (nodeTable fs) old → take (x .nodes * 4) after ≡ nodeTable fs
   nodes-front old d = rw d (front (nodeTable fs) (drop (length (nodeTable fs)) old) (x .nodes * 4) (read-as .all-nodes))
@@ -118,7 +139,12 @@ module _ (file : List ℕ) (x : Contents) (e : given x ≡ readAnswer file 2048 
   pub rules-front : (old : List ℕ) {after : List ℕ} → after ≡ afterwards (given x) (ruleList fs) old → take (x .rules) after ≡ ruleList fs
   rules-front old d = rw d (front (ruleList fs) (drop (length (ruleList fs)) old) (x .rules) (read-as .all-rules))
 
-  pub read-runs : (report : List ℕ) {nodes rules : List ℕ} {v : Answer (Outcome Interval)} → nodes ≡ nodeTable fs → rules ≡ ruleList fs → v ≡ checkAndRun file report nodes rules (x .start) (x .mode) → v ≡ lineAnswer file report
+  pub read-runs :
+      (report : List ℕ) {nodes rules : List ℕ} {v : Answer (Outcome Interval)}
+      → nodes ≡ nodeTable fs
+      → rules ≡ ruleList fs
+      → v ≡ checkAndRun file report nodes rules (x .start) (x .mode)
+      → v ≡ lineAnswer file report
   unfolding lineAnswer
   read-runs report p q d = d ∙ rw (p, q, read-as .node, read-as .mode-of, ← e) refl
 

@@ -111,9 +111,18 @@ pub digits-last : {o o' : List ℕ} {at most n r : ℕ} → (most ≡ 0 → ⊥)
 digits-last {most = zero} h l p = absurd (h refl)
 digits-last {most = suc k} {n = n} h l p = put-same (sym (decimal-last k n l)) p
 
-pub digits-more : {o o' o'' : List ℕ} {at most n r s : ℕ} → (most ≡ 0 → ⊥) → 10 ≤ n → Put o at (decimalTo (most - 1) (n / 10)) r o' → Put o' r ((48 + n % 10) ∷ []) s o'' → Put o at (decimalTo most n) s o''
+pub digits-more :
+    {o o' o'' : List ℕ} {at most n r s : ℕ}
+    → (most ≡ 0 → ⊥)
+    → 10 ≤ n
+    → Put o at (decimalTo (most - 1) (n / 10)) r o'
+    → Put o' r ((48 + n % 10) ∷ []) s o''
+    → Put o at (decimalTo most n) s o''
 digits-more {most = zero} h l p q = absurd (h refl)
-digits-more {most = suc k} {n = n} h l p q = let e : suc k - 1 ≡ k = omega arith in let p' = put-same (ap (λ (m : ℕ). decimalTo m (n / 10)) e) p in put-same (sym (decimal-more k n l)) (put-then p' q)
+digits-more {most = suc k} {n = n} h l p q =
+    let e : suc k - 1 ≡ k = omega arith in
+    let p' = put-same (ap (λ (m : ℕ). decimalTo m (n / 10)) e) p in
+    put-same (sym (decimal-more k n l)) (put-then p' q)
 
 -- What a call put, from its two promises.
 pub wrote : {o : List ℕ} {at : ℕ} {w : List ℕ} {r : ℕ} {o' : List ℕ} → (r ≡ at + length w) × (o' ≡ pasted o at w) → Put o at w r o'
@@ -131,10 +140,21 @@ length-upper (At x) = length-decimal 10 x
 length-upper Endless = omega arith
 
 -- The line of a success, part by part.
-pub success-line : (o : List ℕ) {o₁ o₂ o₃ o₄ o₅ o₆ o₇ : List ℕ} {r₁ r₂ r₃ r₄ r₅ r₆ r₇ : ℕ} (read lower : ℕ) (upper : Upper) (flag : Bool)
-    → (r₁ ≡ 0 + length (successWord ++ space)) × (o₁ ≡ pasted o 0 (successWord ++ space)) → (r₂ ≡ r₁ + length (decimal read)) × (o₂ ≡ pasted o₁ r₁ (decimal read))
-    → (r₃ ≡ r₂ + length space) × (o₃ ≡ pasted o₂ r₂ space) → (r₄ ≡ r₃ + length (decimal lower)) × (o₄ ≡ pasted o₃ r₃ (decimal lower))
-    → (r₅ ≡ r₄ + length space) × (o₅ ≡ pasted o₄ r₄ space) → (r₆ ≡ r₅ + length (upperWord upper)) × (o₆ ≡ pasted o₅ r₅ (upperWord upper))
+pub success-line :
+    (o : List ℕ) {o₁ o₂ o₃ o₄ o₅ o₆ o₇ : List ℕ} {r₁ r₂ r₃ r₄ r₅ r₆ r₇ : ℕ} (read lower : ℕ) (upper : Upper)
+    (flag : Bool)
+    → (r₁ ≡ 0 + length (successWord ++ space)) × (o₁ ≡ pasted o 0 (successWord ++ space))
+    → (r₂ ≡ r₁ + length (decimal read)) × (o₂ ≡ pasted o₁ r₁ (decimal read))
+    → (r₃ ≡ r₂ + length space) × (o₃ ≡ pasted o₂ r₂ space)
+    → (r₄ ≡ r₃ + length (decimal lower)) × (o₄ ≡ pasted o₃ r₃ (decimal lower))
+    → (r₅ ≡ r₄ + length space) × (o₅ ≡ pasted o₄ r₄ space)
+    → (r₆ ≡ r₅ + length (upperWord upper)) × (o₆ ≡ pasted o₅ r₅ (upperWord upper))
     → (r₇ ≡ r₆ + length (space ++ flagWord flag ++ break)) × (o₇ ≡ pasted o₆ r₆ (space ++ flagWord flag ++ break))
-    → (r₇ ≡ length (lineBytes (given (success (0 + read, to lower upper, flag))))) × (o₇ ≡ pasted o 0 (lineBytes (given (success (0 + read, to lower upper, flag)))))
-success-line o read lower upper flag a b c d e f g = rw (zero-add read) (put-first (put-then (put-then (put-then (put-then (put-then (put-then (wrote a) (wrote b)) (wrote c)) (wrote d)) (wrote e)) (wrote f)) (wrote g)))
+    → (r₇ ≡ length (lineBytes (given (success (0 + read, to lower upper, flag)))))
+    × (o₇ ≡ pasted o 0 (lineBytes (given (success (0 + read, to lower upper, flag)))))
+success-line o read lower upper flag a b c d e f g =
+    rw (zero-add read)
+    (put-first
+    (put-then
+    (put-then (put-then (put-then (put-then (put-then (wrote a) (wrote b)) (wrote c)) (wrote d)) (wrote e))
+    (wrote f)) (wrote g)))

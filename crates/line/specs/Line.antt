@@ -35,7 +35,8 @@ checkAndRun file report nodes rules node mode = andThen (checkAnswer nodes rules
 unfoldable pub lineAnswer : List ℕ → List ℕ → Answer (Outcome Interval)
 lineAnswer file report =
     andThen (readAnswer file (mostNodes * 4) mostRules)
-    (checkAndRun file report (nodeTable (fieldsOf file)) (ruleList (fieldsOf file)) (startNode (fieldsOf file)) (startMode (fieldsOf file)))
+    (checkAndRun file report (nodeTable (fieldsOf file)) (ruleList (fieldsOf file))
+    (startNode (fieldsOf file)) (startMode (fieldsOf file)))
 
 -- A number in decimal digits, at most so many: those of its tenth, if it is 10 or more, and the last one.
 unfoldable pub decimalTo : ℕ → ℕ → List ℕ
@@ -76,7 +77,14 @@ flagWord false = 99 ∷ 108 ∷ 101 ∷ 97 ∷ 114 ∷ []
 -- run begins at place 0, so its end place is the number of tokens read.
 abbrev pub lineBytes : Answer (Outcome Interval) → List ℕ
 lineBytes (given (success s)) =
-    successWord ++ space ++ decimal (s .0) ++ space ++ decimal (s .1 .lower) ++ space ++ upperWord (s .1 .upper) ++ (space ++ flagWord (s .2) ++ break)
+    successWord
+    ++ space
+    ++ decimal (s .0)
+    ++ space
+    ++ decimal (s .1 .lower)
+    ++ space
+    ++ upperWord (s .1 .upper)
+    ++ (space ++ flagWord (s .2) ++ break)
 lineBytes (given failure) = failureWord ++ break
 lineBytes (refused number) = refusedWord ++ space ++ decimal number ++ break
 lineBytes (refusedAt number node) = refusedWord ++ space ++ decimal number ++ space ++ decimal node ++ break

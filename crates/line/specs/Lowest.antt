@@ -22,7 +22,11 @@ pub data Gives (file report : List ℕ) (n : ℕ) : Type 0 where
   by-reader : Refuses (readAnswer file (mostNodes * 4) mostRules) n → Gives file report n
   by-check : Refuses (checkAnswer (nodeTable (fieldsOf file)) (ruleList (fieldsOf file))) n → Gives file report n
   by-scanner : Refuses (scanAnswer file report (mostTokens * 4)) n → Gives file report n
-  by-interpreter : Refuses (runAnswer (nodeTable (fieldsOf file)) (ruleList (fieldsOf file)) (wordsOf (scanTokens file report)) (startAt (startNode (fieldsOf file)) (startMode (fieldsOf file)))) n → Gives file report n
+  by-interpreter :
+      Refuses
+      (runAnswer (nodeTable (fieldsOf file)) (ruleList (fieldsOf file)) (wordsOf (scanTokens file report))
+      (startAt (startNode (fieldsOf file)) (startMode (fieldsOf file)))) n
+      → Gives file report n
 
 -- n is the lowest number that any part gives.
 pub record Lowest (file report : List ℕ) (n : ℕ) : Type 0 where

@@ -15,7 +15,8 @@ ghost use mathlib.Core.Path.{_≡_};
 ghost use Prim.Native.Nat.{_≤_, _+_};
 ghost use lib.ListN.{length};
 ghost use Rattle.interpreter.specs.Numbers.{numbers};
-ghost use Rattle.line.specs.Line.{lineAnswer, lineBytes, lineCount, lineAfter, checkAndRun, scanAndRun, upperWord, flagWord, space, break};
+ghost use Rattle.line.specs.Line.{lineAnswer, lineBytes, lineCount, lineAfter, checkAndRun, scanAndRun};
+ghost use Rattle.line.specs.Line.{upperWord, flagWord, space, break};
 ghost use mathlib.Core.List.{_++_};
 ghost use Rattle.interpreter.specs.declared.Ran.the-variants.{Success};
 ghost use Rattle.line.specs.InternalPut.{pasted};
@@ -59,7 +60,11 @@ fn answer(file: &[u8], report: &[u8]) -> Ran
 
 // The check.
 fn checked(file: &[u8], report: &[u8], nodes: &[u16], rules: &[u16], node: u16, mode: u16) -> Ran
-    ensures { λ r. ⌜ numbers 0 r ≡ checkAndRun (now (file .entry)) (now (report .entry)) (now (nodes .entry)) (now (rules .entry)) node mode ⌝ }
+    ensures { λ r. ⌜
+        numbers 0 r
+        ≡ checkAndRun (now (file .entry)) (now (report .entry)) (now (nodes .entry)) (now (rules .entry)) node
+        mode
+        ⌝ }
 {
     match well_formed::check(nodes, rules) {
         Verdict::Refused(number) => Ran::Refused(number),
@@ -70,7 +75,10 @@ fn checked(file: &[u8], report: &[u8], nodes: &[u16], rules: &[u16], node: u16, 
 
 // The scanner and the interpreter.
 fn scanned(file: &[u8], report: &[u8], nodes: &[u16], rules: &[u16], node: u16, mode: u16) -> Ran
-    ensures { λ r. ⌜ numbers 0 r ≡ scanAndRun (now (file .entry)) (now (report .entry)) (now (nodes .entry)) (now (rules .entry)) node mode ⌝ }
+    ensures { λ r. ⌜
+        numbers 0 r
+        ≡ scanAndRun (now (file .entry)) (now (report .entry)) (now (nodes .entry)) (now (rules .entry)) node mode
+        ⌝ }
 {
     let mut tokens = [0u32; 16384];
     let x = scanner::scan(file, report, &mut tokens);

@@ -68,7 +68,12 @@ module _ (o c next n after : ℕ) (rest : Move) where
   break-class Run m e p = absurd (false≢true e)
   break-class Refused m e p = absurd (false≢true e)
 
-  single-class : (k : Class) (m : Bool) → runClass k ≡ false → breakClass k ≡ false → passedBy k m ≡ false → moveBy k m o c next n after rest ≡ move false c o 1 (position (o + 1) next true)
+  single-class :
+      (k : Class) (m : Bool)
+      → runClass k ≡ false
+      → breakClass k ≡ false
+      → passedBy k m ≡ false
+      → moveBy k m o c next n after rest ≡ move false c o 1 (position (o + 1) next true)
   single-class Break m e b p = absurd (true≢false b)
   single-class Tab m e b p = absurd (true≢false p)
   single-class Blank m e b p = absurd (true≢false p)
@@ -92,7 +97,11 @@ module _ (b : ℕ) (bytes : List ℕ) (o c : ℕ) (m : Bool) where
   unfolding passedOver nextPlace
   over-move e = over-class o c (columnAfter b c) size beyond behind (classOf b) m e
 
-  pub run-move : inRun b ≡ true → nextPlace (b ∷ bytes) o c m ≡ move false c o (runLength (b ∷ bytes)) (position (o + runLength (b ∷ bytes)) (columnOver (take (runLength (b ∷ bytes)) (b ∷ bytes)) c) true)
+  pub run-move :
+      inRun b ≡ true
+      → nextPlace (b ∷ bytes) o c m
+      ≡ move false c o (runLength (b ∷ bytes))
+      (position (o + runLength (b ∷ bytes)) (columnOver (take (runLength (b ∷ bytes)) (b ∷ bytes)) c) true)
   unfolding inRun nextPlace
   run-move e = run-class o c (columnAfter b c) size beyond behind (classOf b) m e
 
@@ -100,7 +109,11 @@ module _ (b : ℕ) (bytes : List ℕ) (o c : ℕ) (m : Bool) where
   unfolding isBreak passedOver nextPlace
   break-move e p = break-class o c (columnAfter b c) size beyond behind (classOf b) m e p
 
-  pub single-move : inRun b ≡ false → isBreak b ≡ false → passedOver b m ≡ false → nextPlace (b ∷ bytes) o c m ≡ move false c o 1 (position (o + 1) (columnAfter b c) true)
+  pub single-move :
+      inRun b ≡ false
+      → isBreak b ≡ false
+      → passedOver b m ≡ false
+      → nextPlace (b ∷ bytes) o c m ≡ move false c o 1 (position (o + 1) (columnAfter b c) true)
   unfolding inRun isBreak passedOver nextPlace
   single-move e k p = single-class o c (columnAfter b c) size beyond behind (classOf b) m e k p
 
@@ -113,12 +126,19 @@ pub at-end : (text : List ℕ) (at c : ℕ) (m : Bool) → length text ≤ at �
 at-end text at c m h = ap (λ (l : List ℕ). nextPlace l at c m) (drop-of-length-le text h)
 
 -- A byte more of a run, and where a run ends.
-pub run-more : (b : ℕ) (bytes : List ℕ) (c : ℕ) → inRun b ≡ true
-    → (runLength (b ∷ bytes) ≡ suc (runLength bytes)) × (columnOver (take (runLength (b ∷ bytes)) (b ∷ bytes)) c ≡ columnOver (take (runLength bytes) bytes) (columnAfter b c))
+pub run-more :
+    (b : ℕ) (bytes : List ℕ) (c : ℕ)
+    → inRun b ≡ true
+    → (runLength (b ∷ bytes) ≡ suc (runLength bytes))
+    × (columnOver (take (runLength (b ∷ bytes)) (b ∷ bytes)) c
+    ≡ columnOver (take (runLength bytes) bytes) (columnAfter b c))
 unfolding runLength columnOver
 run-more b bytes c e = (rw e refl, rw e refl)
 
-pub run-none : (b : ℕ) (bytes : List ℕ) (c : ℕ) → inRun b ≡ false → (runLength (b ∷ bytes) ≡ 0) × (columnOver (take (runLength (b ∷ bytes)) (b ∷ bytes)) c ≡ c)
+pub run-none :
+    (b : ℕ) (bytes : List ℕ) (c : ℕ)
+    → inRun b ≡ false
+    → (runLength (b ∷ bytes) ≡ 0) × (columnOver (take (runLength (b ∷ bytes)) (b ∷ bytes)) c ≡ c)
 unfolding runLength columnOver
 run-none b bytes c e = (rw e refl, rw e refl)
 
@@ -131,12 +151,38 @@ module _ (text : List ℕ) (first start : ℕ) (m : Bool) (s : Spot) (k : Skippe
   abbrev from : Position
   from = position first start m
 
-  pub found-end : s .at ≡ length text → {f : Found} → f ≡ record { any = m; ends = true; column = s .column; offset = s .at; length = 0; at = s .at; reached = s .column; mark = false }
+  pub found-end :
+      s .at ≡ length text
+      → {f : Found}
+      → f
+      ≡ record {
+        any = m;
+        ends = true;
+        column = s .column;
+        offset = s .at;
+        length = 0;
+        at = s .at;
+        reached = s .column;
+        mark = false;
+      }
       → moveOf f ≡ nextIn text (position first start m)
   unfolding nextPlace
   found-end h e = ap moveOf e ∙ by-mark m ∙ sym (at-end text (s .at) (s .column) m (le-of-eq (sym h))) ∙ sym (k .same)
     where
-      by-mark : (n : Bool) → moveOf (record { any = n; ends = true; column = s .column; offset = s .at; length = 0; at = s .at; reached = s .column; mark = false }) ≡ nextPlace [] (s .at) (s .column) n
+      by-mark :
+          (n : Bool)
+          → moveOf
+          (record {
+            any = n;
+            ends = true;
+            column = s .column;
+            offset = s .at;
+            length = 0;
+            at = s .at;
+            reached = s .column;
+            mark = false;
+          })
+          ≡ nextPlace [] (s .at) (s .column) n
       by-mark true = refl
       by-mark false = refl
 
@@ -157,7 +203,11 @@ module _ (text : List ℕ) (first start : ℕ) (m : Bool) (s : Spot) (k : Skippe
         let n : e .at - s .at ≡ runLength (drop (s .at) text) = omega (arith, r .ends) in
         ap moveOf g
         ∙ (λ i. move false (s .column) (s .at) (n i) (position (r .ends i) (r .column i) true))
-        ∙ ap (λ (l : List ℕ). move false (s .column) (s .at) (runLength l) (position (s .at + runLength l) (columnOver (take (runLength l) l) (s .column)) true)) (from-one text (s .at) h)
+        ∙ ap
+        (λ (l : List ℕ).
+        move false (s .column) (s .at) (runLength l)
+        (position (s .at + runLength l) (columnOver (take (runLength l) l) (s .column)) true))
+        (from-one text (s .at) h)
         ∙ sym (run-move byte rest (s .at) (s .column) m q)
         ∙ back
 
@@ -166,8 +216,23 @@ module _ (text : List ℕ) (first start : ℕ) (m : Bool) (s : Spot) (k : Skippe
         → moveOf f ≡ nextIn text (position first start m)
     found-break q g = ap moveOf g ∙ sym (break-move byte rest (s .at) (s .column) m q (k .stops h)) ∙ back
 
-    pub found-single : inRun (getD text (s .at) 0) ≡ false → isBreak (getD text (s .at) 0) ≡ false → {d : ℕ} → d ≡ columnAfter (getD text (s .at) 0) (s .column) → {f : Found}
-        → f ≡ record { any = true; ends = false; column = s .column; offset = s .at; length = 1; at = s .at + 1; reached = d; mark = true }
+    pub found-single :
+        inRun (getD text (s .at) 0) ≡ false
+        → isBreak (getD text (s .at) 0) ≡ false
+        → {d : ℕ}
+        → d ≡ columnAfter (getD text (s .at) 0) (s .column)
+        → {f : Found}
+        → f
+        ≡ record {
+          any = true;
+          ends = false;
+          column = s .column;
+          offset = s .at;
+          length = 1;
+          at = s .at + 1;
+          reached = d;
+          mark = true;
+        }
         → moveOf f ≡ nextIn text (position first start m)
     found-single q b e g =
         ap moveOf g

@@ -64,7 +64,8 @@ module _ (file text : List ℕ) (later : (next : Answer (Option Token)) → andT
   step-given p s h =
       let short = short-report text (sym pass) in
       later _
-      ∙ ap₂ (λ (a b : Bool). refuseIf a 8 (refuseIf b 9 (given (Option·map tok (nextIn text p .found))))) (step-passes8 text p pass (s .room .within) (omega (arith, s .low, s .room .within))) h
+      ∙ ap₂ (λ (a b : Bool). refuseIf a 8 (refuseIf b 9 (given (Option·map tok (nextIn text p .found)))))
+      (step-passes8 text p pass (s .room .within) (omega (arith, s .low, s .room .within))) h
 
   -- One step more, by what it finds.
   by-found : (n : ℕ) (p : Position) → Standing text p → length (placesFrom text p) ≤ suc n
@@ -73,16 +74,20 @@ module _ (file text : List ℕ) (later : (next : Answer (Option Token)) → andT
   unfolding handedOut stepFails9
   by-found n p s h again none e =
       let on = onward text p (s .room) in
-      let none-left : placesFrom text p ≡ [] = on .list ∙ ap (λ (o : Option Place). listed o (placesFrom text (nextIn text p .reached))) e in
-      ap (λ (a : Answer (Option Token)). handOn a (handedOut n file text (standing a text p))) (step-given p s (ap stepFails9 e) ∙ ap (λ (o : Option Place). given (Option·map tok o)) e)
+      let none-left : placesFrom text p ≡ [] =
+      on .list ∙ ap (λ (o : Option Place). listed o (placesFrom text (nextIn text p .reached))) e in
+      ap (λ (a : Answer (Option Token)). handOn a (handedOut n file text (standing a text p)))
+      (step-given p s (ap stepFails9 e) ∙ ap (λ (o : Option Place). given (Option·map tok o)) e)
       ∙ ap (map tok) (sym none-left)
   by-found n p s h again (some q) e =
       let on = onward text p (s .room) in
       let to : Position = nextIn text p .reached in
-      let more : placesFrom text p ≡ q ∷ placesFrom text to = on .list ∙ ap (λ (o : Option Place). listed o (placesFrom text to)) e in
+      let more : placesFrom text p ≡ q ∷ placesFrom text to =
+      on .list ∙ ap (λ (o : Option Place). listed o (placesFrom text to)) e in
       let thin = thin-next q (placesFrom text to) (ap overColumn (sym more) ∙ s .thin) in
       let there : Standing text to = record { room = on .room; low = le-trans (on .wide) (s .low); thin = thin .1 } in
-      ap (λ (a : Answer (Option Token)). handOn a (handedOut n file text (standing a text p))) (step-given p s (ap stepFails9 e ∙ thin .0) ∙ ap (λ (o : Option Place). given (Option·map tok o)) e)
+      ap (λ (a : Answer (Option Token)). handOn a (handedOut n file text (standing a text p)))
+      (step-given p s (ap stepFails9 e ∙ thin .0) ∙ ap (λ (o : Option Place). given (Option·map tok o)) e)
       ∙ ap (λ (l : List Token). tok q ∷ l) (again to there (omega (arith, h, ap length more)))
       ∙ ap (map tok) (sym more)
 
@@ -93,13 +98,27 @@ module _ (file text : List ℕ) (later : (next : Answer (Option Token)) → andT
   hands-out (suc n) p s h = by-found n p s h (λ q t k. hands-out n q t k) (nextIn text p .found) refl
 
 -- The law: where a scan answers m tokens, m steps or more from the start hand out those that it writes.
-pub handed-out : (file text : List ℕ) (lent m : ℕ) → scanAnswer file text lent ≡ given m → (n : ℕ) → m ≤ n → handedOut n file text (position 0 0 false) ≡ scanTokens file text
+pub handed-out :
+    (file text : List ℕ) (lent m : ℕ)
+    → scanAnswer file text lent ≡ given m
+    → (n : ℕ)
+    → m ≤ n
+    → handedOut n file text (position 0 0 false) ≡ scanTokens file text
 unfolding scanAnswer fails9 tokens tok
 handed-out file text lent m e n h =
-    let f = file-first file text (fileAnswer file) refl m (refuseIf (fails8 text) 8 (refuseIf (fails9 text) 9 (refuseIf (fails10 text lent) 10 (given (length (places text)))))) e in
+    let f =
+    file-first file text (fileAnswer file) refl m
+    (refuseIf (fails8 text) 8
+    (refuseIf (fails9 text) 9 (refuseIf (fails10 text lent) 10 (given (length (places text)))))) e in
     let k = scan-checks file text (fails8 text) (fails9 text) (fails10 text lent) (length (places text)) m (f .0) in
-    let few : length (places text) ≤ n = counted (fails8 text) (fails9 text) (fails10 text lent) (length (places text)) m n (f .0) h in
+    let few : length (places text) ≤ n =
+    counted (fails8 text) (fails9 text) (fails10 text lent) (length (places text)) m n (f .0) h in
     let all = places-from text in
-    let start : Standing text (position 0 0 false) = record { room = record { within = omega arith; fits = omega (arith, short-report text (sym (k .0))) }; low = omega arith; thin = ap overColumn (sym all) ∙ k .1 } in
+    let start : Standing text (position 0 0 false) =
+    record {
+      room = record { within = omega arith; fits = omega (arith, short-report text (sym (k .0))) };
+      low = omega arith;
+      thin = ap overColumn (sym all) ∙ k .1;
+    } in
     hands-out file text (f .1) (k .0) n (position 0 0 false) start (rw (← all) few)
     ∙ ap (map (tokenOf (keywords (fieldsOf file)) text)) (sym all)

@@ -41,7 +41,12 @@ module _ (keywords : List (List ℕ)) where
   first-here k x h = rw (add-one, drop-cons keywords k [] h) refl
 
   -- No keyword is linked.
-  pub linked-none : (firsts nexts : List ℕ) (k : ℕ) → k ≡ length keywords → firsts ≡ replicate 4096 255 → length keywords ≤ length nexts → Linked keywords k firsts nexts
+  pub linked-none :
+      (firsts nexts : List ℕ) (k : ℕ)
+      → k ≡ length keywords
+      → firsts ≡ replicate 4096 255
+      → length keywords ≤ length nexts
+      → Linked keywords k firsts nexts
   linked-none firsts nexts k q e r =
       record {
         keys = ap length e ∙ length-replicate {A = ℕ} 4096 255;
@@ -70,8 +75,16 @@ module _ (keywords : List (List ℕ)) where
     linked-more = record { keys = simp length-set (l .keys); room = simp length-set (l .room); first = first-more; next = next-more }
 
 -- The keyword before keyword k of a file.
-pub link-next : {file offsets firsts nexts v : List ℕ} {count k x : ℕ} → Starts file count offsets → 0 < k → k ≤ count → Linked (keywordsFrom file count) k firsts nexts
-    → v ≡ valueAt file (getD offsets (k - 1) 0) → x ≡ keyOf v → x < 4096 → Linked (keywordsFrom file count) (k - 1) (set firsts x (k - 1)) (set nexts (k - 1) (getD firsts x 0))
+pub link-next :
+    {file offsets firsts nexts v : List ℕ} {count k x : ℕ}
+    → Starts file count offsets
+    → 0 < k
+    → k ≤ count
+    → Linked (keywordsFrom file count) k firsts nexts
+    → v ≡ valueAt file (getD offsets (k - 1) 0)
+    → x ≡ keyOf v
+    → x < 4096
+    → Linked (keywordsFrom file count) (k - 1) (set firsts x (k - 1)) (set nexts (k - 1) (getD firsts x 0))
 link-next {file} {offsets} {firsts} {nexts} {v} {count} {k} {x} s h a l e q b =
     let up : k ≡ k - 1 + 1 = omega arith in
     let d : k - 1 < count = omega arith in
@@ -127,7 +140,8 @@ module _ {file : List ℕ} {count : ℕ} {offsets firsts nexts : List ℕ} (x : 
   pub search-start : {key : ℕ} → key ≡ keyOf s → key < 4096 → Reached (keywordsFrom file count) s 0 (getD firsts key 0)
   search-start {key} e h = rw (x .linked .first key h, e) (reached (keywordsFrom file count) few s (length (keywordsFrom file count)) 0 (omega arith))
 
-  module _ {k : ℕ} {v : List ℕ} {t : Bool} (r : Reached (keywordsFrom file count) s 0 k) (h : k < count) (e : v ≡ valueAt file (getD offsets k 0)) (q : t ≡ sameBytes v s) where
+  module _ {k : ℕ} {v : List ℕ} {t : Bool} (r : Reached (keywordsFrom file count) s 0 k) (h : k < count)
+      (e : v ≡ valueAt file (getD offsets k 0)) (q : t ≡ sameBytes v s) where
     inside : k < length (keywordsFrom file count)
     inside = rw length-keywords h
 

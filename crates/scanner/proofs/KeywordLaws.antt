@@ -31,6 +31,12 @@ module _ (keywords : List (List ℕ)) (k : ℕ) (s : List ℕ) where
   ended h = rw (drop-of-length-le keywords {i = k} h) refl
 
 -- The same by the offset of keyword k in a file.
-pub step : (file : List ℕ) (count k : ℕ) (s : List ℕ) {at : ℕ} {v : List ℕ} {same : Bool} → at ≡ offsetOf file 4 k → k < count → v ≡ valueAt file at → same ≡ sameBytes v s
-    → terminalFrom k (drop k (keywordsFrom file count)) s ≡ cond same (3 + k) (terminalFrom (k + 1) (drop (k + 1) (keywordsFrom file count)) s)
+pub step :
+    (file : List ℕ) (count k : ℕ) (s : List ℕ) {at : ℕ} {v : List ℕ} {same : Bool}
+    → at ≡ offsetOf file 4 k
+    → k < count
+    → v ≡ valueAt file at
+    → same ≡ sameBytes v s
+    → terminalFrom k (drop k (keywordsFrom file count)) s
+    ≡ cond same (3 + k) (terminalFrom (k + 1) (drop (k + 1) (keywordsFrom file count)) s)
 step file count k s a h e t = decides (keywordsFrom file count) k s (rw length-keywords h) ∙ rw (keyword-at file count k h, ← a, ← e, ← t) refl

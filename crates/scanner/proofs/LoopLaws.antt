@@ -123,8 +123,11 @@ module _ (keywords : List (List ℕ)) (text old : List ℕ) where
       unfolding tokens
       writing-ends h =
           let none-left = no-more text p (k .room) f e h in
-          let whole : k .done ≡ places text = sym (append-nil (k .done)) ∙ ap (λ (l : List Place). k .done ++ l) (sym none-left) ∙ k .all in
-          k .words ∙ ap (λ (n : ℕ). wordsOf (map (tokenOf keywords text) (k .done)) ++ drop n old) (k .at) ∙ ap (λ (l : List Place). wordsOf (map (tokenOf keywords text) l) ++ drop (length l * 4) old) whole
+          let whole : k .done ≡ places text =
+          sym (append-nil (k .done)) ∙ ap (λ (l : List Place). k .done ++ l) (sym none-left) ∙ k .all in
+          k .words
+          ∙ ap (λ (n : ℕ). wordsOf (map (tokenOf keywords text) (k .done)) ++ drop n old) (k .at)
+          ∙ ap (λ (l : List Place). wordsOf (map (tokenOf keywords text) l) ++ drop (length l * 4) old) whole
 
       module _ (h : f .any ≡ true) (fits : length (places text) * 4 ≤ length old) where
         pub writing-room : to + 3 < length old
@@ -138,11 +141,16 @@ module _ (keywords : List (List ℕ)) (text old : List ℕ) where
             record {
               done = k .done ++ (placeOf f ∷ []);
               room = room-behind text p (k .room) f e;
-              all = append-assoc (k .done) (placeOf f ∷ []) (placesFrom text (behind f)) ∙ ap (λ (l : List Place). k .done ++ l) (sym (one-more text p (k .room) f e h)) ∙ k .all;
+              all = append-assoc (k .done) (placeOf f ∷ []) (placesFrom text (behind f))
+                  ∙ ap (λ (l : List Place). k .done ++ l) (sym (one-more text p (k .room) f e h))
+                  ∙ k .all;
               at = simp length-append (omega (arith, k .at));
-              words =
-                  ap (λ (l : List ℕ). set (set (set (set l to t) (to + 1) (f .column)) (to + 2) (f .offset)) (to + 3) (f .length)) (k .words)
-                  ∙ four-more (wordsOf (map tok (k .done))) old to t (f .column) (f .offset) (f .length) front writing-room
+              words = ap
+                  (λ (l : List ℕ).
+                  set (set (set (set l to t) (to + 1) (f .column)) (to + 2) (f .offset)) (to + 3) (f .length))
+                  (k .words)
+                  ∙ four-more (wordsOf (map tok (k .done))) old to t (f .column) (f .offset) (f .length) front
+                  writing-room
                   ∙ ap (λ (l : List ℕ). l ++ drop (to + 4) old)
                   (ap (λ (u : ℕ). wordsOf (map tok (k .done)) ++ (u ∷ f .column ∷ f .offset ∷ f .length ∷ [])) q
                   ∙ sym (words-append tokenWords (map tok (k .done)) (tok (placeOf f) ∷ []))

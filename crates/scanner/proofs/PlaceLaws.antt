@@ -26,8 +26,11 @@ placesOf [] o c m mid = lineEnd m c o
 placesOf (b ∷ bytes) o c m mid = placeBy (classOf b) m mid c o (runLength (b ∷ bytes)) ++ placesOf bytes (o + 1) (columnAfter b c) (markAfter b m) (inRun b)
 
 -- The definition by offsets walks through the bytes.
-walks : (text : List ℕ) (n i : ℕ) → i + n ≡ length text
-    → placesAt text i n ++ lineEnd (hadToken text (length text)) (columnAt text (length text)) (length text) ≡ placesOf (drop i text) i (columnAt text i) (hadToken text i) (midRun text i)
+walks :
+    (text : List ℕ) (n i : ℕ)
+    → i + n ≡ length text
+    → placesAt text i n ++ lineEnd (hadToken text (length text)) (columnAt text (length text)) (length text)
+    ≡ placesOf (drop i text) i (columnAt text i) (hadToken text i) (midRun text i)
 unfolding placesAt placesOf placeAt hadToken columnAt midRun
 walks text zero i e =
     let k : length text ≡ i = omega arith in
@@ -35,9 +38,18 @@ walks text zero i e =
 walks text (suc n) i e =
     append-assoc (placeAt text i) (placesAt text (suc i) n) _
     ∙ ap (λ (l : List Place). placeAt text i ++ l) (walks text n (suc i) (omega arith))
-    ∙ sym (ap (λ (l : List ℕ). placesOf l i (columnAt text i) (hadToken text i) (midRun text i)) (from-one text i (omega arith))
-    ∙ ap₂ _++_ (ap (λ (l : List ℕ). placeBy (classOf (getD text i 0)) (hadToken text i) (midRun text i) (columnAt text i) i (runLength l)) (sym (from-one text i (omega arith))))
-    (ap (λ (j : ℕ). placesOf (drop j text) j (columnAfter (getD text i 0) (columnAt text i)) (markAfter (getD text i 0) (hadToken text i)) (inRun (getD text i 0))) (add-one i)))
+    ∙ sym
+    (ap (λ (l : List ℕ). placesOf l i (columnAt text i) (hadToken text i) (midRun text i))
+    (from-one text i (omega arith))
+    ∙ ap₂ _++_
+    (ap
+    (λ (l : List ℕ).
+    placeBy (classOf (getD text i 0)) (hadToken text i) (midRun text i) (columnAt text i) i (runLength l))
+    (sym (from-one text i (omega arith))))
+    (ap
+    (λ (j : ℕ).
+    placesOf (drop j text) j (columnAfter (getD text i 0) (columnAt text i))
+    (markAfter (getD text i 0) (hadToken text i)) (inRun (getD text i 0))) (add-one i)))
 
 pub places-walked : (text : List ℕ) → places text ≡ placesOf text 0 0 false false
 unfolding places hadToken columnAt midRun
@@ -103,14 +115,24 @@ single-places Run m c o n e b p = absurd (true≢false e)
 single-places Refused m c o n e b p = absurd (true≢false p)
 
 -- The bytes behind the first of a run.
-run-skip : (bytes : List ℕ) (o c : ℕ) → placesOf bytes o c true true ≡ placesOf (drop (runLength bytes) bytes) (o + runLength bytes) (columnOver (take (runLength bytes) bytes) c) true false
+run-skip :
+    (bytes : List ℕ) (o c : ℕ)
+    → placesOf bytes o c true true
+    ≡ placesOf (drop (runLength bytes) bytes) (o + runLength bytes) (columnOver (take (runLength bytes) bytes) c) true
+    false
 unfolding placesOf runLength columnOver inRun markAfter
 run-skip [] o c = rw add-zero refl
 run-skip (b ∷ bytes) o c = by-test (inRun b) refl (run-skip bytes (o + 1) (columnAfter b c))
   where
-    by-test : (t : Bool) → inRun b ≡ t
-        → placesOf bytes (o + 1) (columnAfter b c) true true ≡ placesOf (drop (runLength bytes) bytes) (o + 1 + runLength bytes) (columnOver (take (runLength bytes) bytes) (columnAfter b c)) true false
-        → placesOf (b ∷ bytes) o c true true ≡ placesOf (drop (runLength (b ∷ bytes)) (b ∷ bytes)) (o + runLength (b ∷ bytes)) (columnOver (take (runLength (b ∷ bytes)) (b ∷ bytes)) c) true false
+    by-test :
+        (t : Bool)
+        → inRun b ≡ t
+        → placesOf bytes (o + 1) (columnAfter b c) true true
+        ≡ placesOf (drop (runLength bytes) bytes) (o + 1 + runLength bytes)
+        (columnOver (take (runLength bytes) bytes) (columnAfter b c)) true false
+        → placesOf (b ∷ bytes) o c true true
+        ≡ placesOf (drop (runLength (b ∷ bytes)) (b ∷ bytes)) (o + runLength (b ∷ bytes))
+        (columnOver (take (runLength (b ∷ bytes)) (b ∷ bytes)) c) true false
     by-test true e ih =
         let n : ℕ = runLength bytes in
         let mid = mid-run (classOf b) true c o (suc n) e in
@@ -163,7 +185,11 @@ falls-more none a b x y e l h = tt
 falls-more (some p) a b x y e l h = omega arith
 
 -- A byte that is passed over.
-goes-over : (b : ℕ) (bytes : List ℕ) (o c : ℕ) (m : Bool) → passedOver b m ≡ true → Goes bytes (o + 1) (columnAfter b c) m (nextPlace bytes (o + 1) (columnAfter b c) m) → Goes (b ∷ bytes) o c m (nextPlace (b ∷ bytes) o c m)
+goes-over :
+    (b : ℕ) (bytes : List ℕ) (o c : ℕ) (m : Bool)
+    → passedOver b m ≡ true
+    → Goes bytes (o + 1) (columnAfter b c) m (nextPlace bytes (o + 1) (columnAfter b c) m)
+    → Goes (b ∷ bytes) o c m (nextPlace (b ∷ bytes) o c m)
 unfolding passedOver placesOf markAfter inRun
 goes-over b bytes o c m e g =
     let v = nextPlace bytes (o + 1) (columnAfter b c) m in
@@ -176,13 +202,19 @@ goes-over b bytes o c m e g =
       reached = omega (arith, g .reached);
       within = omega (arith, g .within);
       wide = omega (arith, g .wide, column-grows b c);
-      list =
-          ap₂ (λ (l : List Place) (k : Bool). l ++ placesOf bytes (o + 1) (columnAfter b c) k (runClass (classOf b))) (q .0) (q .1)
+      list = ap₂
+          (λ (l : List Place) (k : Bool).
+          l ++ placesOf bytes (o + 1) (columnAfter b c) k (runClass (classOf b))) (q .0) (q .1)
           ∙ ap (λ (t : Bool). placesOf bytes (o + 1) (columnAfter b c) m t) (q .2)
           ∙ g .list
-          ∙ ap (λ (j : ℕ). listed (v .found) (placesOf (drop (g .steps) bytes) j (v .reached .column) (v .reached .mark) false)) on;
+          ∙ ap
+          (λ (j : ℕ).
+          listed (v .found) (placesOf (drop (g .steps) bytes) j (v .reached .column) (v .reached .mark) false))
+          on;
       inside = inside-same (v .found) (o + 1 + length bytes) (o + suc (length bytes)) end (g .inside);
-      falls = falls-more (v .found) (2 * (length bytes - g .steps) + bit (v .reached .mark)) (2 * (suc (length bytes) - suc (g .steps)) + bit (v .reached .mark)) (2 * length bytes + bit m) (2 * suc (length bytes) + bit m) (omega arith) (omega arith) (g .falls);
+      falls = falls-more (v .found) (2 * (length bytes - g .steps) + bit (v .reached .mark))
+          (2 * (suc (length bytes) - suc (g .steps)) + bit (v .reached .mark)) (2 * length bytes + bit m)
+          (2 * suc (length bytes) + bit m) (omega arith) (omega arith) (g .falls);
     })
 
 -- A run is no longer than the bytes, and its columns grow by 8 a byte at most.
@@ -215,10 +247,14 @@ goes-run b bytes o c m e =
       reached = refl;
       within = omega (arith, w);
       wide = omega (arith, w, over-grows n bytes (columnAfter b c) w, column-grows b c);
-      list =
-          ap₂ (λ (l : List Place) (k : Bool). l ++ placesOf bytes (o + 1) (columnAfter b c) k (inRun b)) (first-run (classOf b) m c o (runLength (b ∷ bytes)) e ∙ ap (spelling c o) (r .0)) (mid-run (classOf b) m c o 0 e .1)
+      list = ap₂ (λ (l : List Place) (k : Bool). l ++ placesOf bytes (o + 1) (columnAfter b c) k (inRun b))
+          (first-run (classOf b) m c o (runLength (b ∷ bytes)) e ∙ ap (spelling c o) (r .0))
+          (mid-run (classOf b) m c o 0 e .1)
           ∙ ap (λ (t : Bool). spelling c o (suc n) ++ placesOf bytes (o + 1) (columnAfter b c) true t) e
-          ∙ ap (λ (l : List Place). spelling c o (suc n) ++ l) (run-skip bytes (o + 1) (columnAfter b c) ∙ ap (λ (j : ℕ). placesOf (drop n bytes) j (columnOver (take n bytes) (columnAfter b c)) true false) on);
+          ∙ ap (λ (l : List Place). spelling c o (suc n) ++ l)
+          (run-skip bytes (o + 1) (columnAfter b c)
+          ∙ ap (λ (j : ℕ). placesOf (drop n bytes) j (columnOver (take n bytes) (columnAfter b c)) true false)
+          on);
       inside = omega (arith, w);
       falls = omega (arith, w);
     })
@@ -241,7 +277,12 @@ goes-break b bytes o c m e p =
       falls = omega arith;
     })
 
-goes-single : (b : ℕ) (bytes : List ℕ) (o c : ℕ) (m : Bool) → inRun b ≡ false → isBreak b ≡ false → passedOver b m ≡ false → Goes (b ∷ bytes) o c m (nextPlace (b ∷ bytes) o c m)
+goes-single :
+    (b : ℕ) (bytes : List ℕ) (o c : ℕ) (m : Bool)
+    → inRun b ≡ false
+    → isBreak b ≡ false
+    → passedOver b m ≡ false
+    → Goes (b ∷ bytes) o c m (nextPlace (b ∷ bytes) o c m)
 unfolding placesOf markAfter inRun isBreak passedOver
 goes-single b bytes o c m e k p =
     let q = single-places (classOf b) m c o (runLength (b ∷ bytes)) e k p in
@@ -300,16 +341,24 @@ onward text p r =
     let n : length (drop o text) ≡ length text - o = length-drop o text in
     let at : v .reached .offset ≡ o + g .steps = g .reached in
     record {
-      room = record { within = omega (arith, g .within, r .within); fits = omega (arith, g .within, g .wide, r .within, r .fits) };
+      room =
+          record {
+            within = omega (arith, g .within, r .within);
+            fits = omega (arith, g .within, g .wide, r .within, r .fits);
+          };
       wide = omega (arith, g .within, g .wide, r .within);
-      list =
-          g .list
-          ∙ ap (λ (l : List ℕ). listed (v .found) (placesOf l (o + g .steps) (v .reached .column) (v .reached .mark) false)) (drop-drop (g .steps) o text)
-          ∙ ap (λ (j : ℕ). listed (v .found) (placesOf (drop j text) j (v .reached .column) (v .reached .mark) false)) (sym at);
-      inside = inside-same (v .found) (o + length (drop o text)) (length text) (omega (arith, r .within)) (g .inside);
-      falls =
-          falls-more (v .found) (2 * (length (drop o text) - g .steps) + bit (v .reached .mark)) (2 * (length text - v .reached .offset) + bit (v .reached .mark)) (2 * length (drop o text) + bit (p .mark)) (2 * (length text - o) + bit (p .mark))
-          (omega (arith, r .within, g .within)) (omega arith) (g .falls);
+      list = g .list
+          ∙ ap
+          (λ (l : List ℕ).
+          listed (v .found) (placesOf l (o + g .steps) (v .reached .column) (v .reached .mark) false))
+          (drop-drop (g .steps) o text)
+          ∙ ap (λ (j : ℕ). listed (v .found) (placesOf (drop j text) j (v .reached .column) (v .reached .mark) false))
+          (sym at);
+      inside = inside-same (v .found) (o + length (drop o text)) (length text) (omega (arith, r .within))
+          (g .inside);
+      falls = falls-more (v .found) (2 * (length (drop o text) - g .steps) + bit (v .reached .mark))
+          (2 * (length text - v .reached .offset) + bit (v .reached .mark)) (2 * length (drop o text) + bit (p .mark))
+          (2 * (length text - o) + bit (p .mark)) (omega (arith, r .within, g .within)) (omega arith) (g .falls);
     }
 
 -- From the start a text has its places.

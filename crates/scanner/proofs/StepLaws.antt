@@ -64,14 +64,26 @@ module _ (file text : List ℕ) (p : Position) where
   module _ (x : Contents) (g : given x ≡ fileAnswer file) where
     pub step-8 : {s : Step} → s ≡ record { handed = Refused 8; at = p .offset; column = p .column; mark = p .mark } → stepFails8 text p ≡ true → Right s
     unfolding stepAnswer
-    step-8 e h = stays 8 e (ap (λ (b : Bool). refuseIf b 8 (refuseIf (stepFails9 (nextIn text p .found)) 9 (given (Option·map (tokenOf (keywords (fieldsOf file)) text) (nextIn text p .found))))) (sym h) ∙ first-passes _ g)
+    step-8 e h =
+        stays 8 e
+        (ap
+        (λ (b : Bool).
+        refuseIf b 8
+        (refuseIf (stepFails9 (nextIn text p .found)) 9
+        (given (Option·map (tokenOf (keywords (fieldsOf file)) text) (nextIn text p .found))))) (sym h)
+        ∙ first-passes _ g)
 
     module _ (h : stepFails8 text p ≡ false) (f : Found) (v : moveOf f ≡ nextIn text p) where
       pub step-9 : {s : Step} → s ≡ record { handed = Refused 9; at = p .offset; column = p .column; mark = p .mark } → stepFails9 (moveOf f .found) ≡ true → Right s
       unfolding stepAnswer
       step-9 e w =
           stays 9 e
-          (ap₂ (λ (a b : Bool). refuseIf a 8 (refuseIf b 9 (given (Option·map (tokenOf (keywords (fieldsOf file)) text) (nextIn text p .found))))) (sym h) (sym w ∙ ap (λ m. stepFails9 (m .found)) v)
+          (ap₂
+          (λ (a b : Bool).
+          refuseIf a 8
+          (refuseIf b 9
+          (given (Option·map (tokenOf (keywords (fieldsOf file)) text) (nextIn text p .found))))) (sym h)
+          (sym w ∙ ap (λ m. stepFails9 (m .found)) v)
           ∙ first-passes _ g)
 
       pub step-on : {s : Step} (ks : List (List ℕ)) → keywords (fieldsOf file) ≡ ks → HandsOut ks text f s → stepFails9 (moveOf f .found) ≡ false → Right s
@@ -79,7 +91,12 @@ module _ (file text : List ℕ) (p : Position) where
       step-on ks q o w =
           let token = o .token ∙ ap₂ (λ k m. given (Option·map (tokenOf k text) (m .found))) (sym q) v in (
             token
-                ∙ ap₂ (λ (a b : Bool). refuseIf a 8 (refuseIf b 9 (given (Option·map (tokenOf (keywords (fieldsOf file)) text) (nextIn text p .found))))) (sym h) (sym w ∙ ap (λ m. stepFails9 (m .found)) v)
+                ∙ ap₂
+                (λ (a b : Bool).
+                refuseIf a 8
+                (refuseIf b 9
+                (given (Option·map (tokenOf (keywords (fieldsOf file)) text) (nextIn text p .found))))) (sym h)
+                (sym w ∙ ap (λ m. stepFails9 (m .found)) v)
                 ∙ first-passes _ g,
             o .reached ∙ ap (λ m. m .reached) v ∙ ap (λ a. standing a text p) (sym token),
           )
@@ -102,7 +119,10 @@ module _ (file text : List ℕ) (lent : ℕ) where
 
   pub few-words : lent / 4 < length (places text) → fails10 text lent ≡ true
   unfolding fails10
-  few-words h = ap (λ (b : Bool). ltb mostTokens (length (places text)) || b) (lt-ltb lent (length (places text) * 4) (omega arith)) ∙ or-true (ltb mostTokens (length (places text)))
+  few-words h =
+      ap (λ (b : Bool). ltb mostTokens (length (places text)) || b)
+      (lt-ltb lent (length (places text) * 4) (omega arith))
+      ∙ or-true (ltb mostTokens (length (places text)))
 
   pub enough-words : length (places text) ≤ mostTokens → length (places text) ≤ lent / 4 → fails10 text lent ≡ false
   unfolding fails10
@@ -114,5 +134,8 @@ pub words-after : (file text : List ℕ) (ks : List (List ℕ)) → keywords (fi
 unfolding tokens
 words-after file text ks q old n e =
     e
-    ∙ ap (λ (k : ℕ). wordsOf (tokens ks text) ++ drop k old) (sym (length-words tokenWords (λ t. refl) (tokens ks text) ∙ ap (λ (k : ℕ). k * 4) (length-map (places text) (tokenOf ks text))))
+    ∙ ap (λ (k : ℕ). wordsOf (tokens ks text) ++ drop k old)
+    (sym
+    (length-words tokenWords (λ t. refl) (tokens ks text)
+    ∙ ap (λ (k : ℕ). k * 4) (length-map (places text) (tokenOf ks text))))
     ∙ ap (λ (k : List (List ℕ)). wordsOf (tokens k text) ++ drop (length (wordsOf (tokens k text))) old) (sym q)

@@ -23,7 +23,11 @@ pub record Linked (keywords : List (List ℕ)) (k : ℕ) (firsts nexts : List �
   pub keys : length firsts ≡ 4096
   pub room : length keywords ≤ length nexts
   pub first : (x : ℕ) → x < 4096 → getD firsts x 0 ≡ firstOf k (drop k keywords) x
-  pub next : (i : ℕ) → k ≤ i → i < length keywords → getD nexts i 0 ≡ firstOf (i + 1) (drop (i + 1) keywords) (keyOf (getD keywords i []))
+  pub next :
+      (i : ℕ)
+      → k ≤ i
+      → i < length keywords
+      → getD nexts i 0 ≡ firstOf (i + 1) (drop (i + 1) keywords) (keyOf (getD keywords i []))
 
 pub record Indexed (file : List ℕ) (count : ℕ) (offsets firsts nexts : List ℕ) : Type 0 where
   pub few : count ≤ 253

@@ -53,8 +53,8 @@ unfoldable pub nextPlace : List ℕ → ℕ → ℕ → Bool → Move
 nextPlace [] o c true = move true c o 0 (position o c false)
 nextPlace [] o c false = record { found = none; reached = position o c false }
 nextPlace (b ∷ bytes) o c m =
-    moveBy (classOf b) m o c (columnAfter b c) (runLength (b ∷ bytes)) (columnOver (take (runLength (b ∷ bytes)) (b ∷ bytes)) c)
-    (nextPlace bytes (o + 1) (columnAfter b c) m)
+    moveBy (classOf b) m o c (columnAfter b c) (runLength (b ∷ bytes))
+    (columnOver (take (runLength (b ∷ bytes)) (b ∷ bytes)) c) (nextPlace bytes (o + 1) (columnAfter b c) m)
 
 -- From a position in a text.
 abbrev pub nextIn : List ℕ → Position → Move

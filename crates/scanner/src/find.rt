@@ -85,7 +85,19 @@ pub(crate) fn find(report: &[u8], at: usize, column: u32, mark: bool) -> Found
 
 // The end of a line that has had a token, or nothing.
 fn line_end(any: bool, column: u32, offset: usize, at: usize, reached: u32) -> Found
-    ensures { λ r. ⌜ r ≡ record { any = any; ends = true; column = column; offset = offset; length = 0; at = at; reached = reached; mark = false } ⌝ }
+    ensures { λ r. ⌜
+        r
+        ≡ record {
+          any = any;
+          ends = true;
+          column = column;
+          offset = offset;
+          length = 0;
+          at = at;
+          reached = reached;
+          mark = false;
+        }
+        ⌝ }
 {
     Found {
         any,
@@ -101,7 +113,19 @@ fn line_end(any: bool, column: u32, offset: usize, at: usize, reached: u32) -> F
 
 // A single byte or a run.
 fn spelling(column: u32, offset: usize, length: usize, at: usize, reached: u32) -> Found
-    ensures { λ r. ⌜ r ≡ record { any = true; ends = false; column = column; offset = offset; length = length; at = at; reached = reached; mark = true } ⌝ }
+    ensures { λ r. ⌜
+        r
+        ≡ record {
+          any = true;
+          ends = false;
+          column = column;
+          offset = offset;
+          length = length;
+          at = at;
+          reached = reached;
+          mark = true;
+        }
+        ⌝ }
 {
     Found {
         any: true,

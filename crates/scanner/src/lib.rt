@@ -26,6 +26,7 @@ use find::find;
 use grammar_file::FileRead;
 use index::link;
 use index::starts;
+use table::refusals;
 use terminals::indexed;
 use terminals::terminal;
 
@@ -73,8 +74,14 @@ struct Tally {
 
 // Writes the tokens of a report by a grammar file's keywords, four words each.
 pub fn scan(file: &[u8], report: &[u8], tokens: &mut [u32]) -> Scanned
-    ensures { λ r. ⌜ scanNumbers r ≡ scanAnswer (now (file .entry)) (now (report .entry)) (length (now (tokens .entry))) ⌝ }
-    ensures { λ r. ⌜ now (tokens .exit) ≡ afterwards (scanNumbers r) (wordsOf (scanTokens (now (file .entry)) (now (report .entry)))) (now (tokens .entry)) ⌝ }
+    ensures { λ r. ⌜
+        scanNumbers r ≡ scanAnswer (now (file .entry)) (now (report .entry)) (length (now (tokens .entry)))
+        ⌝ }
+    ensures { λ r. ⌜
+        now (tokens .exit)
+        ≡ afterwards (scanNumbers r) (wordsOf (scanTokens (now (file .entry)) (now (report .entry))))
+        (now (tokens .entry))
+        ⌝ }
 {
     let read = grammar_file::check(file);
     match read {
@@ -87,18 +94,18 @@ pub fn scan(file: &[u8], report: &[u8], tokens: &mut [u32]) -> Scanned
             mode: _,
         } => {
             if refused(report) {
-                return Scanned::Refused(8);
+                return Scanned::Refused(refusals::REPORT);
             }
             let m = measure(report);
             if m.over {
-                return Scanned::Refused(9);
+                return Scanned::Refused(refusals::COLUMN);
             }
             let count = m.count;
             if count > TOKENS {
-                return Scanned::Refused(10);
+                return Scanned::Refused(refusals::TOKEN_ROOM);
             }
             if tokens.len() / 4 < count {
-                return Scanned::Refused(10);
+                return Scanned::Refused(refusals::TOKEN_ROOM);
             }
             write(file, keywords, report, tokens);
             Scanned::Tokens(count)
@@ -108,7 +115,9 @@ pub fn scan(file: &[u8], report: &[u8], tokens: &mut [u32]) -> Scanned
 
 // The next token of a report from an offset, a column and a mark on, and the position behind it.
 pub fn next_token(file: &[u8], report: &[u8], at: usize, column: u32, mark: bool) -> Step
-    ensures { λ r. ⌜ stepNumbers (r .handed) ≡ stepAnswer (now (file .entry)) (now (report .entry)) (position at column mark) ⌝ }
+    ensures { λ r. ⌜
+        stepNumbers (r .handed) ≡ stepAnswer (now (file .entry)) (now (report .entry)) (position at column mark)
+        ⌝ }
     ensures { λ r. ⌜ positionOf r ≡ standing (stepNumbers (r .handed)) (now (report .entry)) (position at column mark) ⌝ }
 {
     let read = grammar_file::check(file);
@@ -122,17 +131,17 @@ pub fn next_token(file: &[u8], report: &[u8], at: usize, column: u32, mark: bool
             mode: _,
         } => {
             if refused(report) {
-                return stay(8, at, column, mark);
+                return stay(refusals::REPORT, at, column, mark);
             }
             if report.len() < at {
-                return stay(8, at, column, mark);
+                return stay(refusals::REPORT, at, column, mark);
             }
             if LAST_STEP < column {
-                return stay(8, at, column, mark);
+                return stay(refusals::REPORT, at, column, mark);
             }
             let f = find(report, at, column, mark);
             if too_wide(f) {
-                return stay(9, at, column, mark);
+                return stay(refusals::COLUMN, at, column, mark);
             }
             hand_out(file, keywords, report, f)
         }
@@ -189,7 +198,11 @@ fn hand_out(file: &[u8], keywords: usize, report: &[u8], f: Found) -> Step
 fn terminal_at(file: &[u8], keywords: usize, report: &[u8], f: Found) -> u32
     requires { ⌜ Ready (now report) keywords f ⌝ }
     requires { ⌜ f .any ≡ true ⌝ }
-    ensures { λ r. ⌜ r ≡ terminalAt (keywordsFrom (now (file .entry)) keywords) (now (report .entry)) (f .ends) (f .offset) (f .length) ⌝ }
+    ensures { λ r. ⌜
+        r
+        ≡ terminalAt (keywordsFrom (now (file .entry)) keywords) (now (report .entry)) (f .ends) (f .offset)
+        (f .length)
+        ⌝ }
 {
     if f.ends {
         return 2;
@@ -209,7 +222,11 @@ fn indexed_at(
 ) -> u32
     requires { ⌜ Indexed (now file) keywords (now offsets) (now firsts) (now nexts) ⌝ }
     requires { ⌜ f .offset + f .length ≤ length (now report) ⌝ }
-    ensures { λ r. ⌜ r ≡ terminalAt (keywordsFrom (now (file .entry)) keywords) (now (report .entry)) (f .ends) (f .offset) (f .length) ⌝ }
+    ensures { λ r. ⌜
+        r
+        ≡ terminalAt (keywordsFrom (now (file .entry)) keywords) (now (report .entry)) (f .ends) (f .offset)
+        (f .length)
+        ⌝ }
 {
     if f.ends {
         return 2;
@@ -279,7 +296,11 @@ fn write(file: &[u8], keywords: usize, report: &[u8], tokens: &mut [u32])
     requires { ⌜ keywords ≤ 253 ⌝ }
     requires { ⌜ length (now report) ≤ 65535 ⌝ }
     requires { ⌜ length (places (now report)) * 4 ≤ length (now tokens) ⌝ }
-    ensures { λ _. ⌜ now (tokens .exit) ≡ wordsOf (tokensOf (keywordsFrom (now (file .entry)) keywords) (now (report .entry))) ++ drop (length (places (now (report .entry))) * 4) (now (tokens .entry)) ⌝ }
+    ensures { λ _. ⌜
+        now (tokens .exit)
+        ≡ wordsOf (tokensOf (keywordsFrom (now (file .entry)) keywords) (now (report .entry)))
+        ++ drop (length (places (now (report .entry))) * 4) (now (tokens .entry))
+        ⌝ }
 {
     let mut offsets = [0usize; 253];
     let mut firsts = [255u8; 4096];
@@ -302,7 +323,11 @@ fn write_all(
     requires { ⌜ Indexed (now file) keywords (now offsets) (now firsts) (now nexts) ⌝ }
     requires { ⌜ length (now report) ≤ 65535 ⌝ }
     requires { ⌜ length (places (now report)) * 4 ≤ length (now tokens) ⌝ }
-    ensures { λ _. ⌜ now (tokens .exit) ≡ wordsOf (tokensOf (keywordsFrom (now (file .entry)) keywords) (now (report .entry))) ++ drop (length (places (now (report .entry))) * 4) (now (tokens .entry)) ⌝ }
+    ensures { λ _. ⌜
+        now (tokens .exit)
+        ≡ wordsOf (tokensOf (keywordsFrom (now (file .entry)) keywords) (now (report .entry)))
+        ++ drop (length (places (now (report .entry))) * 4) (now (tokens .entry))
+        ⌝ }
 {
     let mut to = 0;
     let mut at = 0;

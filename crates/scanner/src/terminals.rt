@@ -68,7 +68,11 @@ fn keyword_terminal(k: usize) -> u32
 // The end of the digits from an index on.
 fn digits_end(s: &[u8], from: usize) -> usize
     requires { ⌜ from ≤ length (now s) ⌝ }
-    ensures { λ r. ⌜ (from ≤ r) × (r ≤ length (now (s .entry))) × (drop r (now (s .entry)) ≡ afterDigits (drop from (now (s .entry)))) ⌝ }
+    ensures { λ r. ⌜
+        (from ≤ r)
+        × (r ≤ length (now (s .entry)))
+        × (drop r (now (s .entry)) ≡ afterDigits (drop from (now (s .entry))))
+        ⌝ }
 {
     let mut i = from;
     while i < s.len() {

@@ -28,8 +28,16 @@ impl<'a> Scanner<'a> {
 
     // Hands out the next token; a refused call leaves the value unchanged.
     pub fn next(&mut self, file: &[u8]) -> Handed
-        ensures { λ r. ⌜ numbers r ≡ stepAnswer (now (file .entry)) (now (now (self .entry) .report)) (position (now (self .entry) .at) (now (self .entry) .column) (now (self .entry) .mark)) ⌝ }
-        ensures { λ r. ⌜ position (now (self .exit) .at) (now (self .exit) .column) (now (self .exit) .mark) ≡ standing (numbers r) (now (now (self .entry) .report)) (position (now (self .entry) .at) (now (self .entry) .column) (now (self .entry) .mark)) ⌝ }
+        ensures { λ r. ⌜
+            numbers r
+            ≡ stepAnswer (now (file .entry)) (now (now (self .entry) .report))
+            (position (now (self .entry) .at) (now (self .entry) .column) (now (self .entry) .mark))
+            ⌝ }
+        ensures { λ r. ⌜
+            position (now (self .exit) .at) (now (self .exit) .column) (now (self .exit) .mark)
+            ≡ standing (numbers r) (now (now (self .entry) .report))
+            (position (now (self .entry) .at) (now (self .entry) .column) (now (self .entry) .mark))
+            ⌝ }
         ensures { λ _. ⌜ now (self .exit) .report ≡ now (self .entry) .report ⌝ }
     {
         let step = scanner::next_token(file, self.report, self.at, self.column, self.mark);

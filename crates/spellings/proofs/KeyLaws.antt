@@ -35,11 +35,24 @@ module _ {names : List (List ℕ)} where
       }
 
   -- A spelling whose key is not marked is none of the first j.
-  unmarked : {j : ℕ} {met : List Bool} (s : List ℕ) → Met names j met → getD met (keyOf s) false ≡ false → (i : ℕ) → i < j → (b : Bool) → sameBytes (getD names i []) s ≡ b → not b ≡ true
+  unmarked :
+      {j : ℕ} {met : List Bool} (s : List ℕ)
+      → Met names j met
+      → getD met (keyOf s) false ≡ false
+      → (i : ℕ)
+      → i < j
+      → (b : Bool)
+      → sameBytes (getD names i []) s ≡ b
+      → not b ≡ true
   unmarked s m e i a false p = refl
   unmarked {j} {met} s m e i a true p =
       absurd (false≢true (sym e ∙ rw (← same-exactly (getD names i []) s .0 p) (m .marked i a)))
 
-  pub none-same : {j h : ℕ} {met : List Bool} (s : List ℕ) → Met names j met → h ≡ keyOf s → getD met h false ≡ false → every j (λ i. not (sameBytes (getD names i []) s)) ≡ true
+  pub none-same :
+      {j h : ℕ} {met : List Bool} (s : List ℕ)
+      → Met names j met
+      → h ≡ keyOf s
+      → getD met h false ≡ false
+      → every j (λ i. not (sameBytes (getD names i []) s)) ≡ true
   none-same {j} {h} {met} s m k e =
       every-each j _ (λ i a. unmarked s m (ap (λ (x : ℕ). getD met x false) (sym k) ∙ e) i a (sameBytes (getD names i []) s) refl)

@@ -57,11 +57,23 @@ module _ {file : List ℕ} {first count skip : ℕ} {test : ℕ → List ℕ →
   passed-none = record { within = omega arith; stands = refl; right = refl }
 
   -- The spelling that it stands before.
-  pub here : {i at : ℕ} {s : List ℕ} → Passed file first count skip test i at → i < count → s ≡ drop skip (valueAt file at) → getD (spellingsFrom file first count skip) i [] ≡ s
+  pub here :
+      {i at : ℕ} {s : List ℕ}
+      → Passed file first count skip test i at
+      → i < count
+      → s ≡ drop skip (valueAt file at)
+      → getD (spellingsFrom file first count skip) i [] ≡ s
   here p h e = rw (spelling-from file first count skip _ h, ← p .stands, ← e)
 
   -- A right one is passed.
-  pub passed-more : {i at next : ℕ} {s : List ℕ} → Passed file first count skip test i at → i < count → s ≡ drop skip (valueAt file at) → test i s ≡ true → next ≡ nextAt file at → Passed file first count skip test (i + 1) next
+  pub passed-more :
+      {i at next : ℕ} {s : List ℕ}
+      → Passed file first count skip test i at
+      → i < count
+      → s ≡ drop skip (valueAt file at)
+      → test i s ≡ true
+      → next ≡ nextAt file at
+      → Passed file first count skip test (i + 1) next
   unfolding offsetOf
   passed-more {i} p h e t n =
       record {
@@ -71,7 +83,13 @@ module _ {file : List ℕ} {first count skip : ℕ} {test : ℕ → List ℕ →
       }
 
   -- One that is wrong is enough.
-  pub passed-fails : {i at : ℕ} {s : List ℕ} → Passed file first count skip test i at → i < count → s ≡ drop skip (valueAt file at) → test i s ≡ false → false ≡ every count (λ k. test k (getD (spellingsFrom file first count skip) k []))
+  pub passed-fails :
+      {i at : ℕ} {s : List ℕ}
+      → Passed file first count skip test i at
+      → i < count
+      → s ≡ drop skip (valueAt file at)
+      → test i s ≡ false
+      → false ≡ every count (λ k. test k (getD (spellingsFrom file first count skip) k []))
   passed-fails {i} p h e f = sym (every-fails count _ i h (ap (test i) (here p h e) ∙ f))
 
   -- At the end all are right.

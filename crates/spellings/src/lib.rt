@@ -6,7 +6,8 @@ ghost use mathlib.Core.List.{[]};
 ghost use lib.ListN.{length, getD};
 ghost use Rattle.table.specs.Every.{every};
 ghost use Rattle.byte_class.specs.Bytes.{isSingle};
-ghost use Rattle.spellings.specs.Spellings.{spelled as isSpelled, singleAlone, sameBytes, distinct as areDistinct, rightSpellings};
+ghost use Rattle.spellings.specs.Spellings.{spelled as isSpelled, singleAlone, sameBytes};
+ghost use Rattle.spellings.specs.Spellings.{distinct as areDistinct, rightSpellings};
 ghost use Rattle.file_fields.specs.Offsets.{spellingsFrom};
 ghost use Rattle.spellings.specs.InternalKeys.{keyOf};
 use byte_class::Class;
@@ -116,7 +117,11 @@ pub fn right_spellings(file: &[u8], first: usize, count: usize, skip: usize) -> 
 }
 
 fn all_spelled(file: &[u8], first: usize, count: usize, skip: usize) -> bool
-    ensures { λ r. ⌜ r ≡ every (length (spellingsFrom (now (file .entry)) first count skip)) (λ i. isSpelled (getD (spellingsFrom (now (file .entry)) first count skip) i [])) ⌝ }
+    ensures { λ r. ⌜
+        r
+        ≡ every (length (spellingsFrom (now (file .entry)) first count skip))
+        (λ i. isSpelled (getD (spellingsFrom (now (file .entry)) first count skip) i []))
+        ⌝ }
 {
     let mut at = first;
     let mut i = 0;
@@ -131,7 +136,11 @@ fn all_spelled(file: &[u8], first: usize, count: usize, skip: usize) -> bool
 }
 
 pub fn singles_alone(file: &[u8], first: usize, count: usize) -> bool
-    ensures { λ r. ⌜ r ≡ every (length (spellingsFrom (now (file .entry)) first count 0)) (λ i. singleAlone (getD (spellingsFrom (now (file .entry)) first count 0) i [])) ⌝ }
+    ensures { λ r. ⌜
+        r
+        ≡ every (length (spellingsFrom (now (file .entry)) first count 0))
+        (λ i. singleAlone (getD (spellingsFrom (now (file .entry)) first count 0) i []))
+        ⌝ }
 {
     let mut at = first;
     let mut i = 0;
@@ -168,8 +177,17 @@ fn distinct(file: &[u8], first: usize, count: usize, skip: usize) -> bool
 // Whether a spelling differs from those of count fields from an offset on, of which none is the same unless one of them
 // was met with its key.
 fn differs(file: &[u8], first: usize, count: usize, skip: usize, s: &[u8], met: bool) -> bool
-    requires { ⌜ ((met ≡ false) → every count (λ i. not (sameBytes (getD (spellingsFrom (now file) first count skip) i []) (now s))) ≡ true) ⌝ }
-    ensures { λ r. ⌜ r ≡ every count (λ i. not (sameBytes (getD (spellingsFrom (now (file .entry)) first count skip) i []) (now (s .entry)))) ⌝ }
+    requires { ⌜
+        ((met ≡ false)
+        → every count (λ i. not (sameBytes (getD (spellingsFrom (now file) first count skip) i []) (now s)))
+        ≡ true)
+        ⌝ }
+    ensures { λ r. ⌜
+        r
+        ≡ every count
+        (λ i.
+        not (sameBytes (getD (spellingsFrom (now (file .entry)) first count skip) i []) (now (s .entry))))
+        ⌝ }
 {
     if met {
         return unlike(file, first, count, skip, s);
@@ -179,7 +197,12 @@ fn differs(file: &[u8], first: usize, count: usize, skip: usize, s: &[u8], met: 
 
 // Whether a spelling differs from those of count fields from an offset on.
 fn unlike(file: &[u8], first: usize, count: usize, skip: usize, s: &[u8]) -> bool
-    ensures { λ r. ⌜ r ≡ every count (λ i. not (sameBytes (getD (spellingsFrom (now (file .entry)) first count skip) i []) (now (s .entry)))) ⌝ }
+    ensures { λ r. ⌜
+        r
+        ≡ every count
+        (λ i.
+        not (sameBytes (getD (spellingsFrom (now (file .entry)) first count skip) i []) (now (s .entry))))
+        ⌝ }
 {
     let mut at = first;
     let mut i = 0;

@@ -61,7 +61,10 @@ inside-table nodes rules e n h =
     (every-at (nodeCount nodes) (rightNode nodes rules) (unnot _ (ok .1)) n h)
 
 -- Its counts are within the limits, and its words are whole nodes.
-pub counts-inside : (nodes rules : List ℕ) → tableAnswer nodes rules ≡ given tt → (length nodes % 4 ≡ 0) × (nodeCount nodes ≤ mostNodes) × (length rules ≤ mostRules)
+pub counts-inside :
+    (nodes rules : List ℕ)
+    → tableAnswer nodes rules ≡ given tt
+    → (length nodes % 4 ≡ 0) × (nodeCount nodes ≤ mostNodes) × (length rules ≤ mostRules)
 unfolding tableAnswer fails3
 counts-inside nodes rules e =
     let ok = none-fails (fails3 nodes rules) (fails4 nodes rules) (fails5 nodes rules) e .0 in
@@ -79,5 +82,7 @@ pub rule-there : (nodes rules : List ℕ) → tableAnswer nodes rules ≡ given 
 unfolding tableAnswer fails4 rightWords
 rule-there nodes rules e n h q =
     let ok = none-fails (fails3 nodes rules) (fails4 nodes rules) (fails5 nodes rules) e in
-    let right : rightWords (length rules) n 2 (aOf nodes n) (bOf nodes n) (relationOf nodes n) ≡ true = rw q at (every-at (nodeCount nodes) (rightNode nodes rules) (unnot _ (ok .1)) n h) in
-    ltb-true (aOf nodes n) (length rules) (first (ltb (aOf nodes n) (length rules)) (unused (bOf nodes n)) (unused (relationOf nodes n)) right)
+    let right : rightWords (length rules) n 2 (aOf nodes n) (bOf nodes n) (relationOf nodes n) ≡ true =
+    rw q at (every-at (nodeCount nodes) (rightNode nodes rules) (unnot _ (ok .1)) n h) in
+    ltb-true (aOf nodes n) (length rules)
+    (first (ltb (aOf nodes n) (length rules)) (unused (bOf nodes n)) (unused (relationOf nodes n)) right)

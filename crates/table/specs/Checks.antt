@@ -32,17 +32,17 @@ isRelation r = ltb r relationCount
 
 -- Whether kind, a, b and relation are right for node n in a table with so many rules: 01's table of kinds, a line a kind.
 unfoldable pub rightWords : ℕ → ℕ → ℕ → ℕ → ℕ → ℕ → Bool
-rightWords rules n zero a b r = unused a && unused b && unused r
-rightWords rules n (suc zero) a b r = leb a lastTerminal && unused b && unused r
-rightWords rules n (suc (suc zero)) a b r = ltb a rules && unused b && unused r
-rightWords rules n (suc (suc (suc zero))) a b r = lower a n && lower b n && unused r
-rightWords rules n (suc (suc (suc (suc zero)))) a b r = lower a n && lower b n && unused r
-rightWords rules n (suc (suc (suc (suc (suc zero))))) a b r = lower a n && unused b && unused r
-rightWords rules n (suc (suc (suc (suc (suc (suc zero)))))) a b r = lower a n && unused b && unused r
-rightWords rules n (suc (suc (suc (suc (suc (suc (suc zero))))))) a b r = lower a n && unused b && isRelation r
-rightWords rules n (suc (suc (suc (suc (suc (suc (suc (suc zero)))))))) a b r = lower a n && unused b && isRelation r
-rightWords rules n (suc (suc (suc (suc (suc (suc (suc (suc (suc zero))))))))) a b r = lower a n && unused b && unused r
-rightWords rules n (suc (suc (suc (suc (suc (suc (suc (suc (suc (suc k)))))))))) a b r = false
+rightWords rules n zero a b r = unused a && unused b && unused r  -- empty
+rightWords rules n (suc zero) a b r = leb a lastTerminal && unused b && unused r  -- terminal
+rightWords rules n (suc (suc zero)) a b r = ltb a rules && unused b && unused r  -- rule
+rightWords rules n (suc (suc (suc zero))) a b r = lower a n && lower b n && unused r  -- sequence
+rightWords rules n (suc (suc (suc (suc zero)))) a b r = lower a n && lower b n && unused r  -- choice
+rightWords rules n (suc (suc (suc (suc (suc zero))))) a b r = lower a n && unused b && unused r  -- not
+rightWords rules n (suc (suc (suc (suc (suc (suc zero)))))) a b r = lower a n && unused b && unused r  -- repeat
+rightWords rules n (suc (suc (suc (suc (suc (suc (suc zero))))))) a b r = lower a n && unused b && isRelation r  -- indent
+rightWords rules n (suc (suc (suc (suc (suc (suc (suc (suc zero)))))))) a b r = lower a n && unused b && isRelation r  -- position
+rightWords rules n (suc (suc (suc (suc (suc (suc (suc (suc (suc zero))))))))) a b r = lower a n && unused b && unused r  -- align
+rightWords rules n (suc (suc (suc (suc (suc (suc (suc (suc (suc (suc k)))))))))) a b r = false  -- no kind
 
 -- Whether node n's words are right.
 abbrev pub rightNode : List ℕ → List ℕ → ℕ → Bool

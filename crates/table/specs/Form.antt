@@ -17,17 +17,17 @@ pub data Form : Type 0 where
 
 -- 01's table of kinds: kind, a, b, relation. A kind over 9 is no form (`other`).
 abbrev pub decode : ℕ → ℕ → ℕ → ℕ → Form
-decode zero a b r = empty
-decode (suc zero) a b r = terminal a
-decode (suc (suc zero)) a b r = rule a
-decode (suc (suc (suc zero))) a b r = sequence a b
-decode (suc (suc (suc (suc zero)))) a b r = choice a b
-decode (suc (suc (suc (suc (suc zero))))) a b r = not a
-decode (suc (suc (suc (suc (suc (suc zero)))))) a b r = repeat a
-decode (suc (suc (suc (suc (suc (suc (suc zero))))))) a b r = indent a r
-decode (suc (suc (suc (suc (suc (suc (suc (suc zero)))))))) a b r = position a r
-decode (suc (suc (suc (suc (suc (suc (suc (suc (suc zero))))))))) a b r = align a
-decode (suc (suc (suc (suc (suc (suc (suc (suc (suc (suc k)))))))))) a b r = other
+decode zero a b r = empty  -- 0
+decode (suc zero) a b r = terminal a  -- 1
+decode (suc (suc zero)) a b r = rule a  -- 2
+decode (suc (suc (suc zero))) a b r = sequence a b  -- 3
+decode (suc (suc (suc (suc zero)))) a b r = choice a b  -- 4
+decode (suc (suc (suc (suc (suc zero))))) a b r = not a  -- 5
+decode (suc (suc (suc (suc (suc (suc zero)))))) a b r = repeat a  -- 6
+decode (suc (suc (suc (suc (suc (suc (suc zero))))))) a b r = indent a r  -- 7
+decode (suc (suc (suc (suc (suc (suc (suc (suc zero)))))))) a b r = position a r  -- 8
+decode (suc (suc (suc (suc (suc (suc (suc (suc (suc zero))))))))) a b r = align a  -- 9
+decode (suc (suc (suc (suc (suc (suc (suc (suc (suc (suc k)))))))))) a b r = other  -- over 9
 
 -- The four words of node n.
 abbrev pub kindOf : List ℕ → ℕ → ℕ

@@ -1,7 +1,8 @@
 -- What a table that passes 3, 4 and 5 has: children and rules that are there. No public promise rests on this file.
 use Prim.Native.Nat.{ℕ, _<_}
 use mathlib.Core.List.{List}
-use Rattle.table.specs.Form.{Form, empty, terminal, rule, sequence, choice, not, repeat, indent, position, align, other, standsFor}
+use Rattle.table.specs.Form.{Form, empty, terminal, rule, sequence, choice, not, repeat, indent}
+use Rattle.table.specs.Form.{position, align, other, standsFor}
 
 -- The children of a form, or the node of its rule, are among so many nodes.
 abbrev pub Inside : List ℕ → ℕ → Form → Type 0

@@ -3,6 +3,10 @@ ghost use mathlib.Core.Path.{_≡_};
 ghost use mathlib.Core.Bool.{_&&_};
 ghost use Rattle.table.specs.Checks.{numbers, tableAnswer, rightWords, fails3, fails4, fails5};
 
+pub mod kinds;
+pub mod refusals;
+pub mod relations;
+
 // The most nodes and rules of a table.
 pub const NODES: usize = 512;
 
@@ -25,13 +29,13 @@ pub fn check(nodes: &[u16], rules: &[u16]) -> Checked
     ensures { λ r. ⌜ numbers r ≡ tableAnswer (now (nodes .entry)) (now (rules .entry)) ⌝ }
 {
     if counts_wrong(nodes, rules) {
-        return Checked::Refused(3);
+        return Checked::Refused(refusals::COUNTS);
     }
     if node_wrong(nodes, rules) {
-        return Checked::Refused(4);
+        return Checked::Refused(refusals::NODE);
     }
     if rule_wrong(nodes, rules) {
-        return Checked::Refused(5);
+        return Checked::Refused(refusals::RULE);
     }
     Checked::Passes
 }
@@ -81,16 +85,16 @@ fn words_right(rules: usize, n: usize, kind: u16, a: u16, b: u16, relation: u16)
     ensures { λ r. ⌜ r ≡ rightWords rules n kind a b relation ⌝ }
 {
     match kind {
-        0 => all(a == 0, b == 0, relation == 0),
-        1 => all(a <= LAST_TERMINAL, b == 0, relation == 0),
-        2 => all((a as usize) < rules, b == 0, relation == 0),
-        3 => all((a as usize) < n, (b as usize) < n, relation == 0),
-        4 => all((a as usize) < n, (b as usize) < n, relation == 0),
-        5 => all((a as usize) < n, b == 0, relation == 0),
-        6 => all((a as usize) < n, b == 0, relation == 0),
-        7 => all((a as usize) < n, b == 0, relation < RELATIONS),
-        8 => all((a as usize) < n, b == 0, relation < RELATIONS),
-        9 => all((a as usize) < n, b == 0, relation == 0),
+        kinds::EMPTY => all(a == 0, b == 0, relation == 0),
+        kinds::TERMINAL => all(a <= LAST_TERMINAL, b == 0, relation == 0),
+        kinds::RULE => all((a as usize) < rules, b == 0, relation == 0),
+        kinds::SEQUENCE => all((a as usize) < n, (b as usize) < n, relation == 0),
+        kinds::CHOICE => all((a as usize) < n, (b as usize) < n, relation == 0),
+        kinds::NOT => all((a as usize) < n, b == 0, relation == 0),
+        kinds::REPEAT => all((a as usize) < n, b == 0, relation == 0),
+        kinds::INDENT => all((a as usize) < n, b == 0, relation < RELATIONS),
+        kinds::POSITION => all((a as usize) < n, b == 0, relation < RELATIONS),
+        kinds::ALIGN => all((a as usize) < n, b == 0, relation == 0),
         _ => false,
     }
 }

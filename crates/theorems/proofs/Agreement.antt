@@ -28,11 +28,19 @@ use Rattle.theorems.proofs.LimitLaws.{begins}
 
 module _ (nodes rules : List ℕ) (tokens : Tokens) {τ : ℕ} {f : Form} where
   -- From alike columns, an outcome over two ends has an alike outcome over sets,
-  pub ends-to-sets : {s : State Interval} {S : ColumnSet} {o : Outcome Interval} → Run ends nodes rules tokens τ f s o → Alike ends sets (s .1) S → Follows ends sets ends-lawful sets-lawful nodes rules tokens τ f (s .0, S, s .2) o
+  pub ends-to-sets :
+      {s : State Interval} {S : ColumnSet} {o : Outcome Interval}
+      → Run ends nodes rules tokens τ f s o
+      → Alike ends sets (s .1) S
+      → Follows ends sets ends-lawful sets-lawful nodes rules tokens τ f (s .0, S, s .2) o
   ends-to-sets d h = alike-run ends sets ends-lawful sets-lawful nodes rules tokens d h
 
   -- and an outcome over sets has an alike one over two ends.
-  pub sets-to-ends : {s : State ColumnSet} {I : Interval} {o : Outcome ColumnSet} → Run sets nodes rules tokens τ f s o → Alike sets ends (s .1) I → Follows sets ends sets-lawful ends-lawful nodes rules tokens τ f (s .0, I, s .2) o
+  pub sets-to-ends :
+      {s : State ColumnSet} {I : Interval} {o : Outcome ColumnSet}
+      → Run sets nodes rules tokens τ f s o
+      → Alike sets ends (s .1) I
+      → Follows sets ends sets-lawful ends-lawful nodes rules tokens τ f (s .0, I, s .2) o
   sets-to-ends d h = alike-run sets ends sets-lawful ends-lawful nodes rules tokens d h
 
 module _ (nodes rules words : List ℕ) (start : Start) where

@@ -17,7 +17,9 @@ use Rattle.columns.specs.Intervals.{ends, innerEnds}
 use Rattle.columns.specs.declared.Interval.{Interval}
 use Rattle.well_formed.specs.Facts.{nothing}
 use Rattle.well_formed.specs.WellFormed.{Passes}
-use Rattle.well_formed.specs.InternalRank.{Enters, enters-rule, enters-first, enters-second, enters-choice, enters-other, enters-not, enters-repeat, enters-indent, enters-position, enters-align, rank}
+use Rattle.well_formed.specs.InternalRank.{Enters, enters-rule, enters-first, enters-second, enters-choice}
+use Rattle.well_formed.specs.InternalRank.{enters-other, enters-not, enters-repeat, enters-indent, enters-position}
+use Rattle.well_formed.specs.InternalRank.{enters-align, rank}
 use Rattle.well_formed.proofs.RankLaws.{rank-falls, rank-most, repeat-reads}
 use Rattle.clauses.specs.Clauses.{Tokens, State, Outcome, success, failure, Run}
 use Rattle.clauses.specs.Evaluation.{Result, ended, unfinished, after, reads, step, evaluate, enough, outcomeFor}
@@ -38,7 +40,12 @@ one-of true o p = this o
 one-of false o p = this p
 
 -- After a result that is an outcome.
-after-ended : (r : Result) (next : State Interval → Result) (otherwise : Result) → Ended r → ((s : State Interval) → r ≡ ended (success s) → Ended (next s)) → (r ≡ ended failure → Ended otherwise) → Ended (after r next otherwise)
+after-ended :
+    (r : Result) (next : State Interval → Result) (otherwise : Result)
+    → Ended r
+    → ((s : State Interval) → r ≡ ended (success s) → Ended (next s))
+    → (r ≡ ended failure → Ended otherwise)
+    → Ended (after r next otherwise)
 after-ended (ended (success s)) next otherwise e k l = k s refl
 after-ended (ended failure) next otherwise e k l = l refl
 after-ended unfinished next otherwise e k l = absurd (let q = e .is in let z : _≡_ {A = ℕ} 0 1 = cc in omega arith)
@@ -66,14 +73,22 @@ module _ (nodes rules : List ℕ) (tokens : Tokens) (passing : tableAnswer nodes
     inside f e = rw e at (inside-table nodes rules passing n h)
 
     -- A child that is entered at this place.
-    child : (f : Form) → form nodes n ≡ f → (c σ : ℕ) (t : State Interval) → t .0 ≡ s .0 → c < nodeCount nodes → Enters nodes rules f c → Ended (call k σ (form nodes c) t)
+    child :
+        (f : Form)
+        → form nodes n ≡ f
+        → (c σ : ℕ) (t : State Interval)
+        → t .0 ≡ s .0
+        → c < nodeCount nodes
+        → Enters nodes rules f c
+        → Ended (call k σ (form nodes c) t)
     child f e c σ t q l enter = ends-at c σ t l (omega arith) (let r = rank-falls nodes rules passing every-well n c h (rw e enter) in (rw q (omega arith)))
 
     -- A child that is entered after a token was read.
     later : (c : ℕ) (t : State Interval) → c < nodeCount nodes → t .0 ≤ tokens .count → s .0 < t .0 → Ended (call k τ (form nodes c) t)
     later c t l i e =
         ends-at c τ t l i
-        (let x = weighs-less (tokens .count - s .0) (tokens .count - t .0) (nodeCount nodes) (rank nodes rules n) (rank nodes rules c) (omega arith) (rank-most nodes rules passing every-well c l) in omega arith)
+        (let x = weighs-less (tokens .count - s .0) (tokens .count - t .0) (nodeCount nodes) (rank nodes rules n)
+        (rank nodes rules c) (omega arith) (rank-most nodes rules passing every-well c l) in omega arith)
 
     -- What a first child derived.
     derived : (σ : ℕ) (f : Form) (t t' : State Interval) → call k σ f t ≡ ended (success t') → Run ends nodes rules tokens σ f t (success t')
@@ -93,7 +108,8 @@ module _ (nodes rules : List ℕ) (tokens : Tokens) (passing : tableAnswer nodes
         (eq-or-lt-of-le (onward ends nodes rules tokens d)))
         (λ r. this failure)
     by-form (table.choice p q) e =
-        after-ended (call k τ (form nodes p) s) _ _ (child _ e p τ s refl (inside _ e .0) enters-choice) (λ t r. this (success t)) (λ r. child _ e q τ s refl (inside _ e .1) enters-other)
+        after-ended (call k τ (form nodes p) s) _ _ (child _ e p τ s refl (inside _ e .0) enters-choice)
+        (λ t r. this (success t)) (λ r. child _ e q τ s refl (inside _ e .1) enters-other)
     by-form (table.not p) e = after-ended (call k τ (form nodes p) s) _ _ (child _ e p τ s refl (inside _ e) enters-not) (λ t r. this failure) (λ r. this (success s))
     by-form (table.repeat p) e =
         after-ended (call k τ (form nodes p) s) _ _ (child _ e p τ s refl (inside _ e) enters-repeat)
@@ -105,7 +121,9 @@ module _ (nodes rules : List ℕ) (tokens : Tokens) (passing : tableAnswer nodes
         (eq-or-lt-of-le (onward ends nodes rules tokens d)))
         (λ r. this (success s))
     by-form (table.indent p ρ) e =
-        after-ended (call k τ (form nodes p) (s .0, innerEnds ρ (s .1), s .2)) _ _ (child _ e p τ (s .0, innerEnds ρ (s .1), s .2) refl (inside _ e) enters-indent) (λ t r. this _) (λ r. this failure)
+        after-ended (call k τ (form nodes p) (s .0, innerEnds ρ (s .1), s .2)) _ _
+        (child _ e p τ (s .0, innerEnds ρ (s .1), s .2) refl (inside _ e) enters-indent) (λ t r. this _)
+        (λ r. this failure)
     by-form (table.position p σ) e = child _ e p σ s refl (inside _ e) enters-position
     by-form (table.align p) e =
         after-ended (call k τ (form nodes p) (s .0, s .1, true)) _ _ (child _ e p τ (s .0, s .1, true) refl (inside _ e) enters-align) (λ t r. this _) (λ r. this failure)
@@ -123,7 +141,11 @@ module _ (nodes rules : List ℕ) (tokens : Tokens) (passing : tableAnswer nodes
       omega arith
 
   -- The outcome that is computed is one that the clauses give: an outcome exists.
-  pub outcome-derived : (τ n : ℕ) (s : State Interval) → n < nodeCount nodes → s .0 ≤ tokens .count → Run ends nodes rules tokens τ (form nodes n) s (outcomeFor nodes rules tokens τ n s)
+  pub outcome-derived :
+      (τ n : ℕ) (s : State Interval)
+      → n < nodeCount nodes
+      → s .0 ≤ tokens .count
+      → Run ends nodes rules tokens τ (form nodes n) s (outcomeFor nodes rules tokens τ n s)
   unfolding outcomeFor
   outcome-derived τ n s h b =
       let r = evaluates (enough nodes rules tokens) n τ s h b (light n (s .0) h) in

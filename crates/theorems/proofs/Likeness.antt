@@ -9,7 +9,10 @@ use Rattle.columns.specs.Lawful.{Lawful}
 use Rattle.columns.specs.Alike.{Alike}
 use Rattle.columns.proofs.LawfulLaws.{one-inside, inner-some}
 use Rattle.columns.proofs.AlikeLaws.{alike-one, alike-inner, alike-leave}
-use Rattle.clauses.specs.Clauses.{Tokens, State, Outcome, success, failure, Fits, clear, aligned, Run, empty, terminal-clear, terminal-aligned, terminal-fails, rule, sequence, sequence-fails, choice-first, choice-second, not, not-fails, repeat-ends, repeat-again, indent, indent-fails, position, align, align-fails}
+use Rattle.clauses.specs.Clauses.{Tokens, State, Outcome, success, failure, Fits, clear, aligned, Run, empty}
+use Rattle.clauses.specs.Clauses.{terminal-clear, terminal-aligned, terminal-fails, rule, sequence, sequence-fails}
+use Rattle.clauses.specs.Clauses.{choice-first, choice-second, not, not-fails, repeat-ends, repeat-again, indent}
+use Rattle.clauses.specs.Clauses.{indent-fails, position, align, align-fails}
 use Rattle.clauses.specs.AlikeOutcomes.{AlikeOutcome, alike-success, alike-failure}
 use Rattle.theorems.proofs.Narrows.{narrows}
 
@@ -33,7 +36,11 @@ module _ {ℓ κ ℓ' κ'} (D : Domain {ℓ, κ}) (E : Domain {ℓ', κ'}) (L : 
       by-outcome : (o : Outcome (E .Columns)) → Run E nodes rules tokens τ f t o → AlikeOutcome D E (success s) o → X
       by-outcome o r (alike-success {S = S} h) = k S h r
 
-  on-failure : {τ : ℕ} {f : Form} {t : State (E .Columns)} {X : Type (ℓ ⊔ κ ⊔ ℓ' ⊔ κ')} → Follows τ f t failure → (Run E nodes rules tokens τ f t failure → X) → X
+  on-failure :
+      {τ : ℕ} {f : Form} {t : State (E .Columns)} {X : Type (ℓ ⊔ κ ⊔ ℓ' ⊔ κ')}
+      → Follows τ f t failure
+      → (Run E nodes rules tokens τ f t failure → X)
+      → X
   on-failure {τ} {f} {t} {X} a k = by-outcome (a .outcome) (a .run) (a .alike)
     where
       by-outcome : (o : Outcome (E .Columns)) → Run E nodes rules tokens τ f t o → AlikeOutcome D E failure o → X
@@ -42,14 +49,26 @@ module _ {ℓ κ ℓ' κ'} (D : Domain {ℓ, κ}) (E : Domain {ℓ', κ'}) (L : 
   fails : {τ : ℕ} {f : Form} {t : State (E .Columns)} → Run E nodes rules tokens τ f t failure → Follows τ f t failure
   fails r = record { outcome = failure; run = r; alike = alike-failure }
 
-  succeeds : {τ : ℕ} {f : Form} {t : State (E .Columns)} {s : State (D .Columns)} {S : E .Columns} → Alike D E (s .1) S → Run E nodes rules tokens τ f t (success (s .0, S, s .2)) → Follows τ f t (success s)
+  succeeds :
+      {τ : ℕ} {f : Form} {t : State (E .Columns)} {s : State (D .Columns)} {S : E .Columns}
+      → Alike D E (s .1) S
+      → Run E nodes rules tokens τ f t (success (s .0, S, s .2))
+      → Follows τ f t (success s)
   succeeds {s = s} {S = S} h r = record { outcome = success (s .0, S, s .2); run = r; alike = alike-success h }
 
-  made : {τ τ' : ℕ} {f g : Form} {t t' : State (E .Columns)} {o : Outcome (D .Columns)} → ((p : Outcome (E .Columns)) → Run E nodes rules tokens τ f t p → Run E nodes rules tokens τ' g t' p) → Follows τ f t o → Follows τ' g t' o
+  made :
+      {τ τ' : ℕ} {f g : Form} {t t' : State (E .Columns)} {o : Outcome (D .Columns)}
+      → ((p : Outcome (E .Columns)) → Run E nodes rules tokens τ f t p → Run E nodes rules tokens τ' g t' p)
+      → Follows τ f t o
+      → Follows τ' g t' o
   made k a = record { outcome = a .outcome; run = k (a .outcome) (a .run); alike = a .alike }
 
   -- The theorem: every run in D is followed by one in E.
-  pub alike-run : {τ : ℕ} {f : Form} {s : State (D .Columns)} {o : Outcome (D .Columns)} {S : E .Columns} → Run D nodes rules tokens τ f s o → Alike D E (s .1) S → Follows τ f (s .0, S, s .2) o
+  pub alike-run :
+      {τ : ℕ} {f : Form} {s : State (D .Columns)} {o : Outcome (D .Columns)} {S : E .Columns}
+      → Run D nodes rules tokens τ f s o
+      → Alike D E (s .1) S
+      → Follows τ f (s .0, S, s .2) o
   alike-run empty h = succeeds h empty
   alike-run (terminal-clear {τ = τ} {i = i} {I = I} n m) h =
       succeeds (alike-leave D E L M τ h (alike-one D E L M i) (one-inside D L i (D .inner τ I) m)) (terminal-clear n (alike-inner D E L M τ h .members i .1 m))

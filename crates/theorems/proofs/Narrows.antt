@@ -16,7 +16,9 @@ use Rattle.columns.specs.Intervals.{ends}
 use Rattle.columns.proofs.EndLaws.{ends-lawful, same-ends}
 use Rattle.columns.specs.declared.Interval.{Interval}
 use Rattle.columns.proofs.LawfulLaws.{one-inside, one-some, inner-some, leave-some, leave-all}
-use Rattle.clauses.specs.Clauses.{Tokens, State, success, Run, empty, terminal-clear, terminal-aligned, rule, sequence, choice-first, choice-second, not, repeat-ends, repeat-again, indent, position, align}
+use Rattle.clauses.specs.Clauses.{Tokens, State, success, Run, empty, terminal-clear, terminal-aligned, rule}
+use Rattle.clauses.specs.Clauses.{sequence, choice-first, choice-second, not, repeat-ends, repeat-again, indent}
+use Rattle.clauses.specs.Clauses.{position, align}
 
 module _ {ℓ κ} (D : Domain {ℓ, κ}) (nodes rules : List ℕ) (tokens : Tokens) where
   -- A run never goes back: w' is a suffix of w.
@@ -129,7 +131,12 @@ module _ {ℓ κ} (D : Domain {ℓ, κ}) (nodes rules : List ℕ) (tokens : Toke
         }
 
 -- Over two ends, reading nothing leaves the very same state.
-pub unread-ends : (nodes rules : List ℕ) (tokens : Tokens) {τ : ℕ} {f : Form} (s s' : State Interval) → Some ends (s .1) → Run ends nodes rules tokens τ f s (success s') → s' .0 ≡ s .0 → s' ≡ s
+pub unread-ends :
+    (nodes rules : List ℕ) (tokens : Tokens) {τ : ℕ} {f : Form} (s s' : State Interval)
+    → Some ends (s .1)
+    → Run ends nodes rules tokens τ f s (success s')
+    → s' .0 ≡ s .0
+    → s' ≡ s
 unread-ends nodes rules tokens (w, I, b) (w', I', b') n d e =
     let h = narrows ends nodes rules tokens ends-lawful n d in
     let u = h .unread e in

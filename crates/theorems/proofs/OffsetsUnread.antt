@@ -23,7 +23,12 @@ abbrev made : ℕ → (ℕ → ℕ) → (ℕ → ℕ) → Tokens
 made n t c = record { count = n; terminal = t; column = c }
 
 -- Token words whose terminals and columns are the same stand for the same tokens.
-same-tokens : (words words' : List ℕ) → length words ≡ length words' → ((w : ℕ) → getD words (w * 4) 0 ≡ getD words' (w * 4) 0) → ((w : ℕ) → getD words (w * 4 + 1) 0 ≡ getD words' (w * 4 + 1) 0) → tokensOf words ≡ tokensOf words'
+same-tokens :
+    (words words' : List ℕ)
+    → length words ≡ length words'
+    → ((w : ℕ) → getD words (w * 4) 0 ≡ getD words' (w * 4) 0)
+    → ((w : ℕ) → getD words (w * 4 + 1) 0 ≡ getD words' (w * 4 + 1) 0)
+    → tokensOf words ≡ tokensOf words'
 same-tokens words words' l t c =
     ap (λ (n : ℕ). made (n / 4) (λ w. getD words (w * 4) 0) (λ w. getD words (w * 4 + 1) 0)) l
     ∙ ap (λ (f : ℕ → ℕ). made (length words' / 4) f (λ w. getD words (w * 4 + 1) 0)) (fun-ext t)
@@ -33,17 +38,33 @@ same-tokens words words' l t c =
 answerBy : List ℕ → List ℕ → Start → ℕ → Tokens → Answer (Outcome Interval)
 answerBy nodes rules start n tokens =
     andThen (checkAnswer nodes rules)
-    (refuseIf (not (eqb (n % 4) 0) || ltb mostTokens (tokens .count) || not (every (tokens .count) (λ w. leb (tokens .terminal w) lastTerminal && leb (tokens .column w) mostColumn))) 11
     (refuseIf
-    (not (ltb (start .node) (nodeCount nodes)) || ltb (tokens .count) (start .place) || not (isUpTo (start .interval .lower) (start .interval .upper)) || ltb mostColumn (start .interval .lower) || finiteOver (start .interval .upper) || not (isRelation (start .mode))) 12
-    (given (outcomeFor nodes rules tokens (start .mode) (start .node) (start .place, start .interval, start .flag)))))
+    (not (eqb (n % 4) 0)
+    || ltb mostTokens (tokens .count)
+    || not
+    (every (tokens .count)
+    (λ w. leb (tokens .terminal w) lastTerminal && leb (tokens .column w) mostColumn))) 11
+    (refuseIf
+    (not (ltb (start .node) (nodeCount nodes))
+    || ltb (tokens .count) (start .place)
+    || not (isUpTo (start .interval .lower) (start .interval .upper))
+    || ltb mostColumn (start .interval .lower)
+    || finiteOver (start .interval .upper)
+    || not (isRelation (start .mode))) 12
+    (given
+    (outcomeFor nodes rules tokens (start .mode) (start .node)
+    (start .place, start .interval, start .flag)))))
 
 answered-by : (nodes rules words : List ℕ) (start : Start) → runAnswer nodes rules words start ≡ answerBy nodes rules start (length words) (tokensOf words)
 unfolding runAnswer fails11 fails12 answerBy
 answered-by nodes rules words start = refl
 
 -- "The interpreter uses only the first two words" of a token: offsets and lengths change nothing.
-pub offsets-unread : (nodes rules words words' : List ℕ) (start : Start) → length words ≡ length words' → ((w : ℕ) → getD words (w * 4) 0 ≡ getD words' (w * 4) 0) → ((w : ℕ) → getD words (w * 4 + 1) 0 ≡ getD words' (w * 4 + 1) 0)
+pub offsets-unread :
+    (nodes rules words words' : List ℕ) (start : Start)
+    → length words ≡ length words'
+    → ((w : ℕ) → getD words (w * 4) 0 ≡ getD words' (w * 4) 0)
+    → ((w : ℕ) → getD words (w * 4 + 1) 0 ≡ getD words' (w * 4 + 1) 0)
     → runAnswer nodes rules words start ≡ runAnswer nodes rules words' start
 offsets-unread nodes rules words words' start l t c =
     answered-by nodes rules words start ∙ ap₂ (answerBy nodes rules start) l (same-tokens words words' l t c) ∙ sym (answered-by nodes rules words' start)

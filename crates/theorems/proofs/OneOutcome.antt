@@ -6,7 +6,10 @@ use mathlib.Core.List.{List}
 use native.Mathlib.Omega.{arith}
 use Rattle.table.specs.Form.{Form}
 use Rattle.columns.specs.Domain.{Domain}
-use Rattle.clauses.specs.Clauses.{Tokens, State, Outcome, success, failure, clear, aligned, Run, empty, terminal-clear, terminal-aligned, terminal-fails, rule, sequence, sequence-fails, choice-first, choice-second, not, not-fails, repeat-ends, repeat-again, indent, indent-fails, position, align, align-fails}
+use Rattle.clauses.specs.Clauses.{Tokens, State, Outcome, success, failure, clear, aligned, Run, empty}
+use Rattle.clauses.specs.Clauses.{terminal-clear, terminal-aligned, terminal-fails, rule, sequence, sequence-fails}
+use Rattle.clauses.specs.Clauses.{choice-first, choice-second, not, not-fails, repeat-ends, repeat-again, indent}
+use Rattle.clauses.specs.Clauses.{indent-fails, position, align, align-fails}
 
 module _ {ℓ κ} (D : Domain {ℓ, κ}) (nodes rules : List ℕ) (tokens : Tokens) where
   same-state : {s t : State (D .Columns)} → success s ≡ success t → s ≡ t
@@ -16,12 +19,21 @@ module _ {ℓ κ} (D : Domain {ℓ, κ}) (nodes rules : List ℕ) (tokens : Toke
   apart e = let z : _≡_ {A = ℕ} 0 1 = cc in omega arith
 
   -- A run from a state that is the same.
-  moved : {τ : ℕ} {f : Form} {s t : State (D .Columns)} {o : Outcome (D .Columns)} → success s ≡ success t → Run D nodes rules tokens τ f t o → Run D nodes rules tokens τ f s o
+  moved :
+      {τ : ℕ} {f : Form} {s t : State (D .Columns)} {o : Outcome (D .Columns)}
+      → success s ≡ success t
+      → Run D nodes rules tokens τ f t o
+      → Run D nodes rules tokens τ f s o
   moved {τ} {f} {o = o} e d = subst (λ (v : State (D .Columns)). Run D nodes rules tokens τ f v o) (sym (same-state e)) d
 
-  pub one-outcome : {τ : ℕ} {f : Form} {s : State (D .Columns)} {o o' : Outcome (D .Columns)} → Run D nodes rules tokens τ f s o → Run D nodes rules tokens τ f s o' → o ≡ o'
+  pub one-outcome :
+      {τ : ℕ} {f : Form} {s : State (D .Columns)} {o o' : Outcome (D .Columns)}
+      → Run D nodes rules tokens τ f s o
+      → Run D nodes rules tokens τ f s o'
+      → o ≡ o'
   one-outcome empty empty = refl
-  one-outcome (terminal-clear {τ = τ} {w = w} {I = I} n m) (terminal-clear n' m') = ap (λ (i : ℕ). success (w + 1, D .meet I (D .outer τ (D .one i)), false)) (sym (n .column) ∙ n' .column)
+  one-outcome (terminal-clear {τ = τ} {w = w} {I = I} n m) (terminal-clear n' m') =
+      ap (λ (i : ℕ). success (w + 1, D .meet I (D .outer τ (D .one i)), false)) (sym (n .column) ∙ n' .column)
   one-outcome (terminal-clear n m) (terminal-fails h) = absurd (h _ n (clear m))
   one-outcome (terminal-aligned {w = w} n m) (terminal-aligned n' m') = ap (λ (i : ℕ). success (w + 1, D .one i, false)) (sym (n .column) ∙ n' .column)
   one-outcome (terminal-aligned n m) (terminal-fails h) = absurd (h _ n (aligned m))

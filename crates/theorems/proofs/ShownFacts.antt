@@ -10,7 +10,10 @@ use Rattle.table.specs.Form.{Form}
 use Rattle.columns.specs.Domain.{Domain}
 use Rattle.well_formed.specs.Facts as facts
 use Rattle.well_formed.specs.Facts.{Fact, nothing, something, fails, Success, by-nothing, by-something, May}
-use Rattle.clauses.specs.Clauses.{Tokens, State, Outcome, success, failure, Run, empty, terminal-clear, terminal-aligned, terminal-fails, rule, sequence, sequence-fails, choice-first, choice-second, not, not-fails, repeat-ends, repeat-again, indent, indent-fails, position, align, align-fails}
+use Rattle.clauses.specs.Clauses.{Tokens, State, Outcome, success, failure, Run, empty, terminal-clear}
+use Rattle.clauses.specs.Clauses.{terminal-aligned, terminal-fails, rule, sequence, sequence-fails, choice-first}
+use Rattle.clauses.specs.Clauses.{choice-second, not, not-fails, repeat-ends, repeat-again, indent, indent-fails}
+use Rattle.clauses.specs.Clauses.{position, align, align-fails}
 use Rattle.theorems.proofs.Narrows.{onward}
 
 -- What an outcome that began at place w shows.
@@ -24,7 +27,12 @@ module _ {ℓ κ} (D : Domain {ℓ, κ}) (nodes rules : List ℕ) (tokens : Toke
   success-shows : (w : ℕ) {s : State (D .Columns)} → w ≤ s .0 → (x : Fact) × Success x × Shows {C = D .Columns} w (success s) x
   success-shows w h = ⊎-elim (λ e. (nothing, by-nothing, at-once (sym e))) (λ l. (something, by-something, further l)) (eq-or-lt-of-le h)
 
-  pub shown : {τ : ℕ} {f : Form} {s : State (D .Columns)} {o : Outcome (D .Columns)} → Run D nodes rules tokens τ f s o → (x : Fact) → Shows (s .0) o x → May nodes rules f x
+  pub shown :
+      {τ : ℕ} {f : Form} {s : State (D .Columns)} {o : Outcome (D .Columns)}
+      → Run D nodes rules tokens τ f s o
+      → (x : Fact)
+      → Shows (s .0) o x
+      → May nodes rules f x
   shown empty nothing (at-once e) = facts.empty-nothing
   shown empty something (further l) = absurd (omega arith)
   shown (terminal-clear n m) nothing (at-once e) = absurd (omega arith)
@@ -44,7 +52,9 @@ module _ {ℓ κ} (D : Domain {ℓ, κ}) (nodes rules : List ℕ) (tokens : Toke
       (λ q. facts.sequence-second by-nothing (shown d nothing (at-once (sym q))) (shown e something (further (omega arith))))
       (λ k. let y = success-shows (s' .0) b in facts.sequence-first (shown d something (further k)) (y .1) (shown e (y .0) (y .2)))
       (eq-or-lt-of-le a)
-  shown (sequence {s = s} d e) fails not-at-all = let y = success-shows (s .0) (onward D nodes rules tokens d) in facts.sequence-then-fails (y .1) (shown d (y .0) (y .2)) (shown e fails not-at-all)
+  shown (sequence {s = s} d e) fails not-at-all =
+      let y = success-shows (s .0) (onward D nodes rules tokens d) in
+      facts.sequence-then-fails (y .1) (shown d (y .0) (y .2)) (shown e fails not-at-all)
   shown (sequence-fails d) fails not-at-all = facts.sequence-fails (shown d fails not-at-all)
   shown (choice-first d) nothing (at-once e) = facts.choice-first by-nothing (shown d nothing (at-once e))
   shown (choice-first d) something (further l) = facts.choice-first by-something (shown d something (further l))

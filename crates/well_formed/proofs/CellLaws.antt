@@ -55,7 +55,11 @@ module _ (before after : Fact → List Bool) (x : Fact) (n : ℕ) (b : Bool) (in
   fact-stays y m (inl q) h = let k : getD (before x) m false ≡ true = rw q at h in rw (q, e) (learnt-stays (before x) n b m k)
   fact-stays y m (inr q) h = rw q h
 
-  fact-only : (y : Fact) (m : ℕ) → (y ≡ x) ⊎ (after y ≡ before y) → getD (after y) m false ≡ true → (getD (before y) m false ≡ true) ⊎ ((cell y m ≡ cell x n) × (b ≡ true))
+  fact-only :
+      (y : Fact) (m : ℕ)
+      → (y ≡ x) ⊎ (after y ≡ before y)
+      → getD (after y) m false ≡ true
+      → (getD (before y) m false ≡ true) ⊎ ((cell y m ≡ cell x n) × (b ≡ true))
   fact-only y m (inl q) h =
       let k : getD (learnt (before x) n b) m false ≡ true = rw (q, e) at h in
       ⊎-elim (λ l. inl (rw q l)) (λ l. inr (rw (q, l .0) refl, l .1)) (learnt-only (before x) n b m k)
@@ -70,7 +74,11 @@ module _ (before after : Fact → List Bool) (x : Fact) (n : ℕ) (b : Bool) (in
       }
 
 -- Each of three lists in its turn.
-pub nothing-change : (ns ss fs : List Bool) (n : ℕ) (b : Bool) → n < length ns → Change (λ (c : Cell). known (three ns ss fs) (c .fact) (c .node)) (λ (c : Cell). known (three (learnt ns n b) ss fs) (c .fact) (c .node)) (cell nothing n) b
+pub nothing-change :
+    (ns ss fs : List Bool) (n : ℕ) (b : Bool)
+    → n < length ns
+    → Change (λ (c : Cell). known (three ns ss fs) (c .fact) (c .node))
+    (λ (c : Cell). known (three (learnt ns n b) ss fs) (c .fact) (c .node)) (cell nothing n) b
 nothing-change ns ss fs n b h = fact-change (three ns ss fs) (three (learnt ns n b) ss fs) nothing n b h refl others
   where
     others : (y : Fact) → (y ≡ nothing) ⊎ (three (learnt ns n b) ss fs y ≡ three ns ss fs y)
@@ -78,7 +86,11 @@ nothing-change ns ss fs n b h = fact-change (three ns ss fs) (three (learnt ns n
     others something = inr refl
     others fails = inr refl
 
-pub something-change : (ns ss fs : List Bool) (n : ℕ) (b : Bool) → n < length ss → Change (λ (c : Cell). known (three ns ss fs) (c .fact) (c .node)) (λ (c : Cell). known (three ns (learnt ss n b) fs) (c .fact) (c .node)) (cell something n) b
+pub something-change :
+    (ns ss fs : List Bool) (n : ℕ) (b : Bool)
+    → n < length ss
+    → Change (λ (c : Cell). known (three ns ss fs) (c .fact) (c .node))
+    (λ (c : Cell). known (three ns (learnt ss n b) fs) (c .fact) (c .node)) (cell something n) b
 something-change ns ss fs n b h = fact-change (three ns ss fs) (three ns (learnt ss n b) fs) something n b h refl others
   where
     others : (y : Fact) → (y ≡ something) ⊎ (three ns (learnt ss n b) fs y ≡ three ns ss fs y)
@@ -86,7 +98,11 @@ something-change ns ss fs n b h = fact-change (three ns ss fs) (three ns (learnt
     others something = inl refl
     others fails = inr refl
 
-pub fails-change : (ns ss fs : List Bool) (n : ℕ) (b : Bool) → n < length fs → Change (λ (c : Cell). known (three ns ss fs) (c .fact) (c .node)) (λ (c : Cell). known (three ns ss (learnt fs n b)) (c .fact) (c .node)) (cell fails n) b
+pub fails-change :
+    (ns ss fs : List Bool) (n : ℕ) (b : Bool)
+    → n < length fs
+    → Change (λ (c : Cell). known (three ns ss fs) (c .fact) (c .node))
+    (λ (c : Cell). known (three ns ss (learnt fs n b)) (c .fact) (c .node)) (cell fails n) b
 fails-change ns ss fs n b h = fact-change (three ns ss fs) (three ns ss (learnt fs n b)) fails n b h refl others
   where
     others : (y : Fact) → (y ≡ fails) ⊎ (three ns ss (learnt fs n b) y ≡ three ns ss fs y)

@@ -41,7 +41,10 @@ cells-count (suc n) = omega (arith, cells-count n)
 each-cell : (P : Cell → Type 0) (count : ℕ) → ((n : ℕ) → n < count → (x : Fact) → P (cell x n)) → Each P (cellsBelow count)
 unfolding cellsBelow
 each-cell P zero h = each-none
-each-cell P (suc n) h = each-more (h n (omega arith) nothing) (each-more (h n (omega arith) something) (each-more (h n (omega arith) fails) (each-cell P n (λ k l x. h k (omega arith) x))))
+each-cell P (suc n) h =
+    each-more (h n (omega arith) nothing)
+    (each-more (h n (omega arith) something)
+    (each-more (h n (omega arith) fails) (each-cell P n (λ k l x. h k (omega arith) x))))
 
 pub cell-at : (P : Cell → Type 0) (count : ℕ) → Each P (cellsBelow count) → (n : ℕ) → n < count → (x : Fact) → P (cell x n)
 unfolding cellsBelow
@@ -77,9 +80,12 @@ module _ (rules : List ℕ) where
         or-more (p fails a) (succeeds p a && p fails b) (q fails a) (succeeds q a && q fails b) (m fails a)
         (and-more (succeeds p a) (p fails b) (succeeds q a) (q fails b) (succeeds-more a) (m fails b)) e
     gives-more (choice a b) nothing e =
-        or-more (p nothing a) (p fails a && p nothing b) (q nothing a) (q fails a && q nothing b) (m nothing a) (and-more (p fails a) (p nothing b) (q fails a) (q nothing b) (m fails a) (m nothing b)) e
+        or-more (p nothing a) (p fails a && p nothing b) (q nothing a) (q fails a && q nothing b) (m nothing a)
+        (and-more (p fails a) (p nothing b) (q fails a) (q nothing b) (m fails a) (m nothing b)) e
     gives-more (choice a b) something e =
-        or-more (p something a) (p fails a && p something b) (q something a) (q fails a && q something b) (m something a) (and-more (p fails a) (p something b) (q fails a) (q something b) (m fails a) (m something b)) e
+        or-more (p something a) (p fails a && p something b) (q something a) (q fails a && q something b)
+        (m something a) (and-more (p fails a) (p something b) (q fails a) (q something b) (m fails a) (m something b))
+        e
     gives-more (choice a b) fails e = and-more (p fails a) (p fails b) (q fails a) (q fails b) (m fails a) (m fails b) e
     gives-more (not a) nothing e = m fails a e
     gives-more (not a) something e = e
@@ -144,11 +150,20 @@ module _ (nodes rules : List ℕ) (count : ℕ) (inside : (n : ℕ) → n < coun
       let k = length (cellsBelow count) in
       subst (λ (r : ℕ). knownAfter nodes rules (suc r) x n ≡ knownAfter nodes rules r x n) (cells-count count)
       (sym (fact-rounds (suc k) x n)
-      ∙ cell-at (λ c. rounds (factStep nodes rules) fact-more (cellsBelow count) fact-local (suc k) c ≡ rounds (factStep nodes rules) fact-more (cellsBelow count) fact-local k c) count (settled (factStep nodes rules) fact-more (cellsBelow count) fact-local) n h x
+      ∙ cell-at
+      (λ c.
+      rounds (factStep nodes rules) fact-more (cellsBelow count) fact-local (suc k) c
+      ≡ rounds (factStep nodes rules) fact-more (cellsBelow count) fact-local k c) count
+      (settled (factStep nodes rules) fact-more (cellsBelow count) fact-local) n h x
       ∙ fact-rounds k x n)
 
   -- The facts that three rounds a node find are closed under the rules.
-  pub facts-closed : (n : ℕ) → n < count → (x : Fact) → gives rules (knownAfter nodes rules (count * 3)) (form nodes n) x ≡ true → knownAfter nodes rules (count * 3) x n ≡ true
+  pub facts-closed :
+      (n : ℕ)
+      → n < count
+      → (x : Fact)
+      → gives rules (knownAfter nodes rules (count * 3)) (form nodes n) x ≡ true
+      → knownAfter nodes rules (count * 3) x n ≡ true
   unfolding knownAfter
   facts-closed n h x e = sym (facts-settle n h x) ∙ e
 
@@ -193,7 +208,12 @@ module _ (rules : List ℕ) (may : ℕ → Bool) where
   passes-more p q m (align a) e = m a e
   passes-more p q m other e = e
 
-  passes-same : (count : ℕ) (p q : ℕ → Bool) → ((n : ℕ) → n < count → p n ≡ q n) → (f : Form) → Inside rules count f → passes rules may p f ≡ passes rules may q f
+  passes-same :
+      (count : ℕ) (p q : ℕ → Bool)
+      → ((n : ℕ) → n < count → p n ≡ q n)
+      → (f : Form)
+      → Inside rules count f
+      → passes rules may p f ≡ passes rules may q f
   unfolding passes
   passes-same count p q s empty i = refl
   passes-same count p q s (terminal t) i = refl
@@ -211,8 +231,14 @@ module _ (nodes rules : List ℕ) (count : ℕ) (inside : (n : ℕ) → n < coun
   well-more : (p q : ℕ → Bool) → More p q → More (wellStep nodes rules may p) (wellStep nodes rules may q)
   well-more p q m n e = passes-more rules may p q m (form nodes n) e
 
-  well-local : (p q : ℕ → Bool) → Each (λ n. p n ≡ q n) (nodesBelow count) → Each (λ n. wellStep nodes rules may p n ≡ wellStep nodes rules may q n) (nodesBelow count)
-  well-local p q e = each-node (λ n. wellStep nodes rules may p n ≡ wellStep nodes rules may q n) count (λ n h. passes-same rules may count p q (λ k l. node-at (λ m. p m ≡ q m) count e k l) (form nodes n) (inside n h))
+  well-local :
+      (p q : ℕ → Bool)
+      → Each (λ n. p n ≡ q n) (nodesBelow count)
+      → Each (λ n. wellStep nodes rules may p n ≡ wellStep nodes rules may q n) (nodesBelow count)
+  well-local p q e =
+      each-node (λ n. wellStep nodes rules may p n ≡ wellStep nodes rules may q n) count
+      (λ n h.
+      passes-same rules may count p q (λ k l. node-at (λ m. p m ≡ q m) count e k l) (form nodes n) (inside n h))
 
   well-rounds : (k n : ℕ) → rounds (wellStep nodes rules may) well-more (nodesBelow count) well-local k n ≡ wellAfter nodes rules may k n
   unfolding rounds wellAfter
@@ -224,7 +250,11 @@ module _ (nodes rules : List ℕ) (count : ℕ) (inside : (n : ℕ) → n < coun
       let k = length (nodesBelow count) in
       subst (λ (r : ℕ). wellAfter nodes rules may (suc r) n ≡ wellAfter nodes rules may r n) (nodes-count count)
       (sym (well-rounds (suc k) n)
-      ∙ node-at (λ m. rounds (wellStep nodes rules may) well-more (nodesBelow count) well-local (suc k) m ≡ rounds (wellStep nodes rules may) well-more (nodesBelow count) well-local k m) count (settled (wellStep nodes rules may) well-more (nodesBelow count) well-local) n h
+      ∙ node-at
+      (λ m.
+      rounds (wellStep nodes rules may) well-more (nodesBelow count) well-local (suc k) m
+      ≡ rounds (wellStep nodes rules may) well-more (nodesBelow count) well-local k m) count
+      (settled (wellStep nodes rules may) well-more (nodesBelow count) well-local) n h
       ∙ well-rounds k n)
 
 -- The nodes that the rounds find well formed are those that are: in a table that passes 3, 4 and 5, three rounds of facts
@@ -236,6 +266,8 @@ well-decided nodes rules e n h =
     let count = nodeCount nodes in
     let inside = inside-table nodes rules e in
     let may : ℕ → Bool = knownAfter nodes rules (count * 3) nothing in (
-      well-true nodes rules count inside may (λ k l d. facts-decided nodes rules count inside k l nothing .1 d) count n h,
-      all-found nodes rules count inside may (λ k f. known-true nodes rules (count * 3) nothing k f) (wellAfter nodes rules may count) (λ k l f. sym (well-settle nodes rules count inside may k l) ∙ f) n h,
+      well-true nodes rules count inside may (λ k l d. facts-decided nodes rules count inside k l nothing .1 d)
+          count n h,
+      all-found nodes rules count inside may (λ k f. known-true nodes rules (count * 3) nothing k f)
+          (wellAfter nodes rules may count) (λ k l f. sym (well-settle nodes rules count inside may k l) ∙ f) n h,
     )

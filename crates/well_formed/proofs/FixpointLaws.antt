@@ -42,7 +42,13 @@ module _ {C : Type 0} where
   same-found p q m [] h = each-none
   same-found p q m (c ∷ cs) h = by-test (p c) (q c) refl refl (missing-less p q m cs) (λ k. same-found p q m cs k)
     where
-      by-test : (a b : Bool) → p c ≡ a → q c ≡ b → missing q cs ≤ missing p cs → (missing p cs ≤ missing q cs → Each (λ d. q d ≡ p d) cs) → Each (λ d. q d ≡ p d) (c ∷ cs)
+      by-test :
+          (a b : Bool)
+          → p c ≡ a
+          → q c ≡ b
+          → missing q cs ≤ missing p cs
+          → (missing p cs ≤ missing q cs → Each (λ d. q d ≡ p d) cs)
+          → Each (λ d. q d ≡ p d) (c ∷ cs)
       by-test true b e f l again = let k : 0 + missing p cs ≤ 0 + missing q cs = rw (e, m c e) at h in each-more (m c e ∙ sym e) (again (omega arith))
       by-test false true e f l again = let k : 1 + missing p cs ≤ 0 + missing q cs = rw (e, f) at h in absurd (omega arith)
       by-test false false e f l again = let k : 1 + missing p cs ≤ 1 + missing q cs = rw (e, f) at h in each-more (f ∙ sym e) (again (omega arith))
@@ -94,7 +100,10 @@ module _ {C : Type 0} where
     settles zero = inr (let h = missing-most (rounds zero) cells in omega arith)
     settles (suc k) = by-last (settles k) (le-or-lt (missing (rounds k) cells) (missing (rounds (suc k)) cells))
       where
-        by-last : Settled k ⊎ (missing (rounds k) cells + k ≤ length cells) → (missing (rounds k) cells ≤ missing (rounds (suc k)) cells) ⊎ (missing (rounds (suc k)) cells < missing (rounds k) cells)
+        by-last :
+            Settled k ⊎ (missing (rounds k) cells + k ≤ length cells)
+            → (missing (rounds k) cells ≤ missing (rounds (suc k)) cells)
+            ⊎ (missing (rounds (suc k)) cells < missing (rounds k) cells)
             → Settled (suc k) ⊎ (missing (rounds (suc k)) cells + suc k ≤ length cells)
         by-last (inl e) l = inl (stays k e)
         by-last (inr h) (inl l) = inl (stays k (same-found (rounds k) (rounds (suc k)) (grows k) cells l))

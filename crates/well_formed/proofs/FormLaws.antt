@@ -63,8 +63,13 @@ module _ (nodes rules : List ℕ) (n : ℕ) where
   child = firstChild rules (kindOf nodes n) (aOf nodes n)
 
   -- What a node gives, from the facts of its first child and of b.
-  pub node-gives : (known : Fact → ℕ → Bool) (first second : Fact → Bool) → ((y : Fact) → first y ≡ known y child) → ((y : Fact) → second y ≡ known y (bOf nodes n)) → (x : Fact)
-      → gives (0 ∷ []) (λ y. two (first y) (second y)) (decode (kindOf nodes n) 0 1 0) x ≡ gives rules known (form nodes n) x
+  pub node-gives :
+      (known : Fact → ℕ → Bool) (first second : Fact → Bool)
+      → ((y : Fact) → first y ≡ known y child)
+      → ((y : Fact) → second y ≡ known y (bOf nodes n))
+      → (x : Fact)
+      → gives (0 ∷ []) (λ y. two (first y) (second y)) (decode (kindOf nodes n) 0 1 0) x
+      ≡ gives rules known (form nodes n) x
   unfolding form
   node-gives known first second e d x =
       ap₂ (λ (f g : Fact → Bool). gives (0 ∷ []) (λ y. two (f y) (g y)) (decode (kindOf nodes n) 0 1 0) x) (fun-ext e) (fun-ext d)

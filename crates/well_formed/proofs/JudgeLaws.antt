@@ -21,7 +21,14 @@ use Rattle.well_formed.proofs.VerdictLaws.{verdict-same}
 
 module _ (nodes rules : List ℕ) (passing : tableAnswer nodes rules ≡ given tt) where
   pub facts-start : FactsReady nodes rules (replicate 512 false) (replicate 512 false) (replicate 512 false)
-  facts-start = let few = counts-inside nodes rules passing .1 in record { room-nothing = few; room-something = few; room-fails = few; true-ones = λ c e. absurd (none (c .fact) (c .node) e) }
+  facts-start =
+      let few = counts-inside nodes rules passing .1 in
+      record {
+        room-nothing = few;
+        room-something = few;
+        room-fails = few;
+        true-ones = λ c e. absurd (none (c .fact) (c .node) e);
+      }
     where
       none : (x : Fact) (n : ℕ) → known (three (replicate 512 false) (replicate 512 false) (replicate 512 false)) x n ≡ true → ⊥
       none nothing n e = none-set 512 n e
@@ -39,11 +46,16 @@ module _ (nodes rules : List ℕ) (passing : tableAnswer nodes rules ≡ given t
     module _ (cells : List Bool) (finished : WellFinished nodes rules ns cells) where
       found-well : (n : ℕ) → n < nodeCount nodes → WellFormed nodes rules (form nodes n) → getD cells n false ≡ true
       found-well n h d =
-          all-found nodes rules (nodeCount nodes) (inside-table nodes rules passing) (λ m. getD ns m false) (λ m e. found .true-ones (cell nothing m) e) (λ m. getD cells m false) (λ m l e. finished .closed m l e) n h d
+          all-found nodes rules (nodeCount nodes) (inside-table nodes rules passing) (λ m. getD ns m false)
+          (λ m e. found .true-ones (cell nothing m) e) (λ m. getD cells m false) (λ m l e. finished .closed m l e) n h
+          d
 
       -- The nodes found are those that are well formed by the definition.
       pub judged : verdictFrom (λ m. getD cells m false) 0 (nodeCount nodes) ≡ verdictFrom (isWell nodes rules) 0 (nodeCount nodes)
       unfolding isWell mayNothing
       judged =
           verdict-same (λ m. getD cells m false) (isWell nodes rules) 0 (nodeCount nodes)
-          (λ n h. same-truth (getD cells n false) (isWell nodes rules n) (λ e. well-decided nodes rules passing n (omega arith) .1 (finished .true-ones n e)) (λ e. found-well n (omega arith) (well-decided nodes rules passing n (omega arith) .0 e)))
+          (λ n h.
+          same-truth (getD cells n false) (isWell nodes rules n)
+          (λ e. well-decided nodes rules passing n (omega arith) .1 (finished .true-ones n e))
+          (λ e. found-well n (omega arith) (well-decided nodes rules passing n (omega arith) .0 e)))

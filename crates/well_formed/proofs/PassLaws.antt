@@ -42,7 +42,11 @@ module _ {C : Type 0} (True Below : C → Type 0) (step : (C → Bool) → C →
       record { true-ones = t; kept = λ c e. e; same = λ f c. refl; closed = λ f c l. absurd (none c l); new = λ e. absurd (false≢true e) }
 
   -- What a pass has looked at may be said in other words.
-  pub looked-also : {Looked Other : C → Type 0} {p₀ p : C → Bool} {found : Bool} → ((c : C) → Other c → Looked c) → Pass True Below step Looked p₀ p found → Pass True Below step Other p₀ p found
+  pub looked-also :
+      {Looked Other : C → Type 0} {p₀ p : C → Bool} {found : Bool}
+      → ((c : C) → Other c → Looked c)
+      → Pass True Below step Looked p₀ p found
+      → Pass True Below step Other p₀ p found
   looked-also f h = record { true-ones = h .true-ones; kept = h .kept; same = h .same; closed = λ e c l. h .closed e c (f c l); new = h .new }
 
   module _ {Looked : C → Type 0} {p₀ p : C → Bool} {found : Bool} (h : Pass True Below step Looked p₀ p found)
@@ -89,11 +93,20 @@ module _ {C : Type 0} (True Below : C → Type 0) (step : (C → Bool) → C →
         }
 
   -- A pass over every cell that found none is the last.
-  pub last-pass : {p₀ p : C → Bool} {Looked : C → Type 0} {found : Bool} → ((c : C) → Below c → Looked c) → found ≡ false → Pass True Below step Looked p₀ p found → Finished True Below step p
+  pub last-pass :
+      {p₀ p : C → Bool} {Looked : C → Type 0} {found : Bool}
+      → ((c : C) → Below c → Looked c)
+      → found ≡ false
+      → Pass True Below step Looked p₀ p found
+      → Finished True Below step p
   last-pass {p₀ = p₀} {p = p} all f h = rw (fun-ext (h .same f)) (record { true-ones = λ c e. h .true-ones c (h .kept c e); closed = λ c l. h .closed f c (all c l) })
 
   -- One that found a cell leaves fewer missing.
-  pub fewer : {p₀ p : C → Bool} {Looked : C → Type 0} {found : Bool} (cells : List C) → ((c : C) → Below c → (P : C → Type 0) → Each P cells → P c) → found ≡ true → Pass True Below step Looked p₀ p found
+  pub fewer :
+      {p₀ p : C → Bool} {Looked : C → Type 0} {found : Bool} (cells : List C)
+      → ((c : C) → Below c → (P : C → Type 0) → Each P cells → P c)
+      → found ≡ true
+      → Pass True Below step Looked p₀ p found
       → missing p cells < missing p₀ cells
   fewer {p₀ = p₀} {p = p} cells at f h = ⊎-elim more (λ l. l) (le-or-lt (missing p₀ cells) (missing p cells))
     where

@@ -15,7 +15,9 @@ use Rattle.well_formed.specs.Facts.{nothing, May}
 use Rattle.well_formed.specs.WellFormed.{WellFormed, Passes, repeat-well}
 use Rattle.well_formed.specs.Rounds.{passes, wellAfter}
 use Rattle.well_formed.specs.Check.{mayNothing}
-use Rattle.well_formed.specs.InternalRank.{Enters, enters-rule, enters-first, enters-second, enters-choice, enters-other, enters-not, enters-repeat, enters-indent, enters-position, enters-align, misses, rank}
+use Rattle.well_formed.specs.InternalRank.{Enters, enters-rule, enters-first, enters-second, enters-choice}
+use Rattle.well_formed.specs.InternalRank.{enters-other, enters-not, enters-repeat, enters-indent}
+use Rattle.well_formed.specs.InternalRank.{enters-position, enters-align, misses, rank}
 use Rattle.well_formed.proofs.DecidedLaws.{facts-decided, well-decided}
 
 module _ (found : ℕ → ℕ → Bool) (none : (n : ℕ) → found 0 n ≡ false) where
@@ -84,7 +86,9 @@ module _ (nodes rules : List ℕ) (passing : tableAnswer nodes rules ≡ given t
   later : (n c : ℕ) → n < count → Enters nodes rules (form nodes n) c → (k : ℕ) → found (suc k) n ≡ true → found k c ≡ true
   unfolding wellAfter mayNothing
   later n c h enter k e =
-      entered-passes nodes rules count (mayNothing nodes rules) (λ m l d. facts-decided nodes rules count (inside-table nodes rules passing) m l nothing .1 d) (found k) enter (inside-table nodes rules passing n h) e
+      entered-passes nodes rules count (mayNothing nodes rules)
+      (λ m l d. facts-decided nodes rules count (inside-table nodes rules passing) m l nothing .1 d) (found k) enter
+      (inside-table nodes rules passing n h) e
 
   none-first : (n : ℕ) → found 0 n ≡ false
   unfolding wellAfter

@@ -7,8 +7,15 @@ use mathlib.Core.Logic.{_⊎_, inl, inr, ⊎-elim}
 use Rattle.table.specs.Form.{Form, empty, terminal, rule, sequence, choice, not, repeat, indent, position, align, other, form, standsFor}
 use Rattle.table.specs.InternalInside.{Inside}
 use Rattle.table.proofs.Every.{and-left, and-right}
-use Rattle.well_formed.specs.Facts.{Fact, nothing, something, fails, Success, by-nothing, by-something, May, empty-nothing, terminal-something, terminal-fails, rule-child, indent-child, position-child, align-child, sequence-nothing, sequence-first, sequence-second, sequence-fails, sequence-then-fails, choice-first, choice-second, repeat-something, repeat-nothing, not-nothing, not-fails}
-use Rattle.well_formed.specs.WellFormed.{WellFormed, empty-well, terminal-well, sequence-well, choice-well, repeat-well, rule-well, not-well, indent-well, position-well, align-well}
+use Rattle.well_formed.specs.Facts.{Fact, nothing, something, fails, Success, by-nothing, by-something, May}
+use Rattle.well_formed.specs.Facts.{empty-nothing, terminal-something, terminal-fails, rule-child}
+use Rattle.well_formed.specs.Facts.{indent-child, position-child, align-child, sequence-nothing}
+use Rattle.well_formed.specs.Facts.{sequence-first, sequence-second, sequence-fails, sequence-then-fails}
+use Rattle.well_formed.specs.Facts.{choice-first, choice-second, repeat-something, repeat-nothing}
+use Rattle.well_formed.specs.Facts.{not-nothing, not-fails}
+use Rattle.well_formed.specs.WellFormed.{WellFormed, empty-well, terminal-well, sequence-well, choice-well}
+use Rattle.well_formed.specs.WellFormed.{repeat-well, rule-well, not-well, indent-well, position-well}
+use Rattle.well_formed.specs.WellFormed.{align-well}
 use Rattle.well_formed.specs.Rounds.{succeeds, gives, knownAfter, passes, wellAfter}
 
 -- One of two tests that together hold.
@@ -37,16 +44,23 @@ module _ (nodes rules : List ℕ) where
     gives-true (terminal u) something e = terminal-something
     gives-true (terminal u) fails e = terminal-fails
     gives-true (rule r) x e = rule-child (t x (standsFor rules r) e)
-    gives-true (sequence a b) nothing e = sequence-nothing (t nothing a (and-left (known nothing a) (known nothing b) e)) (t nothing b (and-right (known nothing a) (known nothing b) e))
+    gives-true (sequence a b) nothing e =
+        sequence-nothing (t nothing a (and-left (known nothing a) (known nothing b) e))
+        (t nothing b (and-right (known nothing a) (known nothing b) e))
     gives-true (sequence a b) something e =
         ⊎-elim
-        (λ h. let s = success known t b (and-right (known something a) (succeeds known b) h) in sequence-first (t something a (and-left (known something a) (succeeds known b) h)) (s .1) (s .2))
-        (λ h. let s = success known t a (and-left (succeeds known a) (known something b) h) in sequence-second (s .1) (s .2) (t something b (and-right (succeeds known a) (known something b) h)))
+        (λ h.
+        let s = success known t b (and-right (known something a) (succeeds known b) h) in sequence-first
+        (t something a (and-left (known something a) (succeeds known b) h)) (s .1) (s .2))
+        (λ h.
+        let s = success known t a (and-left (succeeds known a) (known something b) h) in sequence-second (s .1)
+        (s .2) (t something b (and-right (succeeds known a) (known something b) h)))
         (one-of (known something a && succeeds known b) (succeeds known a && known something b) e)
     gives-true (sequence a b) fails e =
-        ⊎-elim
-        (λ h. sequence-fails (t fails a h))
-        (λ h. let s = success known t a (and-left (succeeds known a) (known fails b) h) in sequence-then-fails (s .1) (s .2) (t fails b (and-right (succeeds known a) (known fails b) h)))
+        ⊎-elim (λ h. sequence-fails (t fails a h))
+        (λ h.
+        let s = success known t a (and-left (succeeds known a) (known fails b) h) in sequence-then-fails (s .1)
+        (s .2) (t fails b (and-right (succeeds known a) (known fails b) h)))
         (one-of (known fails a) (succeeds known a && known fails b) e)
     gives-true (choice a b) nothing e =
         ⊎-elim
@@ -103,16 +117,26 @@ module _ (nodes rules : List ℕ) (count : ℕ) (inside : (n : ℕ) → n < coun
     holds (align-child {x = x} d) i = closed _ i x (holds d (inside _ i))
     holds (sequence-nothing d e) i = both (closed _ (i .0) nothing (holds d (inside _ (i .0)))) (closed _ (i .1) nothing (holds e (inside _ (i .1))))
     holds (sequence-first {a = a} {b = b} {x = x} d s e) i =
-        left (succeeds known a && known something b) (both (closed a (i .0) something (holds d (inside a (i .0)))) (succeeds-by b x s (closed b (i .1) x (holds e (inside b (i .1))))))
+        left (succeeds known a && known something b)
+        (both (closed a (i .0) something (holds d (inside a (i .0))))
+        (succeeds-by b x s (closed b (i .1) x (holds e (inside b (i .1))))))
     holds (sequence-second {a = a} {b = b} {x = x} s d e) i =
-        right (known something a && succeeds known b) (both (succeeds-by a x s (closed a (i .0) x (holds d (inside a (i .0))))) (closed b (i .1) something (holds e (inside b (i .1)))))
+        right (known something a && succeeds known b)
+        (both (succeeds-by a x s (closed a (i .0) x (holds d (inside a (i .0)))))
+        (closed b (i .1) something (holds e (inside b (i .1)))))
     holds (sequence-fails {a = a} {b = b} d) i = left (succeeds known a && known fails b) (closed a (i .0) fails (holds d (inside a (i .0))))
     holds (sequence-then-fails {a = a} {b = b} {x = x} s d e) i =
         right (known fails a) (both (succeeds-by a x s (closed a (i .0) x (holds d (inside a (i .0))))) (closed b (i .1) fails (holds e (inside b (i .1)))))
     holds (choice-first {a = a} {b = b} by-nothing d) i = left (known fails a && known nothing b) (closed a (i .0) nothing (holds d (inside a (i .0))))
     holds (choice-first {a = a} {b = b} by-something d) i = left (known fails a && known something b) (closed a (i .0) something (holds d (inside a (i .0))))
-    holds (choice-second {a = a} {b = b} {x = nothing} d e) i = right (known nothing a) (both (closed a (i .0) fails (holds d (inside a (i .0)))) (closed b (i .1) nothing (holds e (inside b (i .1)))))
-    holds (choice-second {a = a} {b = b} {x = something} d e) i = right (known something a) (both (closed a (i .0) fails (holds d (inside a (i .0)))) (closed b (i .1) something (holds e (inside b (i .1)))))
+    holds (choice-second {a = a} {b = b} {x = nothing} d e) i =
+        right (known nothing a)
+        (both (closed a (i .0) fails (holds d (inside a (i .0))))
+        (closed b (i .1) nothing (holds e (inside b (i .1)))))
+    holds (choice-second {a = a} {b = b} {x = something} d e) i =
+        right (known something a)
+        (both (closed a (i .0) fails (holds d (inside a (i .0))))
+        (closed b (i .1) something (holds e (inside b (i .1)))))
     holds (choice-second {a = a} {b = b} {x = fails} d e) i = both (closed a (i .0) fails (holds d (inside a (i .0)))) (closed b (i .1) fails (holds e (inside b (i .1))))
     holds (repeat-something d) i = closed _ i something (holds d (inside _ i))
     holds (repeat-nothing d) i = closed _ i fails (holds d (inside _ i))
@@ -126,7 +150,13 @@ module _ (nodes rules : List ℕ) (count : ℕ) (inside : (n : ℕ) → n < coun
 module _ (nodes rules : List ℕ) (count : ℕ) (inside : (n : ℕ) → n < count → Inside rules count (form nodes n)) (may : ℕ → Bool) where
   -- One use of the rules finds well-formed forms.
   module _ (all : (n : ℕ) → n < count → May nodes rules (form nodes n) nothing → may n ≡ true) where
-    pub passes-true : (well : ℕ → Bool) → ((n : ℕ) → n < count → well n ≡ true → WellFormed nodes rules (form nodes n)) → (f : Form) → Inside rules count f → passes rules may well f ≡ true → WellFormed nodes rules f
+    pub passes-true :
+        (well : ℕ → Bool)
+        → ((n : ℕ) → n < count → well n ≡ true → WellFormed nodes rules (form nodes n))
+        → (f : Form)
+        → Inside rules count f
+        → passes rules may well f ≡ true
+        → WellFormed nodes rules f
     unfolding passes
     passes-true well t empty i e = empty-well
     passes-true well t (terminal u) i e = terminal-well

@@ -51,10 +51,16 @@ module _ (nodes rules : List ℕ) where
         let second = new .something && not (getD ss n false) in
         let ns' = learnt ns n (new .nothing) in
         let ss' = learnt ss n (new .something) in
-        let one = looked _ _ _ h (cell nothing n) b (new .nothing) (true-new nothing) (λ f. now-new f nothing) (nothing-change ns ss fs n (new .nothing) p) in
-        let two = looked _ _ _ one (cell something n) b (new .something) (true-new something) (λ f. now-new (both-false found first f .0) something) (something-change ns' ss fs n (new .something) q) in
+        let one =
+        looked _ _ _ h (cell nothing n) b (new .nothing) (true-new nothing) (λ f. now-new f nothing)
+        (nothing-change ns ss fs n (new .nothing) p) in
+        let two =
+        looked _ _ _ one (cell something n) b (new .something) (true-new something)
+        (λ f. now-new (both-false found first f .0) something) (something-change ns' ss fs n (new .something) q) in
         looked-also _ _ _ looked-at
-        (looked _ _ _ two (cell fails n) b (new .fails) (true-new fails) (λ f. now-new (both-false found first (both-false (found || first) second f .0) .0) fails) (fails-change ns' ss' fs n (new .fails) r))
+        (looked _ _ _ two (cell fails n) b (new .fails) (true-new fails)
+        (λ f. now-new (both-false found first (both-false (found || first) second f .0) .0) fails)
+        (fails-change ns' ss' fs n (new .fails) r))
 
     -- The same, for cells and a sign of success that were made by these steps.
     pub facts-turn : n < nodeCount nodes → n < length ns → n < length ss → n < length fs → {ns' ss' fs' : List Bool} {first second third one two found' : Bool}
@@ -64,16 +70,30 @@ module _ (nodes rules : List ℕ) where
     facts-turn b p q r e f g' i j k l m o = rw (e, f, g', o, m, l, i, j, k) (facts-next b p q r)
 
   -- Whether node n is well formed.
-  module _ (passing : tableAnswer nodes rules ≡ given tt) (nothings before cells : List Bool) (all : (m : ℕ) → m < nodeCount nodes → May nodes rules (form nodes m) nothing → getD nothings m false ≡ true) (n : ℕ) (found : Bool)
+  module _ (passing : tableAnswer nodes rules ≡ given tt) (nothings before cells : List Bool)
+      (all : (m : ℕ) → m < nodeCount nodes → May nodes rules (form nodes m) nothing → getD nothings m false ≡ true)
+      (n : ℕ) (found : Bool)
       (h : WellPass nodes rules nothings n before cells found) (new : Bool) (g : new ≡ passes rules (λ m. getD nothings m false) (λ m. getD cells m false) (form nodes n)) where
     pub well-next : n < nodeCount nodes → n < length cells → WellPass nodes rules nothings (n + 1) before (learnt cells n new) (found || (new && not (getD cells n false)))
     well-next b p =
         looked-also _ _ _ (λ m l. ⊎-elim (λ e. inr e) (λ k. inl k) (here-or-below m n l))
         (looked _ _ _ h n b new
-        (λ e. passes-true nodes rules (nodeCount nodes) (inside-table nodes rules passing) (λ m. getD nothings m false) all (λ m. getD cells m false) (λ m l k. h .true-ones m k) (form nodes n) (inside-table nodes rules passing n b) (sym g ∙ e))
-        (λ f e. g ∙ ap (λ (w : ℕ → Bool). passes rules (λ m. getD nothings m false) w (form nodes n)) (fun-ext (λ m. h .same f m)) ∙ e)
-        (node-change cells n new p))
+        (λ e.
+        passes-true nodes rules (nodeCount nodes) (inside-table nodes rules passing)
+        (λ m. getD nothings m false) all (λ m. getD cells m false) (λ m l k. h .true-ones m k) (form nodes n)
+        (inside-table nodes rules passing n b) (sym g ∙ e))
+        (λ f e.
+        g
+        ∙ ap (λ (w : ℕ → Bool). passes rules (λ m. getD nothings m false) w (form nodes n))
+        (fun-ext (λ m. h .same f m))
+        ∙ e) (node-change cells n new p))
 
-    pub well-turn : n < nodeCount nodes → n < length cells → {cells' : List Bool} {first found' : Bool}
-        → cells' ≡ learnt cells n new → first ≡ (new && not (getD cells n false)) → found' ≡ (found || first) → WellPass nodes rules nothings (n + 1) before cells' found'
+    pub well-turn :
+        n < nodeCount nodes
+        → n < length cells
+        → {cells' : List Bool} {first found' : Bool}
+        → cells' ≡ learnt cells n new
+        → first ≡ (new && not (getD cells n false))
+        → found' ≡ (found || first)
+        → WellPass nodes rules nothings (n + 1) before cells' found'
     well-turn b p e f i = rw (e, i, f) (well-next b p)

@@ -64,7 +64,11 @@ module _ (well : ℕ → Bool) where
   says n zero = all-pass (λ k l m. absurd (omega arith))
   says n (suc left) = by-test (well n) refl (says (suc n) left)
     where
-      by-test : (b : Bool) → well n ≡ b → Says (suc n) left (verdictFrom well (suc n) left) → Says n (suc left) (cond (well n) (verdictFrom well (suc n) left) (refusedAt 7 n))
+      by-test :
+          (b : Bool)
+          → well n ≡ b
+          → Says (suc n) left (verdictFrom well (suc n) left)
+          → Says n (suc left) (cond (well n) (verdictFrom well (suc n) left) (refusedAt 7 n))
       by-test true e h = rw e (one-more n left e h)
       by-test false e h = rw e (first-bad n (record { from = omega arith; below = omega arith; bad = e; lower = λ k l j. absurd (omega arith) }))
 
@@ -104,8 +108,15 @@ module _ (nodes rules : List ℕ) (passing : tableAnswer nodes rules ≡ given t
 
   verdict-passes : (verdictFrom (isWell nodes rules) 0 (nodeCount nodes) ≡ given tt) ↔ Passes nodes rules
   verdict-passes = (
-    λ e. record { every = λ n h. decided n h .0 (passes-all (isWell nodes rules) 0 (nodeCount nodes) (says (isWell nodes rules) 0 (nodeCount nodes)) e n (omega arith) (omega arith)) },
-    λ p. all-passes (isWell nodes rules) 0 (nodeCount nodes) (says (isWell nodes rules) 0 (nodeCount nodes)) (λ k l m. decided k (omega arith) .1 (p .every k (omega arith))),
+    λ e.
+        record {
+          every = λ n h. decided n h .0
+              (passes-all (isWell nodes rules) 0 (nodeCount nodes)
+              (says (isWell nodes rules) 0 (nodeCount nodes)) e n (omega arith) (omega arith));
+        },
+    λ p.
+        all-passes (isWell nodes rules) 0 (nodeCount nodes) (says (isWell nodes rules) 0 (nodeCount nodes))
+        (λ k l m. decided k (omega arith) .1 (p .every k (omega arith))),
   )
 
   lowest-of : (n : ℕ) → First (isWell nodes rules) 0 (nodeCount nodes) n → LowestBad nodes rules n

@@ -34,7 +34,9 @@ pub record Means (nodes rules : List ℕ) (answer : Answer Unit) : Type 0 where
   -- It passes exactly if the table passes 3, 4 and 5 and every node is well formed.
   pub passes : (answer ≡ given tt) ↔ ((tableAnswer nodes rules ≡ given tt) × least.Passes nodes rules)
   -- It is 7 with node n exactly if the table passes 3, 4 and 5, n is not well formed and every lower node is.
-  pub named : (n : ℕ) → (answer ≡ refusedAt 7 n) ↔ ((tableAnswer nodes rules ≡ given tt) × least.LowestBad nodes rules n)
+  pub named :
+      (n : ℕ)
+      → (answer ≡ refusedAt 7 n) ↔ ((tableAnswer nodes rules ≡ given tt) × least.LowestBad nodes rules n)
 
 -- 01's number for each case of `Verdict`, and the node for 7.
 abbrev pub numbers : Verdict → Answer Unit

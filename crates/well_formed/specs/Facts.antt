@@ -2,7 +2,8 @@
 -- three facts as the least relation that the rules give. A table and its rules are lists of words.
 use Prim.Native.Nat.{ℕ}
 use mathlib.Core.List.{List}
-use Rattle.table.specs.Form.{Form, empty, terminal, rule, sequence, choice, not, repeat, indent, position, align, form, standsFor}
+use Rattle.table.specs.Form.{Form, empty, terminal, rule, sequence, choice, not, repeat, indent, position}
+use Rattle.table.specs.Form.{align, form, standsFor}
 
 -- "may succeed reading nothing, may succeed reading something, may fail"
 pub data Fact : Type 0 where
@@ -29,11 +30,26 @@ module _ (nodes rules : List ℕ) where
     -- "Sequence: nothing if both;"
     sequence-nothing : {a b : ℕ} → May (form nodes a) nothing → May (form nodes b) nothing → May (sequence a b) nothing
     -- "something if both may succeed and one reads something;"
-    sequence-first : {a b : ℕ} {x : Fact} → May (form nodes a) something → Success x → May (form nodes b) x → May (sequence a b) something
-    sequence-second : {a b : ℕ} {x : Fact} → Success x → May (form nodes a) x → May (form nodes b) something → May (sequence a b) something
+    sequence-first :
+        {a b : ℕ} {x : Fact}
+        → May (form nodes a) something
+        → Success x
+        → May (form nodes b) x
+        → May (sequence a b) something
+    sequence-second :
+        {a b : ℕ} {x : Fact}
+        → Success x
+        → May (form nodes a) x
+        → May (form nodes b) something
+        → May (sequence a b) something
     -- "fails if a may fail, or a may succeed and b fail."
     sequence-fails : {a b : ℕ} → May (form nodes a) fails → May (sequence a b) fails
-    sequence-then-fails : {a b : ℕ} {x : Fact} → Success x → May (form nodes a) x → May (form nodes b) fails → May (sequence a b) fails
+    sequence-then-fails :
+        {a b : ℕ} {x : Fact}
+        → Success x
+        → May (form nodes a) x
+        → May (form nodes b) fails
+        → May (sequence a b) fails
     -- "Choice: a's successes, and if a may fail all of b's facts."
     choice-first : {a b : ℕ} {x : Fact} → Success x → May (form nodes a) x → May (choice a b) x
     choice-second : {a b : ℕ} {x : Fact} → May (form nodes a) fails → May (form nodes b) x → May (choice a b) x

@@ -79,7 +79,9 @@ module _ (nodes rules : List ℕ) where
   knownCells cells c = known cells (c .fact) (c .node)
 
   abbrev pub FactsPass : ℕ → (Fact → List Bool) → (Fact → List Bool) → Bool → Type 0
-  FactsPass n before after found = Pass TrueFact (FactBelow (nodeCount nodes)) factStep (FactBelow n) (knownCells before) (knownCells after) found
+  FactsPass n before after found =
+      Pass TrueFact (FactBelow (nodeCount nodes)) factStep (FactBelow n) (knownCells before) (knownCells after)
+      found
 
   abbrev pub FactsFinished : (Fact → List Bool) → Type 0
   FactsFinished cells = Finished TrueFact (FactBelow (nodeCount nodes)) factStep (knownCells cells)
@@ -95,10 +97,13 @@ module _ (nodes rules : List ℕ) where
   wellCells cells n = getD cells n false
 
   abbrev pub WellPass : List Bool → ℕ → List Bool → List Bool → Bool → Type 0
-  WellPass nothings n before after found = Pass TrueWell (λ m. m < nodeCount nodes) (wellStep (λ m. getD nothings m false)) (λ m. m < n) (wellCells before) (wellCells after) found
+  WellPass nothings n before after found =
+      Pass TrueWell (λ m. m < nodeCount nodes) (wellStep (λ m. getD nothings m false)) (λ m. m < n)
+      (wellCells before) (wellCells after) found
 
   abbrev pub WellFinished : List Bool → List Bool → Type 0
-  WellFinished nothings cells = Finished TrueWell (λ m. m < nodeCount nodes) (wellStep (λ m. getD nothings m false)) (wellCells cells)
+  WellFinished nothings cells =
+      Finished TrueWell (λ m. m < nodeCount nodes) (wellStep (λ m. getD nothings m false)) (wellCells cells)
 
   -- What a pass over the facts asks: room for every node, and no cell set that is not true.
   pub record FactsReady (nothings somethings failures : List Bool) : Type 0 where
@@ -111,6 +116,7 @@ module _ (nodes rules : List ℕ) where
   -- room for every node, and no cell set that is not true.
   pub record WellReady (nothings cells : List Bool) : Type 0 where
     pub passing : tableAnswer nodes rules ≡ given tt
-    pub all-nothing : (n : ℕ) → n < nodeCount nodes → May nodes rules (form nodes n) nothing → getD nothings n false ≡ true
+    pub all-nothing :
+        (n : ℕ) → n < nodeCount nodes → May nodes rules (form nodes n) nothing → getD nothings n false ≡ true
     pub room : nodeCount nodes ≤ length cells
     pub true-ones : (n : ℕ) → wellCells cells n ≡ true → TrueWell n

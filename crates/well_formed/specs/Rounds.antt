@@ -2,7 +2,8 @@
 use Prim.Native.Nat.{ℕ, zero, suc}
 use mathlib.Core.Bool.{Bool, true, false, _&&_, _||_, not as isFalse}
 use mathlib.Core.List.{List}
-use Rattle.table.specs.Form.{Form, empty, terminal, rule, sequence, choice, not, repeat, indent, position, align, other, form, standsFor}
+use Rattle.table.specs.Form.{Form, empty, terminal, rule, sequence, choice, not, repeat, indent, position}
+use Rattle.table.specs.Form.{align, other, form, standsFor}
 use Rattle.well_formed.specs.Facts.{Fact, nothing, something, fails}
 
 -- Whether a node is known to succeed.

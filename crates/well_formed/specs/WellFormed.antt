@@ -2,7 +2,8 @@
 -- relation of its own rules.
 use Prim.Native.Nat.{ℕ, _<_}
 use mathlib.Core.List.{List}
-use Rattle.table.specs.Form.{Form, empty, terminal, rule, sequence, choice, not, repeat, indent, position, align, form, standsFor, nodeCount}
+use Rattle.table.specs.Form.{Form, empty, terminal, rule, sequence, choice, not, repeat, indent, position}
+use Rattle.table.specs.Form.{align, form, standsFor, nodeCount}
 use Rattle.well_formed.specs.Facts.{nothing, May}
 
 module _ (nodes rules : List ℕ) where
@@ -11,11 +12,19 @@ module _ (nodes rules : List ℕ) where
     empty-well : WellFormed empty
     terminal-well : {t : ℕ} → WellFormed (terminal t)
     -- "a sequence whose a is, and b too if a may read nothing;"
-    sequence-well : {a b : ℕ} → WellFormed (form nodes a) → (May nodes rules (form nodes a) nothing → WellFormed (form nodes b)) → WellFormed (sequence a b)
+    sequence-well :
+        {a b : ℕ}
+        → WellFormed (form nodes a)
+        → (May nodes rules (form nodes a) nothing → WellFormed (form nodes b))
+        → WellFormed (sequence a b)
     -- "a choice of two;"
     choice-well : {a b : ℕ} → WellFormed (form nodes a) → WellFormed (form nodes b) → WellFormed (choice a b)
     -- "a repeat whose child is and may not succeed reading nothing;"
-    repeat-well : {a : ℕ} → WellFormed (form nodes a) → (May nodes rules (form nodes a) nothing → ⊥) → WellFormed (repeat a)
+    repeat-well :
+        {a : ℕ}
+        → WellFormed (form nodes a)
+        → (May nodes rules (form nodes a) nothing → ⊥)
+        → WellFormed (repeat a)
     -- "else the child."
     rule-well : {r : ℕ} → WellFormed (form nodes (standsFor rules r)) → WellFormed (rule r)
     not-well : {a : ℕ} → WellFormed (form nodes a) → WellFormed (not a)

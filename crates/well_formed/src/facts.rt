@@ -4,6 +4,7 @@ use crate::cells::either;
 use crate::cells::first_child;
 use crate::cells::has;
 use crate::cells::learn;
+use table::kinds;
 ghost use mathlib.Core.Path.{_≡_};
 ghost use mathlib.Core.List.{[], _∷_};
 ghost use Prim.Native.Nat.{_<_};
@@ -28,7 +29,10 @@ pub(crate) fn find(
     fails: &mut [bool],
 )
     requires { ⌜ FactsReady (now nodes) (now rules) (now nothing) (now something) (now fails) ⌝ }
-    ensures { λ r. ⌜ FactsFinished (now (nodes .entry)) (now (rules .entry)) (three (now (nothing .exit)) (now (something .exit)) (now (fails .exit))) ⌝ }
+    ensures { λ r. ⌜
+        FactsFinished (now (nodes .entry)) (now (rules .entry))
+        (three (now (nothing .exit)) (now (something .exit)) (now (fails .exit)))
+        ⌝ }
 {
     loop {
         if !pass(nodes, rules, nothing, something, fails) {
@@ -46,7 +50,11 @@ fn pass(
     fails: &mut [bool],
 ) -> bool
     requires { ⌜ FactsReady (now nodes) (now rules) (now nothing) (now something) (now fails) ⌝ }
-    ensures { λ r. ⌜ FactsPass (now (nodes .entry)) (now (rules .entry)) (nodeCount (now (nodes .entry))) (three (now (nothing .entry)) (now (something .entry)) (now (fails .entry))) (three (now (nothing .exit)) (now (something .exit)) (now (fails .exit))) r ⌝ }
+    ensures { λ r. ⌜
+        FactsPass (now (nodes .entry)) (now (rules .entry)) (nodeCount (now (nodes .entry)))
+        (three (now (nothing .entry)) (now (something .entry)) (now (fails .entry)))
+        (three (now (nothing .exit)) (now (something .exit)) (now (fails .exit))) r
+        ⌝ }
 {
     let count = nodes.len() / 4;
     let mut found = false;
@@ -72,7 +80,13 @@ fn gives(
     n: usize,
 ) -> Facts
     requires { ⌜ «n» < nodeCount (now nodes) ⌝ }
-    ensures { λ r. ⌜ ((x : Fact) → factOf r x ≡ gives-by (now (rules .entry)) (known (three (now (nothing .entry)) (now (something .entry)) (now (fails .entry)))) (form (now (nodes .entry)) «n») x) ⌝ }
+    ensures { λ r. ⌜
+        ((x : Fact)
+        → factOf r x
+        ≡ gives-by (now (rules .entry))
+        (known (three (now (nothing .entry)) (now (something .entry)) (now (fails .entry))))
+        (form (now (nodes .entry)) «n») x)
+        ⌝ }
 {
     let at = n * 4;
     let kind = nodes[at];
@@ -84,26 +98,33 @@ fn gives(
 
 // What is known of a node.
 fn facts_at(nothing: &[bool], something: &[bool], fails: &[bool], n: usize) -> Facts
-    ensures { λ r. ⌜ ((x : Fact) → factOf r x ≡ known (three (now (nothing .entry)) (now (something .entry)) (now (fails .entry))) x «n») ⌝ }
+    ensures { λ r. ⌜
+        ((x : Fact)
+        → factOf r x
+        ≡ known (three (now (nothing .entry)) (now (something .entry)) (now (fails .entry))) x «n»)
+        ⌝ }
 {
     facts_of(has(nothing, n), has(something, n), has(fails, n))
 }
 
 // Ford's rules: a form's facts from those of its children.
 fn by_form(kind: u16, a: Facts, b: Facts) -> Facts
-    ensures { λ r. ⌜ ((x : Fact) → factOf r x ≡ gives-by (0 ∷ []) (λ (y : Fact). two (factOf a y) (factOf b y)) (decode kind 0 1 0) x) ⌝ }
+    ensures { λ r. ⌜
+        ((x : Fact)
+        → factOf r x ≡ gives-by (0 ∷ []) (λ (y : Fact). two (factOf a y) (factOf b y)) (decode kind 0 1 0) x)
+        ⌝ }
 {
     match kind {
-        0 => facts_of(true, false, false),
-        1 => facts_of(false, true, true),
-        2 => a,
-        3 => sequence(a, b),
-        4 => choice(a, b),
-        5 => facts_of(a.fails, false, either(a.nothing, a.something)),
-        6 => facts_of(a.fails, a.something, false),
-        7 => a,
-        8 => a,
-        9 => a,
+        kinds::EMPTY => facts_of(true, false, false),
+        kinds::TERMINAL => facts_of(false, true, true),
+        kinds::RULE => a,
+        kinds::SEQUENCE => sequence(a, b),
+        kinds::CHOICE => choice(a, b),
+        kinds::NOT => facts_of(a.fails, false, either(a.nothing, a.something)),
+        kinds::REPEAT => facts_of(a.fails, a.something, false),
+        kinds::INDENT => a,
+        kinds::POSITION => a,
+        kinds::ALIGN => a,
         _ => facts_of(false, false, false),
     }
 }
@@ -122,7 +143,10 @@ fn facts_of(nothing: bool, something: bool, fails: bool) -> Facts
 
 // The facts of a sequence.
 fn sequence(a: Facts, b: Facts) -> Facts
-    ensures { λ r. ⌜ ((x : Fact) → factOf r x ≡ gives-by (0 ∷ []) (λ (y : Fact). two (factOf a y) (factOf b y)) (sequence-form 0 1) x) ⌝ }
+    ensures { λ r. ⌜
+        ((x : Fact)
+        → factOf r x ≡ gives-by (0 ∷ []) (λ (y : Fact). two (factOf a y) (factOf b y)) (sequence-form 0 1) x)
+        ⌝ }
 {
     let first = either(a.nothing, a.something);
     let second = either(b.nothing, b.something);
@@ -135,7 +159,10 @@ fn sequence(a: Facts, b: Facts) -> Facts
 
 // The facts of an ordered choice.
 fn choice(a: Facts, b: Facts) -> Facts
-    ensures { λ r. ⌜ ((x : Fact) → factOf r x ≡ gives-by (0 ∷ []) (λ (y : Fact). two (factOf a y) (factOf b y)) (choice-form 0 1) x) ⌝ }
+    ensures { λ r. ⌜
+        ((x : Fact)
+        → factOf r x ≡ gives-by (0 ∷ []) (λ (y : Fact). two (factOf a y) (factOf b y)) (choice-form 0 1) x)
+        ⌝ }
 {
     facts_of(
         either(a.nothing, both(a.fails, b.nothing)),

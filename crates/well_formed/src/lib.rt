@@ -35,7 +35,10 @@ pub fn check(nodes: &[u16], rules: &[u16]) -> Verdict
 // The verdict on a table that passes 3, 4 and 5: the facts first, then the nodes that are well formed.
 fn judge(nodes: &[u16], rules: &[u16]) -> Verdict
     requires { ⌜ tableAnswer (now nodes) (now rules) ≡ passed tt ⌝ }
-    ensures { λ r. ⌜ numbers r ≡ verdictFrom (isWell (now (nodes .entry)) (now (rules .entry))) 0 (nodeCount (now (nodes .entry))) ⌝ }
+    ensures { λ r. ⌜
+        numbers r
+        ≡ verdictFrom (isWell (now (nodes .entry)) (now (rules .entry))) 0 (nodeCount (now (nodes .entry)))
+        ⌝ }
 {
     let mut nothing = [false; 512];
     let mut something = [false; 512];
@@ -49,7 +52,10 @@ fn judge(nodes: &[u16], rules: &[u16]) -> Verdict
 // The lowest node that is not among those found, or that the grammar passes.
 fn lowest(nodes: &[u16], found: &[bool]) -> Verdict
     requires { ⌜ nodeCount (now nodes) ≤ 512 ⌝ }
-    ensures { λ r. ⌜ numbers r ≡ verdictFrom (λ (n : ℕ). getD (now (found .entry)) n false) 0 (nodeCount (now (nodes .entry))) ⌝ }
+    ensures { λ r. ⌜
+        numbers r
+        ≡ verdictFrom (λ (n : ℕ). getD (now (found .entry)) n false) 0 (nodeCount (now (nodes .entry)))
+        ⌝ }
 {
     let count = nodes.len() / 4;
     let mut left = count;

@@ -4,6 +4,7 @@ use crate::cells::either;
 use crate::cells::first_child;
 use crate::cells::has;
 use crate::cells::learn;
+use table::kinds;
 ghost use mathlib.Core.Path.{_≡_};
 ghost use mathlib.Core.Bool.{false};
 ghost use mathlib.Core.List.{[], _∷_};
@@ -28,7 +29,10 @@ pub(crate) fn find(nodes: &[u16], rules: &[u16], nothing: &[bool], well: &mut [b
 // One pass: the nodes that pass by their rules join those found. Whether a node was found.
 fn pass(nodes: &[u16], rules: &[u16], nothing: &[bool], well: &mut [bool]) -> bool
     requires { ⌜ WellReady (now nodes) (now rules) (now nothing) (now well) ⌝ }
-    ensures { λ r. ⌜ WellPass (now (nodes .entry)) (now (rules .entry)) (now (nothing .entry)) (nodeCount (now (nodes .entry))) (now (well .entry)) (now (well .exit)) r ⌝ }
+    ensures { λ r. ⌜
+        WellPass (now (nodes .entry)) (now (rules .entry)) (now (nothing .entry))
+        (nodeCount (now (nodes .entry))) (now (well .entry)) (now (well .exit)) r
+        ⌝ }
 {
     let count = nodes.len() / 4;
     let mut found = false;
@@ -45,7 +49,11 @@ fn pass(nodes: &[u16], rules: &[u16], nothing: &[bool], well: &mut [bool]) -> bo
 // Whether node n passes by its rules, from which of its children are found.
 fn passes(nodes: &[u16], rules: &[u16], nothing: &[bool], well: &[bool], n: usize) -> bool
     requires { ⌜ «n» < nodeCount (now nodes) ⌝ }
-    ensures { λ r. ⌜ r ≡ passes-by (now (rules .entry)) (λ (m : ℕ). getD (now (nothing .entry)) m false) (λ (m : ℕ). getD (now (well .entry)) m false) (form (now (nodes .entry)) «n») ⌝ }
+    ensures { λ r. ⌜
+        r
+        ≡ passes-by (now (rules .entry)) (λ (m : ℕ). getD (now (nothing .entry)) m false)
+        (λ (m : ℕ). getD (now (well .entry)) m false) (form (now (nodes .entry)) «n»)
+        ⌝ }
 {
     let at = n * 4;
     let kind = nodes[at];
@@ -63,16 +71,16 @@ fn by_form(kind: u16, a: bool, nothing: bool, b: bool) -> bool
     ensures { λ r. ⌜ r ≡ passes-by (0 ∷ []) (λ (n : ℕ). nothing) (two a b) (decode kind 0 1 0) ⌝ }
 {
     match kind {
-        0 => true,
-        1 => true,
-        2 => a,
-        3 => both(a, either(!nothing, b)),
-        4 => both(a, b),
-        5 => a,
-        6 => both(a, !nothing),
-        7 => a,
-        8 => a,
-        9 => a,
+        kinds::EMPTY => true,
+        kinds::TERMINAL => true,
+        kinds::RULE => a,
+        kinds::SEQUENCE => both(a, either(!nothing, b)),
+        kinds::CHOICE => both(a, b),
+        kinds::NOT => a,
+        kinds::REPEAT => both(a, !nothing),
+        kinds::INDENT => a,
+        kinds::POSITION => a,
+        kinds::ALIGN => a,
         _ => false,
     }
 }

@@ -73,7 +73,11 @@ unfolding isSingle classOf
 returns-2 c = rw (c .match .keys2)
 
 returns-3 : tie.Need-returns-3
-returns-3 c = plain _ true (omega arith) (c .before .before .before .before .before .match .rest .1) (rw (le-leb _ _ (c .before .if4 .left), le-leb (c .before .before .before .before .before .before .args .b) 57 (omega arith)))
+returns-3 c =
+    let match = c .before .before .before .before .before .match in
+    let start = c .before .before .before .before .before .before in
+    plain _ true (omega arith) (match .rest .1)
+    (rw (le-leb _ _ (c .before .if4 .left), le-leb (start .args .b) 57 (omega arith)))
 
 returns-4 : tie.Need-returns-4
 returns-4 c = plain _ false (omega arith) (c .before .before .match .rest .1) (rw (lt-leb 48 (c .before .before .before .args .b) (omega arith)))
@@ -82,7 +86,10 @@ returns-5 : tie.Need-returns-5
 returns-5 c = plain _ false (omega arith) (c .before .before .before .before .match .rest .1) (rw (lt-leb _ _ (c .if4 .taken)))
 
 returns-6 : tie.Need-returns-6
-returns-6 c = plain _ false (omega arith) (c .before .before .before .before .before .before .match .rest .1) (rw (le-leb _ _ (c .before .before .if4 .left), lt-leb (c .before .before .before .before .before .before .before .args .b) 57 (omega arith)))
+returns-6 c =
+    let byte = c .before .before .before .before .before .before .before .args .b in
+    plain _ false (omega arith) (c .before .before .before .before .before .before .match .rest .1)
+    (rw (le-leb _ _ (c .before .before .if4 .left), lt-leb byte 57 (omega arith)))
 
 returns-7 : tie.Need-returns-7
 returns-7 c = lone _ (c .match .keys6)
@@ -121,17 +128,5 @@ returns-13 c = let r = c .before .match .rest in
 pub class-of-spec : {M : Type 1} → statement M
 class-of-spec =
     tie.close
-    (tie.spec
-    returns
-    returns-2
-    returns-3
-    returns-4
-    returns-5
-    returns-6
-    returns-7
-    returns-8
-    returns-9
-    returns-10
-    returns-11
-    returns-12
-    returns-13)
+    (tie.spec returns returns-2 returns-3 returns-4 returns-5 returns-6 returns-7 returns-8 returns-9 returns-10
+    returns-11 returns-12 returns-13)

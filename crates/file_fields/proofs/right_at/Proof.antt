@@ -10,54 +10,53 @@ use Rattle.file_fields.specs.Offsets.{lengthAt, rightAt}
 
 returns : tie.Need-returns
 unfolding rightAt
-returns c = rw (lt-leb (c .before .before .args .at + 3 + lengthAt (c .before .before .args .file .now) (c .before .before .args .at)) (length (c .before .before .args .file .now)) (omega (arith))) refl
-
-sub-if2 : tie.Need-sub-if2
-sub-if2 c = omega arith
+returns c =
+    let start = c .before .before in
+    rw
+    (lt-leb (start .args .at + 3 + lengthAt (start .args .file .now) (start .args .at))
+    (length (start .args .file .now)) (omega arith)) refl
 
 returns-2 : tie.Need-returns-2
 unfolding rightAt
-returns-2 c = rw (lt-leb (c .before .before .before .args .at + 3 + lengthAt (c .before .before .before .args .file .now) (c .before .before .before .args .at)) (length (c .before .before .before .args .file .now)) (omega (arith))) refl
-
-length-at-requires : tie.Need-length-at-requires
-length-at-requires c κs = omega arith
-
-sub-if3 : tie.Need-sub-if3
-sub-if3 c = omega arith
-
-sub-if3-2 : tie.Need-sub-if3-2
-sub-if3-2 c = omega arith
+returns-2 c =
+    let start = c .before .before .before in
+    rw
+    (lt-leb (start .args .at + 3 + lengthAt (start .args .file .now) (start .args .at))
+    (length (start .args .file .now)) (omega arith)) refl
 
 returns-3 : tie.Need-returns-3
 unfolding rightAt
-returns-3 c = rw (lt-leb (c .before .before .before .before .before .args .at + 3 + lengthAt (c .before .before .before .before .before .args .file .now) (c .before .before .before .before .before .args .at)) (length (c .before .before .before .before .before .args .file .now)) (omega (arith, c .before .length-at .ensures))) refl
-
-shared-slice-read-if4 : tie.Need-shared-slice-read-if4
-shared-slice-read-if4 c = omega arith
+returns-3 c =
+    let start = c .before .before .before .before .before in
+    rw
+    (lt-leb (start .args .at + 3 + lengthAt (start .args .file .now) (start .args .at))
+    (length (start .args .file .now)) (omega (arith, c .before .length-at .ensures))) refl
 
 returns-4 : tie.Need-returns-4
 unfolding rightAt
-returns-4 c = rw (le-leb (c .before .before .before .before .before .before .before .args .at + 3 + lengthAt (c .before .before .before .before .before .before .before .args .file .now) (c .before .before .before .before .before .before .before .args .at)) (length (c .before .before .before .before .before .before .before .args .file .now)) (omega (arith, c .before .before .before .length-at .ensures)), ne-eqb _ _ (c .if4 .taken)) refl
-
-right-length-requires : tie.Need-right-length-requires
-right-length-requires c κs = tt
+returns-4 c =
+    let length-at = c .before .before .before .length-at in
+    let start = c .before .before .before .before .before .before .before in
+    rw (
+      le-leb (start .args .at + 3 + lengthAt (start .args .file .now) (start .args .at))
+          (length (start .args .file .now)) (omega (arith, length-at .ensures)),
+      ne-eqb _ _ (c .if4 .taken),
+    ) refl
 
 returns-5 : tie.Need-returns-5
 unfolding rightAt
-returns-5 c = rw (le-leb (c .before .before .before .before .before .before .before .before .args .at + 3 + lengthAt (c .before .before .before .before .before .before .before .before .args .file .now) (c .before .before .before .before .before .before .before .before .args .at)) (length (c .before .before .before .before .before .before .before .before .args .file .now)) (omega (arith, c .before .before .before .before .length-at .ensures)), eq-eqb _ _ (c .before .if4 .left), ← c .before .before .before .before .length-at .ensures) (c .right-length .ensures)
+returns-5 c =
+    let length-at = c .before .before .before .before .length-at in
+    let start = c .before .before .before .before .before .before .before .before in
+    rw (
+      le-leb (start .args .at + 3 + lengthAt (start .args .file .now) (start .args .at))
+          (length (start .args .file .now)) (omega (arith, length-at .ensures)),
+      eq-eqb _ _ (c .before .if4 .left),
+      ← length-at .ensures,
+    ) (c .right-length .ensures)
 
 pub right-at-spec : {M : Type 1} → statement M
 right-at-spec =
     tie.close
-    (tie.spec
-    returns
-    sub-if2
-    returns-2
-    length-at-requires
-    sub-if3
-    sub-if3-2
-    returns-3
-    shared-slice-read-if4
-    returns-4
-    right-length-requires
-    returns-5)
+    (tie.spec returns (λ c. omega arith) returns-2 (λ c κs. omega arith) (λ c. omega arith) (λ c. omega arith)
+    returns-3 (λ c. omega arith) returns-4 (λ c κs. tt) returns-5)

@@ -8,35 +8,23 @@ use Prim.Native.Nat.{_-_, _≤_}
 use lib.ListN.{length, drop, drop-of-length-le}
 use Rattle.file_fields.proofs.Lists.{take-rest}
 
-value-at-requires : tie.Need-value-at-requires
-value-at-requires c κs = tt
-
-sub-result : tie.Need-sub-result
-sub-result c = omega arith
-
-part-result-start : tie.Need-part-result-start
-part-result-start c = omega arith
-
-part-result-end : tie.Need-part-result-end
-part-result-end c = omega arith
-
-slice-aggregate-result : tie.Need-slice-aggregate-result
-slice-aggregate-result c = search needs
-
 returns : tie.Need-returns
-returns c = take-rest (length (c .before .before .value-at .result .now) - c .before .before .before .before .args .skip) (c .before .before .before .before .args .skip) (c .before .before .value-at .result .now) (omega arith) ∙ ap (drop (c .before .before .before .before .args .skip)) (c .before .before .value-at .ensures)
+returns c =
+    let value-at = c .before .before .value-at in
+    let start = c .before .before .before .before in
+    take-rest (length (value-at .result .now) - start .args .skip) (start .args .skip) (value-at .result .now)
+    (omega arith)
+    ∙ ap (drop (start .args .skip)) (value-at .ensures)
 
 returns-2 : tie.Need-returns-2
-returns-2 c = let h : length (c .before .before .value-at .result .now) ≤ c .before .before .before .before .args .skip = omega arith in sym (drop-of-length-le (c .before .before .value-at .result .now) h) ∙ ap (drop (c .before .before .before .before .args .skip)) (c .before .before .value-at .ensures)
+returns-2 c =
+    let value-at = c .before .before .value-at in
+    let start = c .before .before .before .before in
+    let h : length (value-at .result .now) ≤ start .args .skip = omega arith in
+    sym (drop-of-length-le (value-at .result .now) h) ∙ ap (drop (start .args .skip)) (value-at .ensures)
 
 pub spelling-at-spec : {M : Type 1} → statement M
 spelling-at-spec =
     tie.close
-    (tie.spec
-    value-at-requires
-    sub-result
-    part-result-start
-    part-result-end
-    slice-aggregate-result
-    returns
+    (tie.spec (λ c κs. tt) (λ c. omega arith) (λ c. omega arith) (λ c. omega arith) (λ c. search needs) returns
     returns-2)

@@ -14,7 +14,12 @@ byte-in-requires : tie.Need-byte-in-requires
 byte-in-requires c κs = search needs
 
 returns : tie.Need-returns
-returns c = (counted (c .before .before .before .before .before .before .args .file .now) (c .before .before .before .before .before .before .args .s) (c .before .before .before .before .before .before .pre) (c .before .before .value-at .ensures) (c .before .number-in .ensures) (c .byte-in .ensures .0), keywords-stand (c .before .before .before .before .before .before .args .file .now) (c .before .before .before .before .before .before .args .s) (c .before .before .before .before .before .before .pre))
+returns c =
+    let start = c .before .before .before .before .before .before in (
+      counted (start .args .file .now) (start .args .s) (start .pre) (c .before .before .value-at .ensures)
+          (c .before .number-in .ensures) (c .byte-in .ensures .0),
+      keywords-stand (start .args .file .now) (start .args .s) (start .pre),
+    )
 
 pub counts-spec : {M : Type 1} → statement M
 counts-spec = tie.close (tie.spec value-at-requires number-in-requires byte-in-requires returns)

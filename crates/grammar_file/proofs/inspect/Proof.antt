@@ -9,9 +9,6 @@ use Rattle.table.specs.Checks.{numbers as checkedNumbers}
 use Rattle.grammar_file.specs.File.{fileAnswer}
 use Rattle.grammar_file.proofs.PartLaws.{by-names, by-table, by-start, start-test, mode-test}
 
-shape-of-requires : tie.Need-shape-of-requires
-shape-of-requires c κs = search needs
-
 returns : tie.Need-returns
 unfolding fileAnswer
 returns c = rw (c .before .before .shape-of .ensures .wrong (not-true _ (c .if1 .taken))) refl
@@ -20,57 +17,92 @@ names-wrong-requires : tie.Need-names-wrong-requires
 names-wrong-requires c κs = (c .before .before .shape-of .ensures .right (not-false _ (c .if1 .left)))
 
 returns-2 : tie.Need-returns-2
-returns-2 c = by-names (c .before .before .before .before .before .before .args .file .now) (c .before .before .before .before .shape-of .result) (c .before .before .before .before .shape-of .ensures .right (not-false _ (c .before .before .if1 .left))) (sym (c .before .names-wrong .ensures) ∙ c .if2 .taken)
-
-check-tables-requires : tie.Need-check-tables-requires
-check-tables-requires c κs = search needs
-
-enum-known-table : tie.Need-enum-known-table
-enum-known-table c = search needs
+returns-2 c =
+    let shape-of = c .before .before .before .before .shape-of in
+    let start = c .before .before .before .before .before .before in
+    by-names (start .args .file .now) (shape-of .result)
+    (shape-of .ensures .right (not-false _ (c .before .before .if1 .left)))
+    (sym (c .before .names-wrong .ensures) ∙ c .if2 .taken)
 
 returns-3 : tie.Need-returns-3
-returns-3 c = by-table (c .before .before .before .before .before .before .before .before .before .before .before .before .args .file .now) (c .before .before .before .before .before .before .before .before .before .before .shape-of .result) (c .before .before .before .before .before .before .before .before .before .before .shape-of .ensures .right (not-false _ (c .before .before .before .before .before .before .before .before .if1 .left))) (sym (c .before .before .before .before .before .before .before .names-wrong .ensures) ∙ c .before .before .before .before .before .before .if2 .left) (ap checkedNumbers (sym (c .before .table .given .1)) ∙ c .before .before .before .check-tables .ensures)
+returns-3 c =
+    let check-tables = c .before .before .before .check-tables in
+    let if2 = c .before .before .before .before .before .before .if2 in
+    let names-wrong = c .before .before .before .before .before .before .before .names-wrong in
+    let if1 = c .before .before .before .before .before .before .before .before .if1 in
+    let shape-of = c .before .before .before .before .before .before .before .before .before .before .shape-of in
+    let start = c .before .before .before .before .before .before .before .before .before .before .before .before in
+    by-table (start .args .file .now) (shape-of .result) (shape-of .ensures .right (not-false _ (if1 .left)))
+    (sym (names-wrong .ensures) ∙ if2 .left)
+    (ap checkedNumbers (sym (c .before .table .given .1)) ∙ check-tables .ensures)
 
 enum-told : tie.Need-enum-told
 enum-told c = search needs
 
-value-at-requires : tie.Need-value-at-requires
-value-at-requires c κs = search needs
-
-number-in-requires : tie.Need-number-in-requires
-number-in-requires c κs = search needs
-
-cast-if3 : tie.Need-cast-if3
-cast-if3 c = search needs
-
 returns-4 : tie.Need-returns-4
-returns-4 c = by-start (c .before .before .before .before .before .before .before .before .before .before .before .before .before .before .before .args .file .now) (c .before .before .before .before .before .before .before .before .before .before .before .before .before .shape-of .result) (c .before .before .before .before .before .before .before .before .before .before .before .before .before .shape-of .ensures .right (not-false _ (c .before .before .before .before .before .before .before .before .before .before .before .if1 .left))) (sym (c .before .before .before .before .before .before .before .before .before .before .names-wrong .ensures) ∙ c .before .before .before .before .before .before .before .before .before .if2 .left) (ap checkedNumbers (sym (c .before .before .before .before .enum-told .given .1)) ∙ c .before .before .before .before .before .before .check-tables .ensures) false _ (start-test (c .before .before .before .before .before .before .before .before .before .before .before .before .before .before .before .args .file .now) (c .before .before .before .before .before .before .before .before .before .before .before .before .before .shape-of .result) (c .before .before .before .before .before .before .before .before .before .before .before .before .before .shape-of .ensures .right (not-false _ (c .before .before .before .before .before .before .before .before .before .before .before .if1 .left))) (c .before .before .before .value-at .ensures) (c .before .before .number-in .ensures) ∙ le-ltb _ _ (c .if3 .taken)) refl
-
-byte-in-requires : tie.Need-byte-in-requires
-byte-in-requires c κs = search needs
+returns-4 c =
+    let value-at = c .before .before .before .value-at in
+    let enum-told = c .before .before .before .before .enum-told in
+    let check-tables = c .before .before .before .before .before .before .check-tables in
+    let if2 = c .before .before .before .before .before .before .before .before .before .if2 in
+    let names-wrong = c .before .before .before .before .before .before .before .before .before .before .names-wrong in
+    let if1 = c .before .before .before .before .before .before .before .before .before .before .before .if1 in
+    let shape-of = c .before .before .before .before .before .before .before .before .before .before .before .before .before .shape-of in
+    let start = c .before .before .before .before .before .before .before .before .before .before .before .before .before .before .before in
+    by-start (start .args .file .now) (shape-of .result) (shape-of .ensures .right (not-false _ (if1 .left)))
+    (sym (names-wrong .ensures) ∙ if2 .left) (ap checkedNumbers (sym (enum-told .given .1)) ∙ check-tables .ensures)
+    false _
+    (start-test (start .args .file .now) (shape-of .result) (shape-of .ensures .right (not-false _ (if1 .left)))
+    (value-at .ensures) (c .before .before .number-in .ensures)
+    ∙ le-ltb _ _ (c .if3 .taken)) refl
 
 returns-5 : tie.Need-returns-5
-returns-5 c = by-start (c .before .before .before .before .before .before .before .before .before .before .before .before .before .before .before .before .before .args .file .now) (c .before .before .before .before .before .before .before .before .before .before .before .before .before .before .before .shape-of .result) (c .before .before .before .before .before .before .before .before .before .before .before .before .before .before .before .shape-of .ensures .right (not-false _ (c .before .before .before .before .before .before .before .before .before .before .before .before .before .if1 .left))) (sym (c .before .before .before .before .before .before .before .before .before .before .before .before .names-wrong .ensures) ∙ c .before .before .before .before .before .before .before .before .before .before .before .if2 .left) (ap checkedNumbers (sym (c .before .before .before .before .before .before .enum-told .given .1)) ∙ c .before .before .before .before .before .before .before .before .check-tables .ensures) true false (start-test (c .before .before .before .before .before .before .before .before .before .before .before .before .before .before .before .before .before .args .file .now) (c .before .before .before .before .before .before .before .before .before .before .before .before .before .before .before .shape-of .result) (c .before .before .before .before .before .before .before .before .before .before .before .before .before .before .before .shape-of .ensures .right (not-false _ (c .before .before .before .before .before .before .before .before .before .before .before .before .before .if1 .left))) (c .before .before .before .before .before .value-at .ensures) (c .before .before .before .before .number-in .ensures) ∙ lt-ltb _ _ (c .before .before .if3 .left)) (mode-test (c .before .before .before .before .before .before .before .before .before .before .before .before .before .before .before .before .before .args .file .now) (c .before .before .before .before .before .before .before .before .before .before .before .before .before .before .before .shape-of .result) (c .before .before .before .before .before .before .before .before .before .before .before .before .before .before .before .shape-of .ensures .right (not-false _ (c .before .before .before .before .before .before .before .before .before .before .before .before .before .if1 .left))) (c .before .before .before .before .before .value-at .ensures) (c .before .byte-in .ensures .0) ∙ le-ltb _ _ (c .if4 .taken))
+returns-5 c =
+    let number-in = c .before .before .before .before .number-in in
+    let value-at = c .before .before .before .before .before .value-at in
+    let enum-told = c .before .before .before .before .before .before .enum-told in
+    let check-tables = c .before .before .before .before .before .before .before .before .check-tables in
+    let if2 = c .before .before .before .before .before .before .before .before .before .before .before .if2 in
+    let names-wrong = c .before .before .before .before .before .before .before .before .before .before .before .before .names-wrong in
+    let if1 = c .before .before .before .before .before .before .before .before .before .before .before .before .before .if1 in
+    let shape-of = c .before .before .before .before .before .before .before .before .before .before .before .before .before .before .before .shape-of in
+    let start = c .before .before .before .before .before .before .before .before .before .before .before .before .before .before .before .before .before in
+    by-start (start .args .file .now) (shape-of .result) (shape-of .ensures .right (not-false _ (if1 .left)))
+    (sym (names-wrong .ensures) ∙ if2 .left) (ap checkedNumbers (sym (enum-told .given .1)) ∙ check-tables .ensures)
+    true false
+    (start-test (start .args .file .now) (shape-of .result) (shape-of .ensures .right (not-false _ (if1 .left)))
+    (value-at .ensures) (number-in .ensures)
+    ∙ lt-ltb _ _ (c .before .before .if3 .left))
+    (mode-test (start .args .file .now) (shape-of .result) (shape-of .ensures .right (not-false _ (if1 .left)))
+    (value-at .ensures) (c .before .byte-in .ensures .0)
+    ∙ le-ltb _ _ (c .if4 .taken))
 
 returns-6 : tie.Need-returns-6
-returns-6 c = ((c .before .before .before .before .before .before .before .before .before .before .before .before .before .before .before .shape-of .ensures .right (not-false _ (c .before .before .before .before .before .before .before .before .before .before .before .before .before .if1 .left))), by-start (c .before .before .before .before .before .before .before .before .before .before .before .before .before .before .before .before .before .args .file .now) (c .before .before .before .before .before .before .before .before .before .before .before .before .before .before .before .shape-of .result) (c .before .before .before .before .before .before .before .before .before .before .before .before .before .before .before .shape-of .ensures .right (not-false _ (c .before .before .before .before .before .before .before .before .before .before .before .before .before .if1 .left))) (sym (c .before .before .before .before .before .before .before .before .before .before .before .before .names-wrong .ensures) ∙ c .before .before .before .before .before .before .before .before .before .before .before .if2 .left) (ap checkedNumbers (sym (c .before .before .before .before .before .before .enum-told .given .1)) ∙ c .before .before .before .before .before .before .before .before .check-tables .ensures) true true (start-test (c .before .before .before .before .before .before .before .before .before .before .before .before .before .before .before .before .before .args .file .now) (c .before .before .before .before .before .before .before .before .before .before .before .before .before .before .before .shape-of .result) (c .before .before .before .before .before .before .before .before .before .before .before .before .before .before .before .shape-of .ensures .right (not-false _ (c .before .before .before .before .before .before .before .before .before .before .before .before .before .if1 .left))) (c .before .before .before .before .before .value-at .ensures) (c .before .before .before .before .number-in .ensures) ∙ lt-ltb _ _ (c .before .before .if3 .left)) (mode-test (c .before .before .before .before .before .before .before .before .before .before .before .before .before .before .before .before .before .args .file .now) (c .before .before .before .before .before .before .before .before .before .before .before .before .before .before .before .shape-of .result) (c .before .before .before .before .before .before .before .before .before .before .before .before .before .before .before .shape-of .ensures .right (not-false _ (c .before .before .before .before .before .before .before .before .before .before .before .before .before .if1 .left))) (c .before .before .before .before .before .value-at .ensures) (c .before .byte-in .ensures .0) ∙ lt-ltb _ _ (c .if4 .left)))
+returns-6 c =
+    let number-in = c .before .before .before .before .number-in in
+    let value-at = c .before .before .before .before .before .value-at in
+    let enum-told = c .before .before .before .before .before .before .enum-told in
+    let check-tables = c .before .before .before .before .before .before .before .before .check-tables in
+    let if2 = c .before .before .before .before .before .before .before .before .before .before .before .if2 in
+    let names-wrong = c .before .before .before .before .before .before .before .before .before .before .before .before .names-wrong in
+    let if1 = c .before .before .before .before .before .before .before .before .before .before .before .before .before .if1 in
+    let shape-of = c .before .before .before .before .before .before .before .before .before .before .before .before .before .before .before .shape-of in
+    let start = c .before .before .before .before .before .before .before .before .before .before .before .before .before .before .before .before .before in (
+      (shape-of .ensures .right (not-false _ (if1 .left))),
+      by-start (start .args .file .now) (shape-of .result) (shape-of .ensures .right (not-false _ (if1 .left)))
+          (sym (names-wrong .ensures) ∙ if2 .left)
+          (ap checkedNumbers (sym (enum-told .given .1)) ∙ check-tables .ensures) true true
+          (start-test (start .args .file .now) (shape-of .result)
+          (shape-of .ensures .right (not-false _ (if1 .left))) (value-at .ensures) (number-in .ensures)
+          ∙ lt-ltb _ _ (c .before .before .if3 .left))
+          (mode-test (start .args .file .now) (shape-of .result) (shape-of .ensures .right (not-false _ (if1 .left)))
+          (value-at .ensures) (c .before .byte-in .ensures .0)
+          ∙ lt-ltb _ _ (c .if4 .left)),
+    )
 
 pub inspect-spec : {M : Type 1} → statement M
 inspect-spec =
     tie.close
-    (tie.spec
-    shape-of-requires
-    returns
-    names-wrong-requires
-    returns-2
-    check-tables-requires
-    enum-known-table
-    returns-3
-    enum-told
-    value-at-requires
-    number-in-requires
-    cast-if3
-    returns-4
-    byte-in-requires
-    returns-5
-    returns-6)
+    (tie.spec (λ c κs. search needs) returns names-wrong-requires returns-2 (λ c κs. search needs)
+    (λ c. search needs) returns-3 enum-told (λ c κs. search needs) (λ c κs. search needs) (λ c. search needs)
+    returns-4 (λ c κs. search needs) returns-5 returns-6)

@@ -7,55 +7,69 @@ use lib.ListN.{length}
 use Rattle.grammar_file.specs.File.{readAnswer}
 use Rattle.grammar_file.proofs.ReadLaws.{read-refuses, parts, short-nodes, short-rules, enough, nodes-after, rules-after}
 
-inspect-requires : tie.Need-inspect-requires
-inspect-requires c κs = search needs
-
-enum-known-found : tie.Need-enum-known-found
-enum-known-found c = search needs
-
-enum-known-found-2 : tie.Need-enum-known-found-2
-enum-known-found-2 c = search needs
-
 returns : tie.Need-returns
-returns c = (short-nodes (c .before .before .before .before .before .before .before .before .before .before .args .file .now) (c .before .before .before .before .before .before .inspect .ensures) (c .before .before .before .before .found2 .given .0 .0) (c .before .before .before .before .found2 .given .1) (length (c .before .before .before .before .before .before .before .before .before .before .args .nodes .now)) (length (c .before .before .before .before .before .before .before .before .before .before .args .rules .now)) (c .if1 .taken), (refl, refl))
+returns c =
+    let found2 = c .before .before .before .before .found2 in
+    let inspect = c .before .before .before .before .before .before .inspect in
+    let start = c .before .before .before .before .before .before .before .before .before .before in (
+      short-nodes (start .args .file .now) (inspect .ensures) (found2 .given .0 .0) (found2 .given .1)
+          (length (start .args .nodes .now)) (length (start .args .rules .now)) (c .if1 .taken),
+      (refl, refl),
+    )
 
 returns-2 : tie.Need-returns-2
-returns-2 c = (short-rules (c .before .before .before .before .before .before .before .before .before .before .before .args .file .now) (c .before .before .before .before .before .before .before .inspect .ensures) (c .before .before .before .before .before .found2 .given .0 .0) (c .before .before .before .before .before .found2 .given .1) (length (c .before .before .before .before .before .before .before .before .before .before .before .args .nodes .now)) (length (c .before .before .before .before .before .before .before .before .before .before .before .args .rules .now)) (c .if2 .taken), (refl, refl))
-
-write-nodes-requires : tie.Need-write-nodes-requires
-write-nodes-requires c κs = search needs
-
-write-rules-requires : tie.Need-write-rules-requires
-write-rules-requires c κs = search needs
+returns-2 c =
+    let found2 = c .before .before .before .before .before .found2 in
+    let inspect = c .before .before .before .before .before .before .before .inspect in
+    let start = c .before .before .before .before .before .before .before .before .before .before .before in (
+      short-rules (start .args .file .now) (inspect .ensures) (found2 .given .0 .0) (found2 .given .1)
+          (length (start .args .nodes .now)) (length (start .args .rules .now)) (c .if2 .taken),
+      (refl, refl),
+    )
 
 counts-requires : tie.Need-counts-requires
-counts-requires c κs = parts (c .before .before .before .before .before .before .before .before .before .before .before .before .before .before .before .before .before .before .before .args .file .now) (c .before .before .before .before .before .before .before .before .before .before .before .before .before .before .before .inspect .ensures) (c .before .before .before .before .before .before .before .before .before .before .before .before .before .found2 .given .0 .0) (c .before .before .before .before .before .before .before .before .before .before .before .before .before .found2 .given .1)
+counts-requires c κs =
+    let found2 = c .before .before .before .before .before .before .before .before .before .before .before .before .before .found2 in
+    let inspect = c .before .before .before .before .before .before .before .before .before .before .before .before .before .before .before .inspect in
+    let start =
+    c .before .before .before .before .before .before .before .before .before .before .before .before .before
+    .before .before .before .before .before .before in
+    parts (start .args .file .now) (inspect .ensures) (found2 .given .0 .0) (found2 .given .1)
 
 returns-3 : tie.Need-returns-3
-returns-3 c = (read-refuses (c .before .before .before .before .before .before .before .args .file .now) (c .before .before .before .inspect .ensures) (c .before .found .given .0 .0) (c .before .found .given .1) _ _, (refl, refl))
-
-same-length : tie.Need-same-length
-same-length c = search needs
-
-same-length-2 : tie.Need-same-length-2
-same-length-2 c = search needs
+returns-3 c =
+    let inspect = c .before .before .before .inspect in
+    let start = c .before .before .before .before .before .before .before in (
+      read-refuses (start .args .file .now) (inspect .ensures) (c .before .found .given .0 .0)
+          (c .before .found .given .1) _ _,
+      (refl, refl),
+    )
 
 returns-4 : tie.Need-returns-4
-returns-4 c = (c .counts .ensures .0 ∙ enough (c .before .before .before .before .before .before .before .before .before .before .before .before .before .before .before .before .before .before .before .before .args .file .now) (c .before .before .before .before .before .before .before .before .before .before .before .before .before .before .before .before .inspect .ensures) (c .before .before .before .before .before .before .before .before .before .before .before .before .before .before .found2 .given .0 .0) (c .before .before .before .before .before .before .before .before .before .before .before .before .before .before .found2 .given .1) (length (c .before .before .before .before .before .before .before .before .before .before .before .before .before .before .before .before .before .before .before .before .args .nodes .now)) (length (c .before .before .before .before .before .before .before .before .before .before .before .before .before .before .before .before .before .before .before .before .args .rules .now)) (c .before .before .before .before .before .before .before .before .before .before .if1 .left) (c .before .before .before .before .before .before .before .before .before .if2 .left), (nodes-after (c .before .before .before .before .before .before .before .before .before .before .before .before .before .before .before .before .before .before .before .before .args .file .now) (c .before .before .before .before .before .before .before .before .before .before .before .before .before .before .before .before .inspect .ensures) (c .before .before .before .before .before .before .before .before .before .before .before .before .before .before .found2 .given .0 .0) (c .before .before .before .before .before .before .before .before .before .before .before .before .before .before .found2 .given .1) (c .counts .ensures .0) (c .before .before .before .before .before .before .before .before .before .before .before .before .before .before .before .before .before .before .before .before .args .nodes .now) (c .before .before .before .before .before .before .before .write-nodes .ensures), rules-after (c .before .before .before .before .before .before .before .before .before .before .before .before .before .before .before .before .before .before .before .before .args .file .now) (c .before .before .before .before .before .before .before .before .before .before .before .before .before .before .before .before .inspect .ensures) (c .before .before .before .before .before .before .before .before .before .before .before .before .before .before .found2 .given .0 .0) (c .before .before .before .before .before .before .before .before .before .before .before .before .before .before .found2 .given .1) (c .counts .ensures .0) (c .before .before .before .before .before .before .before .before .before .before .before .before .before .before .before .before .before .before .before .before .args .rules .now) (c .before .before .before .write-rules .ensures)))
+returns-4 c =
+    let write-rules = c .before .before .before .write-rules in
+    let write-nodes = c .before .before .before .before .before .before .before .write-nodes in
+    let if2 = c .before .before .before .before .before .before .before .before .before .if2 in
+    let if1 = c .before .before .before .before .before .before .before .before .before .before .if1 in
+    let found2 = c .before .before .before .before .before .before .before .before .before .before .before .before .before .before .found2 in
+    let inspect = c .before .before .before .before .before .before .before .before .before .before .before .before .before .before .before .before .inspect in
+    let start =
+    c .before .before .before .before .before .before .before .before .before .before .before .before .before
+    .before .before .before .before .before .before .before in (
+      c .counts .ensures .0
+          ∙ enough (start .args .file .now) (inspect .ensures) (found2 .given .0 .0) (found2 .given .1)
+          (length (start .args .nodes .now)) (length (start .args .rules .now)) (if1 .left) (if2 .left),
+      (
+        nodes-after (start .args .file .now) (inspect .ensures) (found2 .given .0 .0) (found2 .given .1)
+            (c .counts .ensures .0) (start .args .nodes .now) (write-nodes .ensures),
+        rules-after (start .args .file .now) (inspect .ensures) (found2 .given .0 .0) (found2 .given .1)
+            (c .counts .ensures .0) (start .args .rules .now) (write-rules .ensures),
+      ),
+    )
 
 pub read-spec : {M : Type 1} → statement M
 read-spec =
     tie.close
-    (tie.spec
-    inspect-requires
-    enum-known-found
-    enum-known-found-2
-    returns
-    returns-2
-    write-nodes-requires
-    write-rules-requires
-    counts-requires
-    returns-3
-    same-length
-    same-length-2
-    returns-4)
+    (tie.spec (λ c κs. search needs) (λ c. search needs) (λ c. search needs) returns returns-2
+    (λ c κs. search needs) (λ c κs. search needs) counts-requires returns-3 (λ c. search needs)
+    (λ c. search needs) returns-4)

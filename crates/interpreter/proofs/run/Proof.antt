@@ -6,26 +6,26 @@ use mathlib.Core.Path.{sym, ap, _∙_}
 use Rattle.interpreter.proofs.RunLaws.{check-refuses, check-names}
 use Rattle.well_formed.specs.Check.{numbers as verdict-numbers}
 
-check-requires : tie.Need-check-requires
-check-requires c κs = tt
-
-enum-known-number : tie.Need-enum-known-number
-enum-known-number c = search needs
-
-enum-known-node : tie.Need-enum-known-node
-enum-known-node c = search needs
-
-enum-told : tie.Need-enum-told
-enum-told c = search needs
-
 begin-requires : tie.Need-begin-requires
 begin-requires c κs = sym (c .before .before .check .ensures .0) ∙ ap verdict-numbers (c .enum-told .given .1)
 
 returns : tie.Need-returns
-returns c = (check-refuses (c .before .before .before .before .before .before .before .args .nodes .now) (c .before .before .before .before .before .before .before .args .rules .now) (c .before .before .before .before .before .before .before .args .tokens .now) (c .before .before .before .before .before .before .before .args .start) (sym (ap verdict-numbers (c .before .number .given .1)) ∙ c .before .before .before .check .ensures .0), tt)
+returns c =
+    let check = c .before .before .before .check in
+    let start = c .before .before .before .before .before .before .before in (
+      check-refuses (start .args .nodes .now) (start .args .rules .now) (start .args .tokens .now)
+          (start .args .start) (sym (ap verdict-numbers (c .before .number .given .1)) ∙ check .ensures .0),
+      tt,
+    )
 
 returns-2 : tie.Need-returns-2
-returns-2 c = (check-names (c .before .before .before .before .before .before .before .args .nodes .now) (c .before .before .before .before .before .before .before .args .rules .now) (c .before .before .before .before .before .before .before .args .tokens .now) (c .before .before .before .before .before .before .before .args .start) (sym (ap verdict-numbers (c .before .node .given .1)) ∙ c .before .before .before .check .ensures .0), tt)
+returns-2 c =
+    let check = c .before .before .before .check in
+    let start = c .before .before .before .before .before .before .before in (
+      check-names (start .args .nodes .now) (start .args .rules .now) (start .args .tokens .now)
+          (start .args .start) (sym (ap verdict-numbers (c .before .node .given .1)) ∙ check .ensures .0),
+      tt,
+    )
 
 returns-3 : tie.Need-returns-3
 returns-3 c = c .begin .ensures
@@ -33,12 +33,5 @@ returns-3 c = c .begin .ensures
 pub run-spec : {M : Type 1} → statement M
 run-spec =
     tie.close
-    (tie.spec
-    check-requires
-    enum-known-number
-    enum-known-node
-    enum-told
-    begin-requires
-    returns
-    returns-2
-    returns-3)
+    (tie.spec (λ c κs. tt) (λ c. search needs) (λ c. search needs) (λ c. search needs) begin-requires returns
+    returns-2 returns-3)

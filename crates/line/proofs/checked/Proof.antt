@@ -6,39 +6,32 @@ use mathlib.Core.Path.{sym, ap, _∙_}
 use Rattle.line.proofs.PartLaws.{check-refuses, check-names, check-passes}
 use Rattle.well_formed.specs.Check.{numbers as verdict-numbers}
 
-check-requires : tie.Need-check-requires
-check-requires c κs = tt
-
-enum-known-number : tie.Need-enum-known-number
-enum-known-number c = search needs
-
-enum-known-bad : tie.Need-enum-known-bad
-enum-known-bad c = search needs
-
-enum-told : tie.Need-enum-told
-enum-told c = search needs
-
-scanned-requires : tie.Need-scanned-requires
-scanned-requires c κs = tt
-
 returns : tie.Need-returns
-returns c = check-refuses (c .before .before .before .before .before .before .before .before .args .file .now) (c .before .before .before .before .before .before .before .before .args .report .now) (c .before .before .before .before .before .before .before .before .args .nodes .now) (c .before .before .before .before .before .before .before .before .args .rules .now) (c .before .before .before .before .before .before .before .before .args .node) (c .before .before .before .before .before .before .before .before .args .mode) (sym (ap verdict-numbers (c .before .number .given .1)) ∙ c .before .before .before .check .ensures .0)
+returns c =
+    let check = c .before .before .before .check in
+    let start = c .before .before .before .before .before .before .before .before in
+    check-refuses (start .args .file .now) (start .args .report .now) (start .args .nodes .now)
+    (start .args .rules .now) (start .args .node) (start .args .mode)
+    (sym (ap verdict-numbers (c .before .number .given .1)) ∙ check .ensures .0)
 
 returns-2 : tie.Need-returns-2
-returns-2 c = check-names (c .before .before .before .before .before .before .before .before .args .file .now) (c .before .before .before .before .before .before .before .before .args .report .now) (c .before .before .before .before .before .before .before .before .args .nodes .now) (c .before .before .before .before .before .before .before .before .args .rules .now) (c .before .before .before .before .before .before .before .before .args .node) (c .before .before .before .before .before .before .before .before .args .mode) (sym (ap verdict-numbers (c .before .bad .given .1)) ∙ c .before .before .before .check .ensures .0)
+returns-2 c =
+    let check = c .before .before .before .check in
+    let start = c .before .before .before .before .before .before .before .before in
+    check-names (start .args .file .now) (start .args .report .now) (start .args .nodes .now)
+    (start .args .rules .now) (start .args .node) (start .args .mode)
+    (sym (ap verdict-numbers (c .before .bad .given .1)) ∙ check .ensures .0)
 
 returns-3 : tie.Need-returns-3
-returns-3 c = check-passes (c .before .before .before .before .before .before .before .before .args .file .now) (c .before .before .before .before .before .before .before .before .args .report .now) (c .before .before .before .before .before .before .before .before .args .nodes .now) (c .before .before .before .before .before .before .before .before .args .rules .now) (c .before .before .before .before .before .before .before .before .args .node) (c .before .before .before .before .before .before .before .before .args .mode) (sym (ap verdict-numbers (c .before .enum-told .given .1)) ∙ c .before .before .before .check .ensures .0) (c .scanned .ensures)
+returns-3 c =
+    let check = c .before .before .before .check in
+    let start = c .before .before .before .before .before .before .before .before in
+    check-passes (start .args .file .now) (start .args .report .now) (start .args .nodes .now)
+    (start .args .rules .now) (start .args .node) (start .args .mode)
+    (sym (ap verdict-numbers (c .before .enum-told .given .1)) ∙ check .ensures .0) (c .scanned .ensures)
 
 pub checked-spec : {M : Type 1} → statement M
 checked-spec =
     tie.close
-    (tie.spec
-    check-requires
-    enum-known-number
-    enum-known-bad
-    enum-told
-    scanned-requires
-    returns
-    returns-2
-    returns-3)
+    (tie.spec (λ c κs. tt) (λ c. search needs) (λ c. search needs) (λ c. search needs) (λ c κs. tt) returns
+    returns-2 returns-3)

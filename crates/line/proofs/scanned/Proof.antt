@@ -10,47 +10,71 @@ use Rattle.table.specs.Answer.{afterwards}
 use Rattle.scanner.specs.Tokens.{wordsOf}
 use Rattle.scanner.specs.Scan.{scanTokens, numbers as scan-numbers}
 
-slice-aggregate-scan : tie.Need-slice-aggregate-scan
-slice-aggregate-scan c = search needs
-
-scan-requires : tie.Need-scan-requires
-scan-requires c κs = tt
-
-enum-known-x : tie.Need-enum-known-x
-enum-known-x c = search needs
-
-enum-known-x-2 : tie.Need-enum-known-x-2
-enum-known-x-2 c = search needs
-
 mul-words : tie.Need-mul-words
-mul-words c = omega (arith, scan-room (c .before .before .before .before .before .before .before .before .before .before .args .file .now) (c .before .before .before .before .before .before .before .before .before .before .args .report .now) (c .before .x2 .given .0 .0) (sym (ap scan-numbers (c .before .x2 .given .1)) ∙ c .before .before .before .before .scan .ensures .0))
+mul-words c =
+    let scan = c .before .before .before .before .scan in
+    let start = c .before .before .before .before .before .before .before .before .before .before in
+    omega (
+      arith,
+      scan-room (start .args .file .now) (start .args .report .now) (c .before .x2 .given .0 .0)
+          (sym (ap scan-numbers (c .before .x2 .given .1)) ∙ scan .ensures .0),
+    )
 
 array-share-prefix-tokens : tie.Need-array-share-prefix-tokens
-array-share-prefix-tokens c = omega (arith, scan-room (c .before .before .before .before .before .before .before .before .before .before .args .file .now) (c .before .before .before .before .before .before .before .before .before .before .args .report .now) (c .before .x2 .given .0 .0) (sym (ap scan-numbers (c .before .x2 .given .1)) ∙ c .before .before .before .before .scan .ensures .0), ap length (c .before .before .before .before .scan .ensures .1))
+array-share-prefix-tokens c =
+    let scan = c .before .before .before .before .scan in
+    let start = c .before .before .before .before .before .before .before .before .before .before in
+    omega (
+      arith,
+      scan-room (start .args .file .now) (start .args .report .now) (c .before .x2 .given .0 .0)
+          (sym (ap scan-numbers (c .before .x2 .given .1)) ∙ scan .ensures .0),
+      ap length (scan .ensures .1),
+    )
 
 slice-aggregate-run : tie.Need-slice-aggregate-run
-slice-aggregate-run c = sym (ap length (scan-front (c .before .before .before .before .before .before .before .before .before .before .before .args .file .now) (c .before .before .before .before .before .before .before .before .before .before .before .args .report .now) (c .before .before .x2 .given .0 .0) (sym (ap scan-numbers (c .before .before .x2 .given .1)) ∙ c .before .before .before .before .before .scan .ensures .0) (replicate 16384 0) (c .before .before .before .before .before .scan .ensures .1 ∙ ap (λ (r : _). afterwards (scan-numbers r) (wordsOf (scanTokens (c .before .before .before .before .before .before .before .before .before .before .before .args .file .now) (c .before .before .before .before .before .before .before .before .before .before .before .args .report .now))) (replicate 16384 0)) (c .before .before .x2 .given .1))) ∙ scan-whole (c .before .before .before .before .before .before .before .before .before .before .before .args .file .now) (c .before .before .before .before .before .before .before .before .before .before .before .args .report .now) (c .before .before .x2 .given .0 .0) (sym (ap scan-numbers (c .before .before .x2 .given .1)) ∙ c .before .before .before .before .before .scan .ensures .0))
-
-run-requires : tie.Need-run-requires
-run-requires c κs = tt
+slice-aggregate-run c =
+    let x2 = c .before .before .x2 in
+    let scan = c .before .before .before .before .before .scan in
+    let start = c .before .before .before .before .before .before .before .before .before .before .before in
+    sym
+    (ap length
+    (scan-front (start .args .file .now) (start .args .report .now) (x2 .given .0 .0)
+    (sym (ap scan-numbers (x2 .given .1)) ∙ scan .ensures .0) (replicate 16384 0)
+    (scan .ensures .1
+    ∙ ap
+    (λ (r : _).
+    afterwards (scan-numbers r)
+    (wordsOf (scanTokens (start .args .file .now) (start .args .report .now))) (replicate 16384 0))
+    (x2 .given .1)))
+    ∙ scan-whole (start .args .file .now) (start .args .report .now) (x2 .given .0 .0)
+    (sym (ap scan-numbers (x2 .given .1)) ∙ scan .ensures .0))
 
 returns : tie.Need-returns
-returns c = scan-refuses (c .before .before .before .before .before .before .before .before .before .before .args .file .now) (c .before .before .before .before .before .before .before .before .before .before .args .report .now) (c .before .before .before .before .before .before .before .before .before .before .args .nodes .now) (c .before .before .before .before .before .before .before .before .before .before .args .rules .now) (c .before .before .before .before .before .before .before .before .before .before .args .node) (c .before .before .before .before .before .before .before .before .before .before .args .mode) (sym (ap scan-numbers (c .before .x .given .1)) ∙ c .before .before .before .before .scan .ensures .0)
+returns c =
+    let scan = c .before .before .before .before .scan in
+    let start = c .before .before .before .before .before .before .before .before .before .before in
+    scan-refuses (start .args .file .now) (start .args .report .now) (start .args .nodes .now)
+    (start .args .rules .now) (start .args .node) (start .args .mode)
+    (sym (ap scan-numbers (c .before .x .given .1)) ∙ scan .ensures .0)
 
 returns-2 : tie.Need-returns-2
-returns-2 c = scan-run (c .before .before .before .before .before .before .before .before .before .before .before .before .args .file .now) (c .before .before .before .before .before .before .before .before .before .before .before .before .args .report .now) (c .before .before .before .x2 .given .0 .0) (sym (ap scan-numbers (c .before .before .before .x2 .given .1)) ∙ c .before .before .before .before .before .before .scan .ensures .0) (c .before .before .before .before .before .before .before .before .before .before .before .before .args .nodes .now) (c .before .before .before .before .before .before .before .before .before .before .before .before .args .rules .now) (c .before .before .before .before .before .before .before .before .before .before .before .before .args .node) (c .before .before .before .before .before .before .before .before .before .before .before .before .args .mode) (scan-front (c .before .before .before .before .before .before .before .before .before .before .before .before .args .file .now) (c .before .before .before .before .before .before .before .before .before .before .before .before .args .report .now) (c .before .before .before .x2 .given .0 .0) (sym (ap scan-numbers (c .before .before .before .x2 .given .1)) ∙ c .before .before .before .before .before .before .scan .ensures .0) (replicate 16384 0) (c .before .before .before .before .before .before .scan .ensures .1 ∙ ap (λ (r : _). afterwards (scan-numbers r) (wordsOf (scanTokens (c .before .before .before .before .before .before .before .before .before .before .before .before .args .file .now) (c .before .before .before .before .before .before .before .before .before .before .before .before .args .report .now))) (replicate 16384 0)) (c .before .before .before .x2 .given .1))) (c .run .ensures .0)
+returns-2 c =
+    let x2 = c .before .before .before .x2 in
+    let scan = c .before .before .before .before .before .before .scan in
+    let start = c .before .before .before .before .before .before .before .before .before .before .before .before in
+    scan-run (start .args .file .now) (start .args .report .now) (x2 .given .0 .0)
+    (sym (ap scan-numbers (x2 .given .1)) ∙ scan .ensures .0) (start .args .nodes .now) (start .args .rules .now)
+    (start .args .node) (start .args .mode)
+    (scan-front (start .args .file .now) (start .args .report .now) (x2 .given .0 .0)
+    (sym (ap scan-numbers (x2 .given .1)) ∙ scan .ensures .0) (replicate 16384 0)
+    (scan .ensures .1
+    ∙ ap
+    (λ (r : _).
+    afterwards (scan-numbers r) (wordsOf (scanTokens (start .args .file .now) (start .args .report .now)))
+    (replicate 16384 0)) (x2 .given .1))) (c .run .ensures .0)
 
 pub scanned-spec : {M : Type 1} → statement M
 scanned-spec =
     tie.close
-    (tie.spec
-    slice-aggregate-scan
-    scan-requires
-    enum-known-x
-    enum-known-x-2
-    mul-words
-    array-share-prefix-tokens
-    slice-aggregate-run
-    run-requires
-    returns
-    returns-2)
+    (tie.spec (λ c. search needs) (λ c κs. tt) (λ c. search needs) (λ c. search needs) mul-words
+    array-share-prefix-tokens slice-aggregate-run (λ c κs. tt) returns returns-2)

@@ -23,7 +23,15 @@ same-length c = omega arith
 
 returns-2 : tie.Need-returns-2
 unfolding lineCount lineAfter pasted
-returns-2 c = rw (le-ltb (length (c .before .before .before .before .before .before .before .before .before .args .out .now)) 64 (c .before .before .before .before .before .if1 .left)) (c .before .before .put-answer .ensures .0 ∙ ap (λ (v : _). length (lineBytes v)) (c .before .before .before .before .answer .ensures), c .before .before .put-answer .ensures .1 ∙ ap (λ (v : _). pasted (c .before .before .before .before .before .before .before .before .before .args .out .now) 0 (lineBytes v)) (c .before .before .before .before .answer .ensures))
+returns-2 c =
+    let put-answer = c .before .before .put-answer in
+    let answer = c .before .before .before .before .answer in
+    let if1 = c .before .before .before .before .before .if1 in
+    let start = c .before .before .before .before .before .before .before .before .before in
+    rw (le-ltb (length (start .args .out .now)) 64 (if1 .left)) (
+      put-answer .ensures .0 ∙ ap (λ (v : _). length (lineBytes v)) (answer .ensures),
+      put-answer .ensures .1 ∙ ap (λ (v : _). pasted (start .args .out .now) 0 (lineBytes v)) (answer .ensures),
+    )
 
 pub write-spec : {M : Type 1} → statement M
 write-spec = tie.close (tie.spec returns answer-requires put-answer-requires same-length returns-2)

@@ -19,7 +19,11 @@ part-result-end : tie.Need-part-result-end
 part-result-end c = search needs
 
 returns : tie.Need-returns
-returns c = let n : c .before .before .args .f .offset + c .before .before .args .f .length - c .before .before .args .f .offset ≡ c .before .before .args .f .length = omega arith in rw n refl
+returns c =
+    let start = c .before .before in
+    let n : start .args .f .offset + start .args .f .length - start .args .f .offset ≡ start .args .f .length =
+    omega arith in
+    rw n refl
 
 pub bytes-at-spec : {M : Type 1} → statement M
 bytes-at-spec = tie.close (tie.spec add-end sub-result part-result-start part-result-end returns)

@@ -20,30 +20,38 @@ find-requires : tie.Need-find-requires Inv-loop μ-loop
 find-requires c κs = c .loop .inv .room
 
 returns : tie.Need-returns Inv-loop μ-loop
-returns c = counting-ends (c .before .before .before .before .before .args .report .now) (c .before .before .before .loop .count) (c .before .before .before .loop .over) (position (c .before .before .before .loop .at) (c .before .before .before .loop .column) (c .before .before .before .loop .mark)) (c .before .before .before .loop .inv) (c .before .before .find .result) (c .before .before .find .ensures) (not-true _ (c .if1 .taken))
-
-wider-requires : tie.Need-wider-requires Inv-loop μ-loop
-wider-requires c κs = tt
+returns c =
+    let find = c .before .before .find in
+    let loop = c .before .before .before .loop in
+    let start = c .before .before .before .before .before in
+    counting-ends (start .args .report .now) (loop .count) (loop .over)
+    (position (loop .at) (loop .column) (loop .mark)) (loop .inv) (find .result) (find .ensures)
+    (not-true _ (c .if1 .taken))
 
 add-count : tie.Need-add-count Inv-loop μ-loop
-add-count c = omega (arith, c .before .before .before .before .loop .inv .fits, c .before .before .before .before .before .before .pre)
+add-count c =
+    let start = c .before .before .before .before .before .before in
+    omega (arith, c .before .before .before .before .loop .inv .fits, start .pre)
 
 loop-less : tie.Need-loop-less Inv-loop μ-loop
-loop-less c = counting-less (c .before .before .before .before .before .before .args .report .now) (c .before .before .before .before .loop .count) (c .before .before .before .before .loop .over) (position (c .before .before .before .before .loop .at) (c .before .before .before .before .loop .column) (c .before .before .before .before .loop .mark)) (c .before .before .before .before .loop .inv) (c .before .before .before .find .result) (c .before .before .before .find .ensures) (not-false _ (c .before .if1 .left))
+loop-less c =
+    let find = c .before .before .before .find in
+    let loop = c .before .before .before .before .loop in
+    let start = c .before .before .before .before .before .before in
+    counting-less (start .args .report .now) (loop .count) (loop .over)
+    (position (loop .at) (loop .column) (loop .mark)) (loop .inv) (find .result) (find .ensures)
+    (not-false _ (c .before .if1 .left))
 
 loop-again : tie.Need-loop-again Inv-loop μ-loop
-loop-again c = counting-next (c .before .before .before .before .before .before .args .report .now) (c .before .before .before .before .loop .count) (c .before .before .before .before .loop .over) (position (c .before .before .before .before .loop .at) (c .before .before .before .before .loop .column) (c .before .before .before .before .loop .mark)) (c .before .before .before .before .loop .inv) (c .before .before .before .find .result) (c .before .before .before .find .ensures) (not-false _ (c .before .if1 .left)) (c .wider .ensures)
+loop-again c =
+    let find = c .before .before .before .find in
+    let loop = c .before .before .before .before .loop in
+    let start = c .before .before .before .before .before .before in
+    counting-next (start .args .report .now) (loop .count) (loop .over)
+    (position (loop .at) (loop .column) (loop .mark)) (loop .inv) (find .result) (find .ensures)
+    (not-false _ (c .before .if1 .left)) (c .wider .ensures)
 
 pub measure-spec : {M : Type 1} → statement M
 measure-spec =
     tie.close
-    (tie.spec
-    Inv-loop
-    μ-loop
-    loop-holds
-    find-requires
-    returns
-    wider-requires
-    add-count
-    loop-less
-    loop-again)
+    (tie.spec Inv-loop μ-loop loop-holds find-requires returns (λ c κs. tt) add-count loop-less loop-again)

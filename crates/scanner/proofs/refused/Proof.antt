@@ -26,41 +26,30 @@ loop-holds : tie.Need-loop-holds Inv-loop μ-loop
 unfolding every
 loop-holds c = (omega arith, refl)
 
-shared-slice-read-is-refused : tie.Need-shared-slice-read-is-refused Inv-loop μ-loop
-shared-slice-read-is-refused c = omega arith
-
-is-refused-requires : tie.Need-is-refused-requires Inv-loop μ-loop
-is-refused-requires c κs = tt
-
 returns-2 : tie.Need-returns-2 Inv-loop μ-loop
 unfolding fails8
-returns-2 c = sym (ap₂ _||_ (le-ltb _ _ (c .before .before .before .before .before .if1 .left)) (ap not (every-fails _ _ (c .before .before .before .before .loop .i) (c .before .before .before .loop-test .taken) (ap not (sym (c .before .is-refused .ensures) ∙ c .if2 .taken)))))
-
-add-i : tie.Need-add-i Inv-loop μ-loop
-add-i c = omega arith
-
-loop-less : tie.Need-loop-less Inv-loop μ-loop
-loop-less c = omega arith
+returns-2 c =
+    let loop-test = c .before .before .before .loop-test in
+    let loop = c .before .before .before .before .loop in
+    let if1 = c .before .before .before .before .before .if1 in
+    sym
+    (ap₂ _||_ (le-ltb _ _ (if1 .left))
+    (ap not
+    (every-fails _ _ (loop .i) (loop-test .taken)
+    (ap not (sym (c .before .is-refused .ensures) ∙ c .if2 .taken)))))
 
 loop-again : tie.Need-loop-again Inv-loop μ-loop
 loop-again c = (omega arith, every-more _ _ (c .before .before .before .before .loop .inv .1) (ap not (sym (c .before .is-refused .ensures) ∙ c .if2 .left)))
 
 returns-3 : tie.Need-returns-3 Inv-loop μ-loop
 unfolding fails8
-returns-3 c = let e : c .before .loop .i ≡ length (c .before .before .before .before .args .report .now) = omega arith in rw (le-ltb _ _ (c .before .before .if1 .left), ← e, c .before .loop .inv .1)
+returns-3 c =
+    let start = c .before .before .before .before in
+    let e : c .before .loop .i ≡ length (start .args .report .now) = omega arith in
+    rw (le-ltb _ _ (c .before .before .if1 .left), ← e, c .before .loop .inv .1)
 
 pub refused-spec : {M : Type 1} → statement M
 refused-spec =
     tie.close
-    (tie.spec
-    Inv-loop
-    μ-loop
-    returns
-    loop-holds
-    shared-slice-read-is-refused
-    is-refused-requires
-    returns-2
-    add-i
-    loop-less
-    loop-again
-    returns-3)
+    (tie.spec Inv-loop μ-loop returns loop-holds (λ c. omega arith) (λ c κs. tt) returns-2 (λ c. omega arith)
+    (λ c. omega arith) loop-again returns-3)

@@ -5,12 +5,6 @@ use Rattle.spellings.specs.Spellings.{rightSpellings}
 use Rattle.spellings.proofs.right_spellings.Statement.{statement}
 use Rattle.spellings.proofs.right_spellings.Tie as tie
 
-all-spelled-requires : tie.Need-all-spelled-requires
-all-spelled-requires c κs = search needs
-
-distinct-requires : tie.Need-distinct-requires
-distinct-requires c κs = search needs
-
 returns : tie.Need-returns
 unfolding rightSpellings
 returns c = rw (sym (c .before .before .all-spelled .ensures) ∙ c .before .if1 .taken) (c .distinct .ensures)
@@ -21,4 +15,5 @@ returns-2 c = rw (sym (c .before .all-spelled .ensures) ∙ c .if1 .left)
 
 pub right-spellings-spec : {M : Type 1} → statement M
 right-spellings-spec =
-    tie.close (tie.spec all-spelled-requires distinct-requires returns returns-2)
+    tie.close
+    (tie.spec (λ c κs. search needs) (λ c κs. search needs) returns returns-2)

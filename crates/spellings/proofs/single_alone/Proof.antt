@@ -27,21 +27,16 @@ loop-holds : tie.Need-loop-holds Inv-loop μ-loop
 unfolding every
 loop-holds c = (omega arith, refl)
 
-shared-slice-read-is-single : tie.Need-shared-slice-read-is-single Inv-loop μ-loop
-shared-slice-read-is-single c = omega arith
-
-is-single-requires : tie.Need-is-single-requires Inv-loop μ-loop
-is-single-requires c κs = tt
-
 returns-2 : tie.Need-returns-2 Inv-loop μ-loop
 unfolding singleAlone
-returns-2 c = sym (ap₂ _||_ (every-fails _ _ (c .before .before .before .before .loop .i) (c .before .before .before .loop-test .taken) (ap not (sym (c .before .is-single .ensures) ∙ c .if2 .taken))) (ne-eqb _ _ (c .before .before .before .before .before .if1 .left)))
-
-add-i : tie.Need-add-i Inv-loop μ-loop
-add-i c = omega arith
-
-loop-less : tie.Need-loop-less Inv-loop μ-loop
-loop-less c = omega arith
+returns-2 c =
+    let loop-test = c .before .before .before .loop-test in
+    let loop = c .before .before .before .before .loop in
+    let if1 = c .before .before .before .before .before .if1 in
+    sym
+    (ap₂ _||_
+    (every-fails _ _ (loop .i) (loop-test .taken)
+    (ap not (sym (c .before .is-single .ensures) ∙ c .if2 .taken))) (ne-eqb _ _ (if1 .left)))
 
 loop-again : tie.Need-loop-again Inv-loop μ-loop
 loop-again c = (omega arith, every-more _ _ (c .before .before .before .before .loop .inv .1) (ap not (sym (c .before .is-single .ensures) ∙ c .if2 .left)))
@@ -53,15 +48,5 @@ returns-3 c = let e : c .before .loop .i ≡ length (c .before .before .before .
 pub single-alone-spec : {M : Type 1} → statement M
 single-alone-spec =
     tie.close
-    (tie.spec
-    Inv-loop
-    μ-loop
-    returns
-    loop-holds
-    shared-slice-read-is-single
-    is-single-requires
-    returns-2
-    add-i
-    loop-less
-    loop-again
-    returns-3)
+    (tie.spec Inv-loop μ-loop returns loop-holds (λ c. omega arith) (λ c κs. tt) returns-2 (λ c. omega arith)
+    (λ c. omega arith) loop-again returns-3)

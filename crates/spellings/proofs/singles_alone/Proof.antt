@@ -19,26 +19,21 @@ abbrev μ-loop : tie.MeasureT-loop
 loop-holds : tie.Need-loop-holds Inv-loop μ-loop
 loop-holds c = passed-none
 
-spelling-at-requires : tie.Need-spelling-at-requires Inv-loop μ-loop
-spelling-at-requires c κs = tt
-
-single-alone-requires : tie.Need-single-alone-requires Inv-loop μ-loop
-single-alone-requires c κs = tt
-
 returns : tie.Need-returns Inv-loop μ-loop
-returns c = rw length-spellings (passed-fails (c .before .before .before .before .loop .inv) (c .before .before .before .loop-test .taken) (c .before .before .spelling-at .ensures) (sym (c .before .single-alone .ensures) ∙ not-true _ (c .if1 .taken)))
-
-next-at-requires : tie.Need-next-at-requires Inv-loop μ-loop
-next-at-requires c κs = tt
-
-add-i : tie.Need-add-i Inv-loop μ-loop
-add-i c = omega arith
-
-loop-less : tie.Need-loop-less Inv-loop μ-loop
-loop-less c = omega arith
+returns c =
+    let loop-test = c .before .before .before .loop-test in
+    let loop = c .before .before .before .before .loop in
+    rw length-spellings
+    (passed-fails (loop .inv) (loop-test .taken) (c .before .before .spelling-at .ensures)
+    (sym (c .before .single-alone .ensures) ∙ not-true _ (c .if1 .taken)))
 
 loop-again : tie.Need-loop-again Inv-loop μ-loop
-loop-again c = passed-more (c .before .before .before .before .before .loop .inv) (c .before .before .before .before .loop-test .taken) (c .before .before .before .spelling-at .ensures) (sym (c .before .before .single-alone .ensures) ∙ not-false _ (c .before .if1 .left)) (c .next-at .ensures)
+loop-again c =
+    let spelling-at = c .before .before .before .spelling-at in
+    let loop-test = c .before .before .before .before .loop-test in
+    let loop = c .before .before .before .before .before .loop in
+    passed-more (loop .inv) (loop-test .taken) (spelling-at .ensures)
+    (sym (c .before .before .single-alone .ensures) ∙ not-false _ (c .before .if1 .left)) (c .next-at .ensures)
 
 returns-2 : tie.Need-returns-2 Inv-loop μ-loop
 returns-2 c = rw length-spellings (passed-all (c .before .loop .inv) (c .loop-test .left))
@@ -46,15 +41,5 @@ returns-2 c = rw length-spellings (passed-all (c .before .loop .inv) (c .loop-te
 pub singles-alone-spec : {M : Type 1} → statement M
 singles-alone-spec =
     tie.close
-    (tie.spec
-    Inv-loop
-    μ-loop
-    loop-holds
-    spelling-at-requires
-    single-alone-requires
-    returns
-    next-at-requires
-    add-i
-    loop-less
-    loop-again
-    returns-2)
+    (tie.spec Inv-loop μ-loop loop-holds (λ c κs. tt) (λ c κs. tt) returns (λ c κs. tt) (λ c. omega arith)
+    (λ c. omega arith) loop-again returns-2)

@@ -29,47 +29,44 @@ loop-holds : tie.Need-loop-holds Inv-loop μ-loop
 unfolding every
 loop-holds c = (omega arith, refl)
 
-shared-slice-read-if3 : tie.Need-shared-slice-read-if3 Inv-loop μ-loop
-shared-slice-read-if3 c = omega arith
-
 returns-3 : tie.Need-returns-3 Inv-loop μ-loop
 unfolding spelled
-returns-3 c = rw (le-leb _ _ (c .before .before .before .before .before .if1 .left), le-leb _ _ (c .before .before .before .before .if2 .left)) (sym (every-fails _ _ (c .before .before .before .loop .i) (c .before .before .loop-test .taken) (rw (le-leb _ _ (c .if3 .taken)))))
-
-shared-slice-read-if4 : tie.Need-shared-slice-read-if4 Inv-loop μ-loop
-shared-slice-read-if4 c = omega arith
+returns-3 c =
+    let loop = c .before .before .before .loop in
+    let if2 = c .before .before .before .before .if2 in
+    let if1 = c .before .before .before .before .before .if1 in
+    rw (le-leb _ _ (if1 .left), le-leb _ _ (if2 .left))
+    (sym (every-fails _ _ (loop .i) (c .before .before .loop-test .taken) (rw (le-leb _ _ (c .if3 .taken)))))
 
 returns-4 : tie.Need-returns-4 Inv-loop μ-loop
 unfolding spelled
-returns-4 c = rw (le-leb _ _ (c .before .before .before .before .before .before .before .if1 .left), le-leb _ _ (c .before .before .before .before .before .before .if2 .left)) (sym (every-fails _ _ (c .before .before .before .before .before .loop .i) (c .before .before .before .before .loop-test .taken) (rw (lt-leb _ _ (c .before .before .if3 .left), eq-eqb _ _ (c .if4 .taken)))))
-
-add-i : tie.Need-add-i Inv-loop μ-loop
-add-i c = omega arith
-
-loop-less : tie.Need-loop-less Inv-loop μ-loop
-loop-less c = omega arith
+returns-4 c =
+    let loop-test = c .before .before .before .before .loop-test in
+    let loop = c .before .before .before .before .before .loop in
+    let if2 = c .before .before .before .before .before .before .if2 in
+    let if1 = c .before .before .before .before .before .before .before .if1 in
+    rw (le-leb _ _ (if1 .left), le-leb _ _ (if2 .left))
+    (sym
+    (every-fails _ _ (loop .i) (loop-test .taken)
+    (rw (lt-leb _ _ (c .before .before .if3 .left), eq-eqb _ _ (c .if4 .taken)))))
 
 loop-again : tie.Need-loop-again Inv-loop μ-loop
-loop-again c = (omega arith, every-more _ _ (c .before .before .before .before .before .loop .inv .1) (rw (lt-leb _ _ (c .before .before .if3 .left), ne-eqb _ _ (c .if4 .left))))
+loop-again c =
+    let loop = c .before .before .before .before .before .loop in (
+      omega arith,
+      every-more _ _ (loop .inv .1) (rw (lt-leb _ _ (c .before .before .if3 .left), ne-eqb _ _ (c .if4 .left))),
+    )
 
 returns-5 : tie.Need-returns-5 Inv-loop μ-loop
 unfolding spelled
-returns-5 c = let e : c .before .loop .i ≡ length (c .before .before .before .before .args .s .now) = omega arith in rw (le-leb _ _ (c .before .before .before .if1 .left), le-leb _ _ (c .before .before .if2 .left), ← e) (sym (c .before .loop .inv .1))
+returns-5 c =
+    let if1 = c .before .before .before .if1 in
+    let start = c .before .before .before .before in
+    let e : c .before .loop .i ≡ length (start .args .s .now) = omega arith in
+    rw (le-leb _ _ (if1 .left), le-leb _ _ (c .before .before .if2 .left), ← e) (sym (c .before .loop .inv .1))
 
 pub spelled-spec : {M : Type 1} → statement M
 spelled-spec =
     tie.close
-    (tie.spec
-    Inv-loop
-    μ-loop
-    returns
-    returns-2
-    loop-holds
-    shared-slice-read-if3
-    returns-3
-    shared-slice-read-if4
-    returns-4
-    add-i
-    loop-less
-    loop-again
-    returns-5)
+    (tie.spec Inv-loop μ-loop returns returns-2 loop-holds (λ c. omega arith) returns-3 (λ c. omega arith)
+    returns-4 (λ c. omega arith) (λ c. omega arith) loop-again returns-5)

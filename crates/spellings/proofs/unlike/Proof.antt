@@ -18,26 +18,20 @@ abbrev μ-loop : tie.MeasureT-loop
 loop-holds : tie.Need-loop-holds Inv-loop μ-loop
 loop-holds c = passed-none
 
-spelling-at-requires : tie.Need-spelling-at-requires Inv-loop μ-loop
-spelling-at-requires c κs = tt
-
-same-requires : tie.Need-same-requires Inv-loop μ-loop
-same-requires c κs = tt
-
 returns : tie.Need-returns Inv-loop μ-loop
-returns c = passed-fails (c .before .before .before .before .loop .inv) (c .before .before .before .loop-test .taken) (c .before .before .spelling-at .ensures) (ap not (sym (c .before .same .ensures) ∙ c .if1 .taken))
-
-next-at-requires : tie.Need-next-at-requires Inv-loop μ-loop
-next-at-requires c κs = tt
-
-add-i : tie.Need-add-i Inv-loop μ-loop
-add-i c = omega arith
-
-loop-less : tie.Need-loop-less Inv-loop μ-loop
-loop-less c = omega arith
+returns c =
+    let loop-test = c .before .before .before .loop-test in
+    let loop = c .before .before .before .before .loop in
+    passed-fails (loop .inv) (loop-test .taken) (c .before .before .spelling-at .ensures)
+    (ap not (sym (c .before .same .ensures) ∙ c .if1 .taken))
 
 loop-again : tie.Need-loop-again Inv-loop μ-loop
-loop-again c = passed-more (c .before .before .before .before .before .loop .inv) (c .before .before .before .before .loop-test .taken) (c .before .before .before .spelling-at .ensures) (ap not (sym (c .before .before .same .ensures) ∙ c .before .if1 .left)) (c .next-at .ensures)
+loop-again c =
+    let spelling-at = c .before .before .before .spelling-at in
+    let loop-test = c .before .before .before .before .loop-test in
+    let loop = c .before .before .before .before .before .loop in
+    passed-more (loop .inv) (loop-test .taken) (spelling-at .ensures)
+    (ap not (sym (c .before .before .same .ensures) ∙ c .before .if1 .left)) (c .next-at .ensures)
 
 returns-2 : tie.Need-returns-2 Inv-loop μ-loop
 returns-2 c = passed-all (c .before .loop .inv) (c .loop-test .left)
@@ -45,15 +39,5 @@ returns-2 c = passed-all (c .before .loop .inv) (c .loop-test .left)
 pub unlike-spec : {M : Type 1} → statement M
 unlike-spec =
     tie.close
-    (tie.spec
-    Inv-loop
-    μ-loop
-    loop-holds
-    spelling-at-requires
-    same-requires
-    returns
-    next-at-requires
-    add-i
-    loop-less
-    loop-again
-    returns-2)
+    (tie.spec Inv-loop μ-loop loop-holds (λ c κs. tt) (λ c κs. tt) returns (λ c κs. tt) (λ c. omega arith)
+    (λ c. omega arith) loop-again returns-2)

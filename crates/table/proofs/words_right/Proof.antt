@@ -6,36 +6,6 @@ use mathlib.Core.Path.{refl}
 use Rattle.table.specs.Checks.{rightWords}
 use Rattle.table.proofs.NodeKinds.{over-nine}
 
-all-requires : tie.Need-all-requires
-all-requires c κs = search needs
-
-all-requires-2 : tie.Need-all-requires-2
-all-requires-2 c κs = search needs
-
-all-requires-3 : tie.Need-all-requires-3
-all-requires-3 c κs = search needs
-
-all-requires-4 : tie.Need-all-requires-4
-all-requires-4 c κs = search needs
-
-all-requires-5 : tie.Need-all-requires-5
-all-requires-5 c κs = search needs
-
-all-requires-6 : tie.Need-all-requires-6
-all-requires-6 c κs = search needs
-
-all-requires-7 : tie.Need-all-requires-7
-all-requires-7 c κs = search needs
-
-all-requires-8 : tie.Need-all-requires-8
-all-requires-8 c κs = search needs
-
-all-requires-9 : tie.Need-all-requires-9
-all-requires-9 c κs = search needs
-
-all-requires-10 : tie.Need-all-requires-10
-all-requires-10 c κs = search needs
-
 returns : tie.Need-returns
 unfolding rightWords
 returns c = rw (c .before .match .keys1) (c .all .ensures)
@@ -83,25 +53,7 @@ returns-11 c = rw (over-nine _ (c .match .rest) .1) refl
 pub words-right-spec : {M : Type 1} → statement M
 words-right-spec =
     tie.close
-    (tie.spec
-    all-requires
-    all-requires-2
-    all-requires-3
-    all-requires-4
-    all-requires-5
-    all-requires-6
-    all-requires-7
-    all-requires-8
-    all-requires-9
-    all-requires-10
-    returns
-    returns-2
-    returns-3
-    returns-4
-    returns-5
-    returns-6
-    returns-7
-    returns-8
-    returns-9
-    returns-10
-    returns-11)
+    (tie.spec (λ c κs. search needs) (λ c κs. search needs) (λ c κs. search needs) (λ c κs. search needs)
+    (λ c κs. search needs) (λ c κs. search needs) (λ c κs. search needs) (λ c κs. search needs)
+    (λ c κs. search needs) (λ c κs. search needs) returns returns-2 returns-3 returns-4 returns-5 returns-6
+    returns-7 returns-8 returns-9 returns-10 returns-11)

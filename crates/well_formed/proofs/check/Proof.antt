@@ -6,25 +6,24 @@ use mathlib.Core.Path.{refl, sym, ap, _∙_}
 use Rattle.table.specs.Checks.{numbers as table-numbers}
 use Rattle.well_formed.proofs.VerdictLaws.{answer-refused, answer-judged}
 
-check-requires : tie.Need-check-requires
-check-requires c κs = search needs
-
-enum-known-number : tie.Need-enum-known-number
-enum-known-number c = search needs
-
-enum-told : tie.Need-enum-told
-enum-told c = search needs
-
 judge-requires : tie.Need-judge-requires
 judge-requires c κs = sym (c .before .before .check .ensures) ∙ ap table-numbers (c .enum-told .given .1)
 
 returns : tie.Need-returns
-returns c = answer-refused (c .before .before .before .before .before .before .args .nodes .now) (c .before .before .before .before .before .before .args .rules .now) (sym (ap table-numbers (c .before .number .given .1)) ∙ c .before .before .before .check .ensures) refl
+returns c =
+    let check = c .before .before .before .check in
+    let start = c .before .before .before .before .before .before in
+    answer-refused (start .args .nodes .now) (start .args .rules .now)
+    (sym (ap table-numbers (c .before .number .given .1)) ∙ check .ensures) refl
 
 returns-2 : tie.Need-returns-2
-returns-2 c = answer-judged (c .before .before .before .before .before .before .args .nodes .now) (c .before .before .before .before .before .before .args .rules .now) (sym (c .before .before .before .check .ensures) ∙ ap table-numbers (c .before .enum-told .given .1)) (c .judge .ensures)
+returns-2 c =
+    let check = c .before .before .before .check in
+    let start = c .before .before .before .before .before .before in
+    answer-judged (start .args .nodes .now) (start .args .rules .now)
+    (sym (check .ensures) ∙ ap table-numbers (c .before .enum-told .given .1)) (c .judge .ensures)
 
 pub check-spec : {M : Type 1} → statement M
 check-spec =
     tie.close
-    (tie.spec check-requires enum-known-number enum-told judge-requires returns returns-2)
+    (tie.spec (λ c κs. search needs) (λ c. search needs) (λ c. search needs) judge-requires returns returns-2)

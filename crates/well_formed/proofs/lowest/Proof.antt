@@ -12,7 +12,10 @@ use Rattle.well_formed.specs.Check.{verdictFrom}
 use Rattle.well_formed.proofs.VerdictLaws.{verdict-next, verdict-bad}
 
 abbrev Inv-loop : tie.InvT-loop
-Inv-loop nodes found count left₀ left = (left ≤ count) × (verdictFrom (λ m. getD found m false) 0 (nodeCount nodes) ≡ verdictFrom (λ m. getD found m false) (nodeCount nodes - left) left)
+Inv-loop nodes found count left₀ left =
+    (left ≤ count)
+    × (verdictFrom (λ m. getD found m false) 0 (nodeCount nodes)
+    ≡ verdictFrom (λ m. getD found m false) (nodeCount nodes - left) left)
 
 abbrev μ-loop : tie.MeasureT-loop
 μ-loop nodes found count left₀ left = left
@@ -20,26 +23,31 @@ abbrev μ-loop : tie.MeasureT-loop
 loop-holds : tie.Need-loop-holds Inv-loop μ-loop
 loop-holds c = (omega arith, let z : nodeCount (c .before .before .args .nodes .now) - nodeCount (c .before .before .args .nodes .now) ≡ 0 = omega arith in rw z refl)
 
-sub-n : tie.Need-sub-n Inv-loop μ-loop
-sub-n c = omega arith
-
-has-requires : tie.Need-has-requires Inv-loop μ-loop
-has-requires c κs = tt
-
 cast-t9 : tie.Need-cast-t9 Inv-loop μ-loop
-cast-t9 c = omega (arith, c .before .before .before .before .before .before .pre)
+cast-t9 c =
+    let start = c .before .before .before .before .before .before in
+    omega (arith, start .pre)
 
 returns : tie.Need-returns Inv-loop μ-loop
-returns c = sym (c .before .before .before .loop .inv .1 ∙ verdict-bad (λ m. getD (c .before .before .before .before .before .before .args .found .now) m false) (nodeCount (c .before .before .before .before .before .before .args .nodes .now)) (c .before .before .before .loop .left) (c .before .before .loop-test .taken) (c .before .before .before .loop .inv .0) (sym (c .before .has .ensures) ∙ not-true (c .before .has .result) (c .if1 .taken)))
-
-sub-left : tie.Need-sub-left Inv-loop μ-loop
-sub-left c = omega arith
-
-loop-less : tie.Need-loop-less Inv-loop μ-loop
-loop-less c = omega arith
+returns c =
+    let loop = c .before .before .before .loop in
+    let start = c .before .before .before .before .before .before in
+    sym
+    (loop .inv .1
+    ∙ verdict-bad (λ m. getD (start .args .found .now) m false) (nodeCount (start .args .nodes .now)) (loop .left)
+    (c .before .before .loop-test .taken) (loop .inv .0)
+    (sym (c .before .has .ensures) ∙ not-true (c .before .has .result) (c .if1 .taken)))
 
 loop-again : tie.Need-loop-again Inv-loop μ-loop
-loop-again c = (omega arith, c .before .before .before .loop .inv .1 ∙ verdict-next (λ m. getD (c .before .before .before .before .before .before .args .found .now) m false) (nodeCount (c .before .before .before .before .before .before .args .nodes .now)) (c .before .before .before .loop .left) (c .before .before .loop-test .taken) (c .before .before .before .loop .inv .0) (sym (c .before .has .ensures) ∙ not-false (c .before .has .result) (c .if1 .left)))
+loop-again c =
+    let loop = c .before .before .before .loop in
+    let start = c .before .before .before .before .before .before in (
+      omega arith,
+      loop .inv .1
+          ∙ verdict-next (λ m. getD (start .args .found .now) m false) (nodeCount (start .args .nodes .now)) (loop .left)
+          (c .before .before .loop-test .taken) (loop .inv .0)
+          (sym (c .before .has .ensures) ∙ not-false (c .before .has .result) (c .if1 .left)),
+    )
 
 returns-2 : tie.Need-returns-2 Inv-loop μ-loop
 unfolding verdictFrom
@@ -48,15 +56,5 @@ returns-2 c = let z : c .before .loop .left ≡ 0 = omega arith in sym (c .befor
 pub lowest-spec : {M : Type 1} → statement M
 lowest-spec =
     tie.close
-    (tie.spec
-    Inv-loop
-    μ-loop
-    loop-holds
-    sub-n
-    has-requires
-    cast-t9
-    returns
-    sub-left
-    loop-less
-    loop-again
-    returns-2)
+    (tie.spec Inv-loop μ-loop loop-holds (λ c. omega arith) (λ c κs. tt) cast-t9 returns (λ c. omega arith)
+    (λ c. omega arith) loop-again returns-2)

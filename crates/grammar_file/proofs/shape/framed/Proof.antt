@@ -24,44 +24,68 @@ returns : tie.Need-returns
 unfolding framedBy
 returns c = rw (lt-leb (length (c .before .before .args .file .now)) 65535 (c .if1 .taken)) refl
 
-right-at-requires : tie.Need-right-at-requires
-right-at-requires c κs = tt
-
 returns-2 : tie.Need-returns-2
 unfolding framedBy
-returns-2 c = rw (le-leb (length (c .before .before .before .before .args .file .now)) 65535 (c .before .before .if1 .left), sym (c .before .right-at .ensures) ∙ not-true _ (c .if2 .taken)) refl
+returns-2 c =
+    let start = c .before .before .before .before in
+    rw (
+      le-leb (length (start .args .file .now)) 65535 (c .before .before .if1 .left),
+      sym (c .before .right-at .ensures) ∙ not-true _ (c .if2 .taken),
+    ) refl
 
 shared-slice-read-if3 : tie.Need-shared-slice-read-if3
-shared-slice-read-if3 c = omega (arith, four (c .before .before .before .before .before .args .file .now) (sym (c .before .before .right-at .ensures) ∙ not-false _ (c .before .if2 .left)))
+shared-slice-read-if3 c =
+    let start = c .before .before .before .before .before in
+    omega (
+      arith,
+      four (start .args .file .now)
+          (sym (c .before .before .right-at .ensures) ∙ not-false _ (c .before .if2 .left)),
+    )
 
 returns-3 : tie.Need-returns-3
 unfolding framedBy
-returns-3 c = rw (le-leb (length (c .before .before .before .before .before .before .args .file .now)) 65535 (c .before .before .before .before .if1 .left), sym (c .before .before .before .right-at .ensures) ∙ not-false _ (c .before .before .if2 .left), ne-eqb _ _ (c .if3 .taken)) refl
-
-right-at-requires-2 : tie.Need-right-at-requires-2
-right-at-requires-2 c κs = tt
+returns-3 c =
+    let right-at = c .before .before .before .right-at in
+    let if1 = c .before .before .before .before .if1 in
+    let start = c .before .before .before .before .before .before in
+    rw (
+      le-leb (length (start .args .file .now)) 65535 (if1 .left),
+      sym (right-at .ensures) ∙ not-false _ (c .before .before .if2 .left),
+      ne-eqb _ _ (c .if3 .taken),
+    ) refl
 
 returns-4 : tie.Need-returns-4
 unfolding framedBy
-returns-4 c = rw (le-leb (length (c .before .before .before .before .before .before .before .before .args .file .now)) 65535 (c .before .before .before .before .before .before .if1 .left), sym (c .before .before .before .before .before .right-at .ensures) ∙ not-false _ (c .before .before .before .before .if2 .left), eq-eqb _ _ (c .before .before .if3 .left), sym (c .before .right-at2 .ensures) ∙ not-true _ (c .if4 .taken)) refl
-
-next-at-requires : tie.Need-next-at-requires
-next-at-requires c κs = tt
+returns-4 c =
+    let if2 = c .before .before .before .before .if2 in
+    let right-at = c .before .before .before .before .before .right-at in
+    let if1 = c .before .before .before .before .before .before .if1 in
+    let start = c .before .before .before .before .before .before .before .before in
+    rw (
+      le-leb (length (start .args .file .now)) 65535 (if1 .left),
+      sym (right-at .ensures) ∙ not-false _ (if2 .left),
+      eq-eqb _ _ (c .before .before .if3 .left),
+      sym (c .before .right-at2 .ensures) ∙ not-true _ (c .if4 .taken),
+    ) refl
 
 returns-5 : tie.Need-returns-5
 unfolding framedBy
-returns-5 c = rw (le-leb (length (c .before .before .before .before .before .before .before .before .before .args .file .now)) 65535 (c .before .before .before .before .before .before .before .if1 .left), sym (c .before .before .before .before .before .before .right-at .ensures) ∙ not-false _ (c .before .before .before .before .before .if2 .left), eq-eqb _ _ (c .before .before .before .if3 .left), sym (c .before .before .right-at2 .ensures) ∙ not-false _ (c .before .if4 .left), ← c .next-at .ensures) refl
+returns-5 c =
+    let if3 = c .before .before .before .if3 in
+    let if2 = c .before .before .before .before .before .if2 in
+    let right-at = c .before .before .before .before .before .before .right-at in
+    let if1 = c .before .before .before .before .before .before .before .if1 in
+    let start = c .before .before .before .before .before .before .before .before .before in
+    rw (
+      le-leb (length (start .args .file .now)) 65535 (if1 .left),
+      sym (right-at .ensures) ∙ not-false _ (if2 .left),
+      eq-eqb _ _ (if3 .left),
+      sym (c .before .before .right-at2 .ensures) ∙ not-false _ (c .before .if4 .left),
+      ← c .next-at .ensures,
+    ) refl
 
 pub framed-spec : {M : Type 1} → statement M
 framed-spec =
     tie.close
-    (tie.spec
-    returns
-    right-at-requires
-    returns-2
-    shared-slice-read-if3
-    returns-3
-    right-at-requires-2
-    returns-4
-    next-at-requires
-    returns-5)
+    (tie.spec returns (λ c κs. tt) returns-2 shared-slice-read-if3 returns-3 (λ c κs. tt) returns-4
+    (λ c κs. tt) returns-5)

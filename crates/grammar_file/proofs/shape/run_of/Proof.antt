@@ -31,21 +31,37 @@ loop-holds : tie.Need-loop-holds Inv-loop μ-loop
 unfolding offsetOf
 loop-holds c = (refl, (λ i h. absurd (omega arith)), omega arith)
 
-right-at-requires : tie.Need-right-at-requires Inv-loop μ-loop
-right-at-requires c κs = tt
-
-next-at-requires : tie.Need-next-at-requires Inv-loop μ-loop
-next-at-requires c κs = tt
-
 add-count : tie.Need-add-count Inv-loop μ-loop
-add-count c = omega (arith, whole (c .before .before .before .before .before .args .file .now) (c .before .before .before .loop .end) (c .before .before .before .before .before .args .tag) (sym (c .before .before .right-at .ensures) ∙ c .before .if1 .taken))
+add-count c =
+    let loop = c .before .before .before .loop in
+    let start = c .before .before .before .before .before in
+    omega (
+      arith,
+      whole (start .args .file .now) (loop .end) (start .args .tag)
+          (sym (c .before .before .right-at .ensures) ∙ c .before .if1 .taken),
+    )
 
 loop-less : tie.Need-loop-less Inv-loop μ-loop
-loop-less c = next-more (c .before .before .before .before .before .args .file .now) (c .before .before .before .loop .end) (c .before .before .before .before .before .args .tag) (sym (c .before .before .right-at .ensures) ∙ c .before .if1 .taken) (c .next-at .ensures)
+loop-less c =
+    let loop = c .before .before .before .loop in
+    let start = c .before .before .before .before .before in
+    next-more (start .args .file .now) (loop .end) (start .args .tag)
+    (sym (c .before .before .right-at .ensures) ∙ c .before .if1 .taken) (c .next-at .ensures)
 
 loop-again : tie.Need-loop-again Inv-loop μ-loop
 unfolding offsetOf
-loop-again c = (c .next-at .ensures ∙ rw (add-one, ← c .before .before .before .loop .inv .0) refl, below-more _ _ (c .before .before .before .loop .inv .1) (rw (← c .before .before .before .loop .inv .0) (sym (c .before .before .right-at .ensures) ∙ c .before .if1 .taken)), omega (arith, next-above (c .before .before .before .before .before .args .file .now) (c .before .before .before .loop .end) (c .before .before .before .before .before .args .tag) (sym (c .before .before .right-at .ensures) ∙ c .before .if1 .taken) (c .next-at .ensures)))
+loop-again c =
+    let right-at = c .before .before .right-at in
+    let loop = c .before .before .before .loop in
+    let start = c .before .before .before .before .before in (
+      c .next-at .ensures ∙ rw (add-one, ← loop .inv .0) refl,
+      below-more _ _ (loop .inv .1) (rw (← loop .inv .0) (sym (right-at .ensures) ∙ c .before .if1 .taken)),
+      omega (
+        arith,
+        next-above (start .args .file .now) (loop .end) (start .args .tag)
+            (sym (right-at .ensures) ∙ c .before .if1 .taken) (c .next-at .ensures),
+      ),
+    )
 
 returns : tie.Need-returns Inv-loop μ-loop
 returns c = record { ends = c .before .before .loop .inv .0; each = c .before .before .loop .inv .1; stops = sym (c .before .right-at .ensures) ∙ c .if1 .left }
@@ -53,13 +69,4 @@ returns c = record { ends = c .before .before .loop .inv .0; each = c .before .b
 pub run-of-spec : {M : Type 1} → statement M
 run-of-spec =
     tie.close
-    (tie.spec
-    Inv-loop
-    μ-loop
-    loop-holds
-    right-at-requires
-    next-at-requires
-    add-count
-    loop-less
-    loop-again
-    returns)
+    (tie.spec Inv-loop μ-loop loop-holds (λ c κs. tt) (λ c κs. tt) add-count loop-less loop-again returns)

@@ -5,31 +5,26 @@ use Rattle.grammar_file.proofs.shape.shape_of.Tie as tie
 use mathlib.Core.Path.{sym, _∙_}
 use Rattle.grammar_file.proofs.ShapeLaws.{shaped-framed, shaped-unframed}
 
-run-of-requires : tie.Need-run-of-requires
-run-of-requires c κs = search needs
-
-run-of-requires-2 : tie.Need-run-of-requires-2
-run-of-requires-2 c κs = search needs
-
-run-of-requires-3 : tie.Need-run-of-requires-3
-run-of-requires-3 c κs = search needs
-
-framed-requires : tie.Need-framed-requires
-framed-requires c κs = search needs
-
 returns : tie.Need-returns
-returns c = shaped-framed (c .before .before .before .before .before .before .args .file .now) (c .before .before .before .before .run-of .result) (c .before .before .before .run-of2 .result) (c .before .before .run-of3 .result) (c .before .before .before .before .run-of .ensures) (c .before .before .before .run-of2 .ensures) (c .before .before .run-of3 .ensures) (sym (c .before .framed .ensures) ∙ c .if1 .taken)
+returns c =
+    let run-of3 = c .before .before .run-of3 in
+    let run-of2 = c .before .before .before .run-of2 in
+    let run-of = c .before .before .before .before .run-of in
+    let start = c .before .before .before .before .before .before in
+    shaped-framed (start .args .file .now) (run-of .result) (run-of2 .result) (run-of3 .result) (run-of .ensures)
+    (run-of2 .ensures) (run-of3 .ensures) (sym (c .before .framed .ensures) ∙ c .if1 .taken)
 
 returns-2 : tie.Need-returns-2
-returns-2 c = shaped-unframed (c .before .before .before .before .before .before .args .file .now) (c .before .before .before .before .run-of .result) (c .before .before .before .run-of2 .result) (c .before .before .run-of3 .result) (c .before .before .before .before .run-of .ensures) (c .before .before .before .run-of2 .ensures) (c .before .before .run-of3 .ensures) (c .before .framed .ensures) (c .if1 .left)
+returns-2 c =
+    let run-of3 = c .before .before .run-of3 in
+    let run-of2 = c .before .before .before .run-of2 in
+    let run-of = c .before .before .before .before .run-of in
+    let start = c .before .before .before .before .before .before in
+    shaped-unframed (start .args .file .now) (run-of .result) (run-of2 .result) (run-of3 .result) (run-of .ensures)
+    (run-of2 .ensures) (run-of3 .ensures) (c .before .framed .ensures) (c .if1 .left)
 
 pub shape-of-spec : {M : Type 1} → statement M
 shape-of-spec =
     tie.close
-    (tie.spec
-    run-of-requires
-    run-of-requires-2
-    run-of-requires-3
-    framed-requires
-    returns
-    returns-2)
+    (tie.spec (λ c κs. search needs) (λ c κs. search needs) (λ c κs. search needs) (λ c κs. search needs)
+    returns returns-2)

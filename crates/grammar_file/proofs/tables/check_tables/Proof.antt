@@ -11,58 +11,58 @@ use Rattle.file_fields.specs.Offsets.{fieldsFrom}
 use Rattle.grammar_file.proofs.TableLaws.{length-nodes, length-rules, nodes-front, rules-front, count-nodes, many-nodes, many-rules}
 
 returns : tie.Need-returns
-returns c = sym (many-nodes (wordsOf (fieldsFrom (c .before .before .args .file .now) (c .before .before .args .nodes-at) (c .before .before .args .node-count))) (map ruleNode (fieldsFrom (c .before .before .args .file .now) (c .before .before .args .rules-at) (c .before .before .args .rule-count))) (rw (count-nodes (c .before .before .args .file .now) (c .before .before .args .nodes-at) (c .before .before .args .node-count)) (c .if1 .taken)))
+returns c =
+    let start = c .before .before in
+    sym
+    (many-nodes (wordsOf (fieldsFrom (start .args .file .now) (start .args .nodes-at) (start .args .node-count)))
+    (map ruleNode (fieldsFrom (start .args .file .now) (start .args .rules-at) (start .args .rule-count)))
+    (rw (count-nodes (start .args .file .now) (start .args .nodes-at) (start .args .node-count))
+    (c .if1 .taken)))
 
 returns-2 : tie.Need-returns-2
-returns-2 c = sym (many-rules (wordsOf (fieldsFrom (c .before .before .before .args .file .now) (c .before .before .before .args .nodes-at) (c .before .before .before .args .node-count))) (map ruleNode (fieldsFrom (c .before .before .before .args .file .now) (c .before .before .before .args .rules-at) (c .before .before .before .args .rule-count))) (rw (length-rules (c .before .before .before .args .file .now) (c .before .before .before .args .rules-at) (c .before .before .before .args .rule-count)) (c .if2 .taken)))
-
-slice-aggregate-write-nodes : tie.Need-slice-aggregate-write-nodes
-slice-aggregate-write-nodes c = search needs
-
-write-nodes-requires : tie.Need-write-nodes-requires
-write-nodes-requires c κs = search needs
-
-slice-aggregate-write-rules : tie.Need-slice-aggregate-write-rules
-slice-aggregate-write-rules c = search needs
-
-write-rules-requires : tie.Need-write-rules-requires
-write-rules-requires c κs = search needs
-
-mul-words : tie.Need-mul-words
-mul-words c = search needs
-
-array-share-prefix-nodes : tie.Need-array-share-prefix-nodes
-array-share-prefix-nodes c = search needs
+returns-2 c =
+    let start = c .before .before .before in
+    sym
+    (many-rules (wordsOf (fieldsFrom (start .args .file .now) (start .args .nodes-at) (start .args .node-count)))
+    (map ruleNode (fieldsFrom (start .args .file .now) (start .args .rules-at) (start .args .rule-count)))
+    (rw (length-rules (start .args .file .now) (start .args .rules-at) (start .args .rule-count))
+    (c .if2 .taken)))
 
 slice-aggregate-check : tie.Need-slice-aggregate-check
-slice-aggregate-check c = sym (ap length (nodes-front (c .before .before .before .before .before .before .before .before .before .before .args .file .now) (c .before .before .before .before .before .before .before .before .before .before .args .nodes-at) (c .before .before .before .before .before .before .before .before .before .before .args .node-count) _ (c .before .before .before .before .before .write-nodes .ensures)) ∙ length-nodes (c .before .before .before .before .before .before .before .before .before .before .args .file .now) (c .before .before .before .before .before .before .before .before .before .before .args .nodes-at) (c .before .before .before .before .before .before .before .before .before .before .args .node-count))
-
-array-share-prefix-rules : tie.Need-array-share-prefix-rules
-array-share-prefix-rules c = search needs
+slice-aggregate-check c =
+    let write-nodes = c .before .before .before .before .before .write-nodes in
+    let start = c .before .before .before .before .before .before .before .before .before .before in
+    sym
+    (ap length
+    (nodes-front (start .args .file .now) (start .args .nodes-at) (start .args .node-count) _
+    (write-nodes .ensures))
+    ∙ length-nodes (start .args .file .now) (start .args .nodes-at) (start .args .node-count))
 
 slice-aggregate-check-2 : tie.Need-slice-aggregate-check-2
-slice-aggregate-check-2 c = sym (ap length (rules-front (c .before .before .before .before .before .before .before .before .before .before .before .args .file .now) (c .before .before .before .before .before .before .before .before .before .before .before .args .rules-at) (c .before .before .before .before .before .before .before .before .before .before .before .args .rule-count) _ (c .before .before .before .write-rules .ensures)) ∙ length-rules (c .before .before .before .before .before .before .before .before .before .before .before .args .file .now) (c .before .before .before .before .before .before .before .before .before .before .before .args .rules-at) (c .before .before .before .before .before .before .before .before .before .before .before .args .rule-count))
-
-check-requires : tie.Need-check-requires
-check-requires c κs = search needs
+slice-aggregate-check-2 c =
+    let write-rules = c .before .before .before .write-rules in
+    let start = c .before .before .before .before .before .before .before .before .before .before .before in
+    sym
+    (ap length
+    (rules-front (start .args .file .now) (start .args .rules-at) (start .args .rule-count) _
+    (write-rules .ensures))
+    ∙ length-rules (start .args .file .now) (start .args .rules-at) (start .args .rule-count))
 
 returns-3 : tie.Need-returns-3
-returns-3 c = c .check .ensures ∙ ap₂ tableAnswer (nodes-front (c .before .before .before .before .before .before .before .before .before .before .before .before .args .file .now) (c .before .before .before .before .before .before .before .before .before .before .before .before .args .nodes-at) (c .before .before .before .before .before .before .before .before .before .before .before .before .args .node-count) _ (c .before .before .before .before .before .before .before .write-nodes .ensures)) (rules-front (c .before .before .before .before .before .before .before .before .before .before .before .before .args .file .now) (c .before .before .before .before .before .before .before .before .before .before .before .before .args .rules-at) (c .before .before .before .before .before .before .before .before .before .before .before .before .args .rule-count) _ (c .before .before .before .before .write-rules .ensures))
+returns-3 c =
+    let write-rules = c .before .before .before .before .write-rules in
+    let write-nodes = c .before .before .before .before .before .before .before .write-nodes in
+    let start = c .before .before .before .before .before .before .before .before .before .before .before .before in
+    c .check .ensures
+    ∙ ap₂ tableAnswer
+    (nodes-front (start .args .file .now) (start .args .nodes-at) (start .args .node-count) _
+    (write-nodes .ensures))
+    (rules-front (start .args .file .now) (start .args .rules-at) (start .args .rule-count) _
+    (write-rules .ensures))
 
 pub check-tables-spec : {M : Type 1} → statement M
 check-tables-spec =
     tie.close
-    (tie.spec
-    returns
-    returns-2
-    slice-aggregate-write-nodes
-    write-nodes-requires
-    slice-aggregate-write-rules
-    write-rules-requires
-    mul-words
-    array-share-prefix-nodes
-    slice-aggregate-check
-    array-share-prefix-rules
-    slice-aggregate-check-2
-    check-requires
-    returns-3)
+    (tie.spec returns returns-2 (λ c. search needs) (λ c κs. search needs) (λ c. search needs)
+    (λ c κs. search needs) (λ c. search needs) (λ c. search needs) slice-aggregate-check (λ c. search needs)
+    slice-aggregate-check-2 (λ c κs. search needs) returns-3)

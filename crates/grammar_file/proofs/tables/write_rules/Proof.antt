@@ -23,32 +23,40 @@ loop-holds : tie.Need-loop-holds Inv-loop μ-loop
 unfolding fieldsFrom offsetOf
 loop-holds c = (omega arith, refl, refl)
 
-value-at-requires : tie.Need-value-at-requires Inv-loop μ-loop
-value-at-requires c κs = tt
-
-number-in-requires : tie.Need-number-in-requires Inv-loop μ-loop
-number-in-requires c κs = omega arith
-
-mul-out : tie.Need-mul-out Inv-loop μ-loop
-mul-out c = omega arith
-
 slice-write-out : tie.Need-slice-write-out Inv-loop μ-loop
-slice-write-out c = omega (arith, (ap length (c .before .before .before .loop .inv .2) ∙ length-written (map ruleNode (fieldsFrom (c .before .before .before .before .before .before .args .file .now) (c .before .before .before .before .before .before .args .first) (c .before .before .before .loop .i))) (c .before .before .before .before .before .before .args .out .now) (c .before .before .before .loop .i) (length-rules (c .before .before .before .before .before .before .args .file .now) (c .before .before .before .before .before .before .args .first) (c .before .before .before .loop .i)) (omega arith)))
-
-next-at-requires : tie.Need-next-at-requires Inv-loop μ-loop
-next-at-requires c κs = tt
-
-add-i : tie.Need-add-i Inv-loop μ-loop
-add-i c = omega arith
-
-loop-less : tie.Need-loop-less Inv-loop μ-loop
-loop-less c = omega arith
+slice-write-out c =
+    let loop = c .before .before .before .loop in
+    let start = c .before .before .before .before .before .before in
+    omega (
+      arith,
+      (ap length (loop .inv .2)
+          ∙ length-written (map ruleNode (fieldsFrom (start .args .file .now) (start .args .first) (loop .i)))
+          (start .args .out .now) (loop .i) (length-rules (start .args .file .now) (start .args .first) (loop .i))
+          (omega arith)),
+    )
 
 loop-again : tie.Need-loop-again Inv-loop μ-loop
-loop-again c = (omega arith, c .next-at .ensures ∙ ap (nextAt (c .before .before .before .before .before .before .before .args .file .now)) (c .before .before .before .before .loop .inv .1) ∙ sym (offset-next (c .before .before .before .before .before .before .before .args .file .now) (c .before .before .before .before .before .before .before .args .first) (c .before .before .before .before .loop .i)), rule-next (c .before .before .before .before .before .before .before .args .file .now) (c .before .before .before .before .before .before .before .args .first) (c .before .before .before .before .loop .i) (c .before .before .before .before .before .before .before .args .out .now) (c .before .before .before .before .loop .out) (c .before .number-in .result) (c .before .before .before .before .loop .inv .2) (omega arith) (c .before .number-in .ensures ∙ ap (λ (l : List ℕ). twoBytes (getD l 0 0) (getD l 1 0)) (c .before .before .value-at .ensures ∙ ap (valueAt (c .before .before .before .before .before .before .before .args .file .now)) (c .before .before .before .before .loop .inv .1))))
+loop-again c =
+    let loop = c .before .before .before .before .loop in
+    let start = c .before .before .before .before .before .before .before in (
+      omega arith,
+      c .next-at .ensures
+          ∙ ap (nextAt (start .args .file .now)) (loop .inv .1)
+          ∙ sym (offset-next (start .args .file .now) (start .args .first) (loop .i)),
+      rule-next (start .args .file .now) (start .args .first) (loop .i) (start .args .out .now) (loop .out)
+          (c .before .number-in .result) (loop .inv .2) (omega arith)
+          (c .before .number-in .ensures
+          ∙ ap (λ (l : List ℕ). twoBytes (getD l 0 0) (getD l 1 0))
+          (c .before .before .value-at .ensures ∙ ap (valueAt (start .args .file .now)) (loop .inv .1))),
+    )
 
 same-length : tie.Need-same-length Inv-loop μ-loop
-same-length c = (ap length (c .before .loop .inv .2) ∙ length-written (map ruleNode (fieldsFrom (c .before .before .before .before .args .file .now) (c .before .before .before .before .args .first) (c .before .loop .i))) (c .before .before .before .before .args .out .now) (c .before .loop .i) (length-rules (c .before .before .before .before .args .file .now) (c .before .before .before .before .args .first) (c .before .loop .i)) (omega arith))
+same-length c =
+    let start = c .before .before .before .before in
+    (ap length (c .before .loop .inv .2)
+    ∙ length-written (map ruleNode (fieldsFrom (start .args .file .now) (start .args .first) (c .before .loop .i)))
+    (start .args .out .now) (c .before .loop .i)
+    (length-rules (start .args .file .now) (start .args .first) (c .before .loop .i)) (omega arith))
 
 returns : tie.Need-returns Inv-loop μ-loop
 returns c = let e : (c .before .loop .i) ≡ c .before .before .before .before .args .count = omega arith in c .before .loop .inv .2 ∙ rw e refl
@@ -56,17 +64,5 @@ returns c = let e : (c .before .loop .i) ≡ c .before .before .before .before .
 pub write-rules-spec : {M : Type 1} → statement M
 write-rules-spec =
     tie.close
-    (tie.spec
-    Inv-loop
-    μ-loop
-    loop-holds
-    value-at-requires
-    number-in-requires
-    mul-out
-    slice-write-out
-    next-at-requires
-    add-i
-    loop-less
-    loop-again
-    same-length
-    returns)
+    (tie.spec Inv-loop μ-loop loop-holds (λ c κs. tt) (λ c κs. omega arith) (λ c. omega arith) slice-write-out
+    (λ c κs. tt) (λ c. omega arith) (λ c. omega arith) loop-again same-length returns)

@@ -8,7 +8,9 @@ inner-requires : tie.Need-inner-requires
 inner-requires c κs = search needs
 
 returns : tie.Need-returns
-returns c = child-indent (c .before .before .before .args .kind) (c .before .before .before .args .r) (c .before .before .before .args .s) _ (c .before .match .keys1) (c .inner .ensures)
+returns c =
+    let start = c .before .before .before in
+    child-indent (start .args .kind) (start .args .r) (start .args .s) _ (c .before .match .keys1) (c .inner .ensures)
 
 returns-2 : tie.Need-returns-2
 returns-2 c = child-align (c .before .before .args .kind) (c .before .before .args .r) (c .before .before .args .s) (c .match .keys2)

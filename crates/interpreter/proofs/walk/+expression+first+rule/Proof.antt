@@ -22,7 +22,12 @@ use borrow.Author.Needs.{needs}
 use native.Mathlib.Omega.{arith}
 use Rattle.table.specs.Form.{standsFor}
 use Rattle.interpreter.specs.InternalWalk.{weight}
-use Rattle.interpreter.proofs.WalkLaws.{Walk, start, for-node, out-empty, for-token, out-token, rule-less, rule-ready, out-rule, position-less, position-again, for-child, call-less, call-ready, choice-less, choice-again, out-not, out-repeat, out-failed, sequence-less, sequence-again, out-choice, out-not-fails, repeat-less, repeat-again, out-indent, out-align, first-node, first-token, out-first, node-less, out-of-rule}
+use Rattle.interpreter.proofs.WalkLaws.{Walk, start, for-node, out-empty, for-token, out-token, rule-less}
+use Rattle.interpreter.proofs.WalkLaws.{rule-ready, out-rule, position-less, position-again, for-child}
+use Rattle.interpreter.proofs.WalkLaws.{call-less, call-ready, choice-less, choice-again, out-not}
+use Rattle.interpreter.proofs.WalkLaws.{out-repeat, out-failed, sequence-less, sequence-again, out-choice}
+use Rattle.interpreter.proofs.WalkLaws.{out-not-fails, repeat-less, repeat-again, out-indent, out-align}
+use Rattle.interpreter.proofs.WalkLaws.{first-node, first-token, out-first, node-less, out-of-rule}
 
 abbrev μ-expression : Measures 3 expression-kinds.ps ℕ
 μ-expression κs a = 2 * weight (a .0 .now) (a .1 .0 .now) (a .1 .1 .0 .now) (a .1 .1 .1 .1 .0) (a .1 .1 .1 .1 .1 .0)
@@ -55,7 +60,20 @@ rule-below t = and 3 rule-kinds.ps (falls 3 rule-kinds.ps _<_ μ-rule t) rule.Pr
 
 -- What a call of each callee asks and gives: those of the expression walk, and those of a first child's.
 abbrev claims : ℕ → expression-lts.Claims
-claims t = (token-reads.Asked, token-reads.Learnt, rule-below t, rule.Post, child-reads.Asked, child-reads.Learnt, first-below t, first.Post, left-reads.Asked, left-reads.Learnt, aligned-reads.Asked, aligned-reads.Learnt)
+claims t = (
+  token-reads.Asked,
+  token-reads.Learnt,
+  rule-below t,
+  rule.Post,
+  child-reads.Asked,
+  child-reads.Learnt,
+  first-below t,
+  first.Post,
+  left-reads.Asked,
+  left-reads.Learnt,
+  aligned-reads.Asked,
+  aligned-reads.Learnt,
+)
 
 abbrev first-claims : ℕ → first-lts.Claims
 first-claims t = (token-reads.Asked, token-reads.Learnt, expression-below t, expression.Post)
@@ -109,82 +127,174 @@ expression-shared-slice-read-r : (t : ℕ) → expression-lts.Need-shared-slice-
 expression-shared-slice-read-r t c = omega (arith, for-node (c .before .before .before .before .loop .inv))
 
 expression-returns : (t : ℕ) → expression-lts.Need-returns (claims t) (expression-at t) expression.Post expression-Inv-loop expression-μ-loop
-expression-returns t c = out-empty (c .before .before .before .before .before .loop .inv) (c .match .keys1)
+expression-returns t c =
+    let loop = c .before .before .before .before .before .loop in
+    out-empty (loop .inv) (c .match .keys1)
 
 expression-token-requires : (t : ℕ) → expression-lts.Need-token-requires (claims t) (expression-at t) expression.Post expression-Inv-loop expression-μ-loop
-expression-token-requires t c κs = for-token (c .before .before .before .before .before .loop .inv)
+expression-token-requires t c κs =
+    let loop = c .before .before .before .before .before .loop in
+    for-token (loop .inv)
 
 expression-returns-2 : (t : ℕ) → expression-lts.Need-returns-2 (claims t) (expression-at t) expression.Post expression-Inv-loop expression-μ-loop
-expression-returns-2 t c = out-token (c .before .before .before .before .before .before .loop .inv) (c .before .match .keys2) _ (c .token .ensures)
+expression-returns-2 t c =
+    let loop = c .before .before .before .before .before .before .loop in
+    out-token (loop .inv) (c .before .match .keys2) _ (c .token .ensures)
 
 expression-rule-requires : (t : ℕ) → expression-lts.Need-rule-requires (claims t) (expression-at t) expression.Post expression-Inv-loop expression-μ-loop
-expression-rule-requires t c κs = (rule-less (c .before .before .before .before .before .loop .inv) (c .before .before .before .before .before .before .before .before .before .pre .0) (c .match .keys3), rule-ready (c .before .before .before .before .before .loop .inv) (c .match .keys3))
+expression-rule-requires t c κs =
+    let loop = c .before .before .before .before .before .loop in
+    let start = c .before .before .before .before .before .before .before .before .before in
+    (rule-less (loop .inv) (start .pre .0) (c .match .keys3), rule-ready (loop .inv) (c .match .keys3))
 
 expression-returns-3 : (t : ℕ) → expression-lts.Need-returns-3 (claims t) (expression-at t) expression.Post expression-Inv-loop expression-μ-loop
-expression-returns-3 t c = out-rule (c .before .before .before .before .before .before .loop .inv) (c .before .match .keys3) _ (c .rule .ensures)
+expression-returns-3 t c =
+    let loop = c .before .before .before .before .before .before .loop in
+    out-rule (loop .inv) (c .before .match .keys3) _ (c .rule .ensures)
 
 expression-loop-less : (t : ℕ) → expression-lts.Need-loop-less (claims t) (expression-at t) expression.Post expression-Inv-loop expression-μ-loop
-expression-loop-less t c = position-less (c .before .before .before .before .before .loop .inv) (c .match .keys4)
+expression-loop-less t c =
+    let loop = c .before .before .before .before .before .loop in
+    position-less (loop .inv) (c .match .keys4)
 
 expression-loop-again : (t : ℕ) → expression-lts.Need-loop-again (claims t) (expression-at t) expression.Post expression-Inv-loop expression-μ-loop
-expression-loop-again t c = position-again (c .before .before .before .before .before .loop .inv) (c .match .keys4)
+expression-loop-again t c =
+    let loop = c .before .before .before .before .before .loop in
+    position-again (loop .inv) (c .match .keys4)
 
 expression-child-requires : (t : ℕ) → expression-lts.Need-child-requires (claims t) (expression-at t) expression.Post expression-Inv-loop expression-μ-loop
-expression-child-requires t c κs = for-child (c .before .before .before .before .before .loop .inv)
+expression-child-requires t c κs =
+    let loop = c .before .before .before .before .before .loop in
+    for-child (loop .inv)
 
 expression-first-requires : (t : ℕ) → expression-lts.Need-first-requires (claims t) (expression-at t) expression.Post expression-Inv-loop expression-μ-loop
-expression-first-requires t c κs = (call-less (c .before .before .before .before .before .before .loop .inv) (c .before .before .before .before .before .before .before .before .before .before .pre .0) (c .child .ensures) (c .before .match .rest .0 .0 .0 .1) (c .before .match .rest .0 .0 .1) (c .before .match .rest .0 .1) (c .before .match .rest .1), call-ready (c .before .before .before .before .before .before .loop .inv) (c .child .ensures) (c .before .match .rest .0 .0 .0 .1) (c .before .match .rest .0 .0 .1) (c .before .match .rest .0 .1) (c .before .match .rest .1))
+expression-first-requires t c κs =
+    let loop = c .before .before .before .before .before .before .loop in
+    let start = c .before .before .before .before .before .before .before .before .before .before in (
+      call-less (loop .inv) (start .pre .0) (c .child .ensures) (c .before .match .rest .0 .0 .0 .1)
+          (c .before .match .rest .0 .0 .1) (c .before .match .rest .0 .1) (c .before .match .rest .1),
+      call-ready (loop .inv) (c .child .ensures) (c .before .match .rest .0 .0 .0 .1)
+          (c .before .match .rest .0 .0 .1) (c .before .match .rest .0 .1) (c .before .match .rest .1),
+    )
 
 expression-enum-told : (t : ℕ) → expression-lts.Need-enum-told (claims t) (expression-at t) expression.Post expression-Inv-loop expression-μ-loop
 expression-enum-told t c = search needs
 
 expression-loop-less-2 : (t : ℕ) → expression-lts.Need-loop-less-2 (claims t) (expression-at t) expression.Post expression-Inv-loop expression-μ-loop
-expression-loop-less-2 t c = choice-less (c .before .before .before .before .before .before .before .before .before .before .loop .inv) (c .before .before .before .before .child .ensures) (c .before .before .before .first .ensures) (c .before .enum-told .given .1) (c .match3 .keys1)
+expression-loop-less-2 t c =
+    let first = c .before .before .before .first in
+    let child = c .before .before .before .before .child in
+    let loop = c .before .before .before .before .before .before .before .before .before .before .loop in
+    choice-less (loop .inv) (child .ensures) (first .ensures) (c .before .enum-told .given .1) (c .match3 .keys1)
 
 expression-loop-again-2 : (t : ℕ) → expression-lts.Need-loop-again-2 (claims t) (expression-at t) expression.Post expression-Inv-loop expression-μ-loop
-expression-loop-again-2 t c = choice-again (c .before .before .before .before .before .before .before .before .before .before .loop .inv) (c .before .before .before .before .child .ensures) (c .before .before .before .first .ensures) (c .before .enum-told .given .1) (c .match3 .keys1)
+expression-loop-again-2 t c =
+    let first = c .before .before .before .first in
+    let child = c .before .before .before .before .child in
+    let loop = c .before .before .before .before .before .before .before .before .before .before .loop in
+    choice-again (loop .inv) (child .ensures) (first .ensures) (c .before .enum-told .given .1) (c .match3 .keys1)
 
 expression-returns-4 : (t : ℕ) → expression-lts.Need-returns-4 (claims t) (expression-at t) expression.Post expression-Inv-loop expression-μ-loop
-expression-returns-4 t c = out-not (c .before .before .before .before .before .before .before .before .before .before .loop .inv) (c .before .before .before .before .child .ensures) (c .before .before .before .first .ensures) (c .before .enum-told .given .1) (c .match3 .keys2)
+expression-returns-4 t c =
+    let first = c .before .before .before .first in
+    let child = c .before .before .before .before .child in
+    let loop = c .before .before .before .before .before .before .before .before .before .before .loop in
+    out-not (loop .inv) (child .ensures) (first .ensures) (c .before .enum-told .given .1) (c .match3 .keys2)
 
 expression-returns-5 : (t : ℕ) → expression-lts.Need-returns-5 (claims t) (expression-at t) expression.Post expression-Inv-loop expression-μ-loop
-expression-returns-5 t c = out-repeat (c .before .before .before .before .before .before .before .before .before .before .loop .inv) (c .before .before .before .before .child .ensures) (c .before .before .before .first .ensures) (c .before .enum-told .given .1) (c .match3 .keys3)
+expression-returns-5 t c =
+    let first = c .before .before .before .first in
+    let child = c .before .before .before .before .child in
+    let loop = c .before .before .before .before .before .before .before .before .before .before .loop in
+    out-repeat (loop .inv) (child .ensures) (first .ensures) (c .before .enum-told .given .1) (c .match3 .keys3)
 
 expression-returns-6 : (t : ℕ) → expression-lts.Need-returns-6 (claims t) (expression-at t) expression.Post expression-Inv-loop expression-μ-loop
-expression-returns-6 t c = out-failed (c .before .before .before .before .before .before .before .before .before .before .loop .inv) (c .before .before .before .before .child .ensures) (c .before .before .before .first .ensures) (c .before .enum-told .given .1) (c .before .before .before .before .before .match .rest .0 .0 .0 .1) (c .before .before .before .before .before .match .rest .0 .0 .1) (c .before .before .before .before .before .match .rest .0 .1) (c .before .before .before .before .before .match .rest .1) (c .match3 .rest .0 .0 .1) (c .match3 .rest .0 .1) (c .match3 .rest .1)
+expression-returns-6 t c =
+    let first = c .before .before .before .first in
+    let child = c .before .before .before .before .child in
+    let match = c .before .before .before .before .before .match in
+    let loop = c .before .before .before .before .before .before .before .before .before .before .loop in
+    out-failed (loop .inv) (child .ensures) (first .ensures) (c .before .enum-told .given .1)
+    (match .rest .0 .0 .0 .1) (match .rest .0 .0 .1) (match .rest .0 .1) (match .rest .1) (c .match3 .rest .0 .0 .1)
+    (c .match3 .rest .0 .1) (c .match3 .rest .1)
 
 expression-enum-known-x : (t : ℕ) → expression-lts.Need-enum-known-x (claims t) (expression-at t) expression.Post expression-Inv-loop expression-μ-loop
 expression-enum-known-x t c = search needs
 
 expression-loop-less-3 : (t : ℕ) → expression-lts.Need-loop-less-3 (claims t) (expression-at t) expression.Post expression-Inv-loop expression-μ-loop
-expression-loop-less-3 t c = sequence-less (c .before .before .before .before .before .before .before .before .before .before .before .loop .inv) (c .before .before .before .before .before .child .ensures) (c .before .before .before .before .first .ensures) (c .before .before .x .given .0 .0) (c .before .before .x .given .1) (c .match4 .keys1)
+expression-loop-less-3 t c =
+    let x = c .before .before .x in
+    let first = c .before .before .before .before .first in
+    let child = c .before .before .before .before .before .child in
+    let loop = c .before .before .before .before .before .before .before .before .before .before .before .loop in
+    sequence-less (loop .inv) (child .ensures) (first .ensures) (x .given .0 .0) (x .given .1) (c .match4 .keys1)
 
 expression-loop-again-3 : (t : ℕ) → expression-lts.Need-loop-again-3 (claims t) (expression-at t) expression.Post expression-Inv-loop expression-μ-loop
-expression-loop-again-3 t c = sequence-again (c .before .before .before .before .before .before .before .before .before .before .before .loop .inv) (c .before .before .before .before .before .child .ensures) (c .before .before .before .before .first .ensures) (c .before .before .x .given .0 .0) (c .before .before .x .given .1) (c .match4 .keys1)
+expression-loop-again-3 t c =
+    let x = c .before .before .x in
+    let first = c .before .before .before .before .first in
+    let child = c .before .before .before .before .before .child in
+    let loop = c .before .before .before .before .before .before .before .before .before .before .before .loop in
+    sequence-again (loop .inv) (child .ensures) (first .ensures) (x .given .0 .0) (x .given .1) (c .match4 .keys1)
 
 expression-returns-7 : (t : ℕ) → expression-lts.Need-returns-7 (claims t) (expression-at t) expression.Post expression-Inv-loop expression-μ-loop
-expression-returns-7 t c = out-choice (c .before .before .before .before .before .before .before .before .before .before .before .loop .inv) (c .before .before .before .before .before .child .ensures) (c .before .before .before .before .first .ensures) (c .before .before .x .given .0 .0) (c .before .before .x .given .1) (c .match4 .keys2)
+expression-returns-7 t c =
+    let x = c .before .before .x in
+    let first = c .before .before .before .before .first in
+    let child = c .before .before .before .before .before .child in
+    let loop = c .before .before .before .before .before .before .before .before .before .before .before .loop in
+    out-choice (loop .inv) (child .ensures) (first .ensures) (x .given .0 .0) (x .given .1) (c .match4 .keys2)
 
 expression-returns-8 : (t : ℕ) → expression-lts.Need-returns-8 (claims t) (expression-at t) expression.Post expression-Inv-loop expression-μ-loop
-expression-returns-8 t c = out-not-fails (c .before .before .before .before .before .before .before .before .before .before .before .loop .inv) (c .before .before .before .before .before .child .ensures) (c .before .before .before .before .first .ensures) (c .before .before .x .given .0 .0) (c .before .before .x .given .1) (c .match4 .keys3)
+expression-returns-8 t c =
+    let x = c .before .before .x in
+    let first = c .before .before .before .before .first in
+    let child = c .before .before .before .before .before .child in
+    let loop = c .before .before .before .before .before .before .before .before .before .before .before .loop in
+    out-not-fails (loop .inv) (child .ensures) (first .ensures) (x .given .0 .0) (x .given .1) (c .match4 .keys3)
 
 expression-loop-less-4 : (t : ℕ) → expression-lts.Need-loop-less-4 (claims t) (expression-at t) expression.Post expression-Inv-loop expression-μ-loop
-expression-loop-less-4 t c = repeat-less (c .before .before .before .before .before .before .before .before .before .before .before .loop .inv) (c .before .before .before .before .before .child .ensures) (c .before .before .before .before .first .ensures) (c .before .before .x .given .0 .0) (c .before .before .x .given .1) (c .match4 .keys4)
+expression-loop-less-4 t c =
+    let x = c .before .before .x in
+    let first = c .before .before .before .before .first in
+    let child = c .before .before .before .before .before .child in
+    let loop = c .before .before .before .before .before .before .before .before .before .before .before .loop in
+    repeat-less (loop .inv) (child .ensures) (first .ensures) (x .given .0 .0) (x .given .1) (c .match4 .keys4)
 
 expression-loop-again-4 : (t : ℕ) → expression-lts.Need-loop-again-4 (claims t) (expression-at t) expression.Post expression-Inv-loop expression-μ-loop
-expression-loop-again-4 t c = repeat-again (c .before .before .before .before .before .before .before .before .before .before .before .loop .inv) (c .before .before .before .before .before .child .ensures) (c .before .before .before .before .first .ensures) (c .before .before .x .given .0 .0) (c .before .before .x .given .1) (c .match4 .keys4)
+expression-loop-again-4 t c =
+    let x = c .before .before .x in
+    let first = c .before .before .before .before .first in
+    let child = c .before .before .before .before .before .child in
+    let loop = c .before .before .before .before .before .before .before .before .before .before .before .loop in
+    repeat-again (loop .inv) (child .ensures) (first .ensures) (x .given .0 .0) (x .given .1) (c .match4 .keys4)
 
 expression-left-requires : (t : ℕ) → expression-lts.Need-left-requires (claims t) (expression-at t) expression.Post expression-Inv-loop expression-μ-loop
 expression-left-requires t c κs = search needs
 
 expression-returns-9 : (t : ℕ) → expression-lts.Need-returns-9 (claims t) (expression-at t) expression.Post expression-Inv-loop expression-μ-loop
-expression-returns-9 t c = out-indent (c .before .before .before .before .before .before .before .before .before .before .before .before .loop .inv) (c .before .before .before .before .before .before .child .ensures) (c .before .before .before .before .before .first .ensures) (c .before .before .before .x .given .0 .0) (c .before .before .before .x .given .1) (c .before .match4 .keys5) (c .left .ensures)
+expression-returns-9 t c =
+    let x = c .before .before .before .x in
+    let first = c .before .before .before .before .before .first in
+    let child = c .before .before .before .before .before .before .child in
+    let loop = c .before .before .before .before .before .before .before .before .before .before .before .before .loop in
+    out-indent (loop .inv) (child .ensures) (first .ensures) (x .given .0 .0) (x .given .1) (c .before .match4 .keys5)
+    (c .left .ensures)
 
 expression-aligned-requires : (t : ℕ) → expression-lts.Need-aligned-requires (claims t) (expression-at t) expression.Post expression-Inv-loop expression-μ-loop
 expression-aligned-requires t c κs = search needs
 
 expression-returns-10 : (t : ℕ) → expression-lts.Need-returns-10 (claims t) (expression-at t) expression.Post expression-Inv-loop expression-μ-loop
-expression-returns-10 t c = out-align (c .before .before .before .before .before .before .before .before .before .before .before .before .loop .inv) (c .before .before .before .before .before .before .child .ensures) (c .before .before .before .before .before .first .ensures) (c .before .before .before .x .given .0 .0) (c .before .before .before .x .given .1) (c .before .before .before .before .before .before .before .match .rest .0 .0 .0 .1) (c .before .before .before .before .before .before .before .match .rest .0 .0 .1) (c .before .before .before .before .before .before .before .match .rest .0 .1) (c .before .before .before .before .before .before .before .match .rest .1) (c .before .match4 .rest .0 .0 .0 .0 .1) (c .before .match4 .rest .0 .0 .0 .1) (c .before .match4 .rest .0 .0 .1) (c .before .match4 .rest .0 .1) (c .before .match4 .rest .1) (c .aligned .ensures)
+expression-returns-10 t c =
+    let x = c .before .before .before .x in
+    let first = c .before .before .before .before .before .first in
+    let child = c .before .before .before .before .before .before .child in
+    let match = c .before .before .before .before .before .before .before .match in
+    let loop = c .before .before .before .before .before .before .before .before .before .before .before .before .loop in
+    out-align (loop .inv) (child .ensures) (first .ensures) (x .given .0 .0) (x .given .1) (match .rest .0 .0 .0 .1)
+    (match .rest .0 .0 .1) (match .rest .0 .1) (match .rest .1) (c .before .match4 .rest .0 .0 .0 .0 .1)
+    (c .before .match4 .rest .0 .0 .0 .1) (c .before .match4 .rest .0 .0 .1) (c .before .match4 .rest .0 .1)
+    (c .before .match4 .rest .1) (c .aligned .ensures)
 
 first-mul-at : (t : ℕ) → first-lts.Need-mul-at (first-claims t) (first-at t) first.Post
 first-mul-at t c = omega (arith, first-node (c .before .before .before .pre .1))
@@ -196,22 +306,34 @@ first-shared-slice-read-if1 : (t : ℕ) → first-lts.Need-shared-slice-read-if1
 first-shared-slice-read-if1 t c = omega (arith, first-node (c .before .before .before .before .pre .1))
 
 first-add-token : (t : ℕ) → first-lts.Need-add-token (first-claims t) (first-at t) first.Post
-first-add-token t c = omega (arith, first-node (c .before .before .before .before .before .pre .1))
+first-add-token t c =
+    let start = c .before .before .before .before .before in
+    omega (arith, first-node (start .pre .1))
 
 first-mul-token : (t : ℕ) → first-lts.Need-mul-token (first-claims t) (first-at t) first.Post
-first-mul-token t c = omega (arith, first-node (c .before .before .before .before .before .pre .1))
+first-mul-token t c =
+    let start = c .before .before .before .before .before in
+    omega (arith, first-node (start .pre .1))
 
 first-shared-slice-read-token : (t : ℕ) → first-lts.Need-shared-slice-read-token (first-claims t) (first-at t) first.Post
-first-shared-slice-read-token t c = omega (arith, first-node (c .before .before .before .before .before .before .pre .1))
+first-shared-slice-read-token t c =
+    let start = c .before .before .before .before .before .before in
+    omega (arith, first-node (start .pre .1))
 
 first-token-requires : (t : ℕ) → first-lts.Need-token-requires (first-claims t) (first-at t) first.Post
-first-token-requires t c κs = first-token (c .before .before .before .before .before .before .pre .1)
+first-token-requires t c κs =
+    let start = c .before .before .before .before .before .before in
+    first-token (start .pre .1)
 
 first-returns : (t : ℕ) → first-lts.Need-returns (first-claims t) (first-at t) first.Post
-first-returns t c = out-first (c .before .before .before .before .before .before .before .pre .1) (c .before .before .if1 .taken) _ (c .token .ensures)
+first-returns t c =
+    let start = c .before .before .before .before .before .before .before in
+    out-first (start .pre .1) (c .before .before .if1 .taken) _ (c .token .ensures)
 
 first-expression-requires : (t : ℕ) → first-lts.Need-expression-requires (first-claims t) (first-at t) first.Post
-first-expression-requires t c κs = (node-less (c .before .before .before .before .before .pre .1) (c .before .before .before .before .before .pre .0), c .before .before .before .before .before .pre .1)
+first-expression-requires t c κs =
+    let start = c .before .before .before .before .before in
+    (node-less (start .pre .1) (start .pre .0), start .pre .1)
 
 first-returns-2 : (t : ℕ) → first-lts.Need-returns-2 (first-claims t) (first-at t) first.Post
 first-returns-2 t c = c .expression .ensures
@@ -230,11 +352,15 @@ rule-expression-requires : (t : ℕ) → rule-lts.Need-expression-requires (
   expression-below t,
   expression.Post,
 ) (rule-at t) rule.Post
-rule-expression-requires t c κs = (node-less (c .before .before .before .before .pre .1 .ready) (c .before .before .before .before .pre .0), c .before .before .before .before .pre .1 .ready)
+rule-expression-requires t c κs =
+    let start = c .before .before .before .before in
+    (node-less (start .pre .1 .ready) (start .pre .0), start .pre .1 .ready)
 
 rule-returns :
     (t : ℕ) → rule-lts.Need-returns (expression-below t, expression.Post) (rule-at t) rule.Post
-rule-returns t c = out-of-rule (c .before .before .before .before .before .pre .1) _ (c .expression .ensures)
+rule-returns t c =
+    let start = c .before .before .before .before .before in
+    out-of-rule (start .pre .1) _ (c .expression .ensures)
 
 pub +expression+first+rule-spec : {M : Type 1} → statement M
 +expression+first+rule-spec = close μ-expression μ-first μ-rule (λ t. expression-lts.spec (claims t)

@@ -32,7 +32,12 @@ put-decimal-returns : (t : ℕ) → put-decimal-lts.Need-returns (
   put-decimal-below t,
   put-decimal.Post,
 ) (put-decimal-at t) put-decimal.Post
-put-decimal-returns t c = let p = digits-none (c .before .before .args .out .now) (c .before .before .args .at) (c .before .before .args .n) (omega (arith, c .before .before .pre .1)) (c .if1 .taken) in (p .place, p .slice)
+put-decimal-returns t c =
+    let start = c .before .before in
+    let p =
+    digits-none (start .args .out .now) (start .args .at) (start .args .n) (omega (arith, start .pre .1))
+    (c .if1 .taken) in
+    (p .place, p .slice)
 
 put-decimal-cast-put : (t : ℕ) → put-decimal-lts.Need-cast-put (
   put-reads.Asked,
@@ -72,7 +77,12 @@ put-decimal-returns-2 : (t : ℕ) → put-decimal-lts.Need-returns-2 (
   put-decimal-below t,
   put-decimal.Post,
 ) (put-decimal-at t) put-decimal.Post
-put-decimal-returns-2 t c = let p = digits-last (c .before .before .before .before .before .if1 .left) (c .before .before .before .before .if2 .taken) (record { place = c .before .before .put .ensures .0; slice = c .before .before .put .ensures .1 }) in (p .place, p .slice)
+put-decimal-returns-2 t c =
+    let put = c .before .before .put in
+    let if2 = c .before .before .before .before .if2 in
+    let if1 = c .before .before .before .before .before .if1 in
+    let p = digits-last (if1 .left) (if2 .taken) (record { place = put .ensures .0; slice = put .ensures .1 }) in
+    (p .place, p .slice)
 
 put-decimal-sub-put-decimal : (t : ℕ) → put-decimal-lts.Need-sub-put-decimal (
   put-reads.Asked,
@@ -112,7 +122,9 @@ put-decimal-put-requires-2 : (t : ℕ) → put-decimal-lts.Need-put-requires-2 (
   put-decimal-below t,
   put-decimal.Post,
 ) (put-decimal-at t) put-decimal.Post
-put-decimal-put-requires-2 t c κs = omega (arith, length-decimal (c .before .before .before .before .before .before .before .before .args .most - 1) (c .before .before .before .before .before .before .before .before .args .n / 10))
+put-decimal-put-requires-2 t c κs =
+    let start = c .before .before .before .before .before .before .before .before in
+    omega (arith, length-decimal (start .args .most - 1) (start .args .n / 10))
 
 put-decimal-same-length-2 : (t : ℕ) → put-decimal-lts.Need-same-length-2 (
   put-reads.Asked,
@@ -128,7 +140,16 @@ put-decimal-returns-3 : (t : ℕ) → put-decimal-lts.Need-returns-3 (
   put-decimal-below t,
   put-decimal.Post,
 ) (put-decimal-at t) put-decimal.Post
-put-decimal-returns-3 t c = let p = digits-more (c .before .before .before .before .before .before .before .before .before .if1 .left) (c .before .before .before .before .before .before .before .before .if2 .left) (record { place = c .before .before .before .before .before .before .put-decimal .ensures .0; slice = c .before .before .before .before .before .before .put-decimal .ensures .1 }) (record { place = c .before .before .put2 .ensures .0; slice = c .before .before .put2 .ensures .1 }) in (p .place, p .slice)
+put-decimal-returns-3 t c =
+    let put2 = c .before .before .put2 in
+    let put-decimal = c .before .before .before .before .before .before .put-decimal in
+    let if2 = c .before .before .before .before .before .before .before .before .if2 in
+    let if1 = c .before .before .before .before .before .before .before .before .before .if1 in
+    let p =
+    digits-more (if1 .left) (if2 .left)
+    (record { place = put-decimal .ensures .0; slice = put-decimal .ensures .1 })
+    (record { place = put2 .ensures .0; slice = put2 .ensures .1 }) in
+    (p .place, p .slice)
 
 pub +put-decimal-spec : {M : Type 1} → statement M
 +put-decimal-spec = close μ-put-decimal λ t. put-decimal-lts.spec (

@@ -17,38 +17,35 @@ abbrev μ-loop : tie.MeasureT-loop
 loop-holds : tie.Need-loop-holds Inv-loop μ-loop
 loop-holds c = (omega arith, omega arith, refl, sym (paste-none (c .before .before .args .out .now) (c .before .before .args .at) (omega arith)))
 
-shared-slice-read-put : tie.Need-shared-slice-read-put Inv-loop μ-loop
-shared-slice-read-put c = omega arith
-
-put-requires : tie.Need-put-requires Inv-loop μ-loop
-put-requires c κs = omega arith
-
-add-i : tie.Need-add-i Inv-loop μ-loop
-add-i c = omega arith
-
-loop-less : tie.Need-loop-less Inv-loop μ-loop
-loop-less c = omega arith
-
 loop-again : tie.Need-loop-again Inv-loop μ-loop
-loop-again c = (omega arith, c .before .before .put .ensures .0 ∙ (let e = c .before .before .before .before .before .before .loop .inv .1 in omega arith), omega arith, c .before .before .put .ensures .1 ∙ rw (c .before .before .before .before .before .before .loop .inv .3, c .before .before .before .before .before .before .loop .inv .1) (word-next (c .before .before .before .before .before .before .before .before .before .args .out .now) (c .before .before .before .before .before .before .before .before .before .args .word .now) (c .before .before .before .before .before .before .before .before .before .args .at) (c .before .before .before .before .before .before .loop .i) (c .before .before .before .before .before .loop-test .taken)))
+loop-again c =
+    let put = c .before .before .put in
+    let loop-test = c .before .before .before .before .before .loop-test in
+    let loop = c .before .before .before .before .before .before .loop in
+    let start = c .before .before .before .before .before .before .before .before .before in (
+      omega arith,
+      put .ensures .0 ∙ (let e = loop .inv .1 in omega arith),
+      omega arith,
+      put .ensures .1
+          ∙ rw (loop .inv .3, loop .inv .1)
+          (word-next (start .args .out .now) (start .args .word .now) (start .args .at) (loop .i) (loop-test .taken)),
+    )
 
 same-length : tie.Need-same-length Inv-loop μ-loop
 same-length c = c .before .loop .inv .2
 
 returns : tie.Need-returns Inv-loop μ-loop
-returns c = let e : c .before .loop .i ≡ length (c .before .before .before .before .args .word .now) = omega arith in (c .before .loop .inv .1 ∙ ap (λ (k : ℕ). c .before .before .before .before .args .at + k) e, c .before .loop .inv .3 ∙ ap (pasted (c .before .before .before .before .args .out .now) (c .before .before .before .before .args .at)) (ap (λ (k : ℕ). take k (c .before .before .before .before .args .word .now)) e ∙ take-whole (c .before .before .before .before .args .word .now)))
+returns c =
+    let start = c .before .before .before .before in
+    let e : c .before .loop .i ≡ length (start .args .word .now) = omega arith in (
+      c .before .loop .inv .1 ∙ ap (λ (k : ℕ). start .args .at + k) e,
+      c .before .loop .inv .3
+          ∙ ap (pasted (start .args .out .now) (start .args .at))
+          (ap (λ (k : ℕ). take k (start .args .word .now)) e ∙ take-whole (start .args .word .now)),
+    )
 
 pub put-word-spec : {M : Type 1} → statement M
 put-word-spec =
     tie.close
-    (tie.spec
-    Inv-loop
-    μ-loop
-    loop-holds
-    shared-slice-read-put
-    put-requires
-    add-i
-    loop-less
-    loop-again
-    same-length
-    returns)
+    (tie.spec Inv-loop μ-loop loop-holds (λ c. omega arith) (λ c κs. omega arith) (λ c. omega arith)
+    (λ c. omega arith) loop-again same-length returns)

@@ -13,51 +13,6 @@ by-class : (b column : ℕ) {r k : Class} → r ≡ classOf b → r ≡ k → co
 unfolding columnAfter
 by-class b column e given = ap (λ (class : Class). columnBy class column) (sym given ∙ e)
 
-class-of-requires : tie.Need-class-of-requires
-class-of-requires c κs = search needs
-
-enum-told : tie.Need-enum-told
-enum-told c = search needs
-
-enum-told-2 : tie.Need-enum-told-2
-enum-told-2 c = search needs
-
-add-result : tie.Need-add-result
-add-result c = search needs
-
-mul-result : tie.Need-mul-result
-mul-result c = search needs
-
-enum-told-3 : tie.Need-enum-told-3
-enum-told-3 c = search needs
-
-add-result-2 : tie.Need-add-result-2
-add-result-2 c = search needs
-
-enum-told-4 : tie.Need-enum-told-4
-enum-told-4 c = search needs
-
-add-result-3 : tie.Need-add-result-3
-add-result-3 c = search needs
-
-enum-told-5 : tie.Need-enum-told-5
-enum-told-5 c = search needs
-
-add-result-4 : tie.Need-add-result-4
-add-result-4 c = search needs
-
-enum-told-6 : tie.Need-enum-told-6
-enum-told-6 c = search needs
-
-add-result-5 : tie.Need-add-result-5
-add-result-5 c = search needs
-
-enum-told-7 : tie.Need-enum-told-7
-enum-told-7 c = search needs
-
-add-result-6 : tie.Need-add-result-6
-add-result-6 c = search needs
-
 returns : tie.Need-returns
 returns c = by-class _ _ (c .before .before .class-of .ensures) (c .enum-told .given .1)
 
@@ -82,26 +37,7 @@ returns-7 c = by-class _ _ (c .before .before .class-of .ensures) (c .enum-told7
 pub column-after-spec : {M : Type 1} → statement M
 column-after-spec =
     tie.close
-    (tie.spec
-    class-of-requires
-    enum-told
-    enum-told-2
-    add-result
-    mul-result
-    enum-told-3
-    add-result-2
-    enum-told-4
-    add-result-3
-    enum-told-5
-    add-result-4
-    enum-told-6
-    add-result-5
-    enum-told-7
-    add-result-6
-    returns
-    returns-2
-    returns-3
-    returns-4
-    returns-5
-    returns-6
-    returns-7)
+    (tie.spec (λ c κs. search needs) (λ c. search needs) (λ c. search needs) (λ c. search needs)
+    (λ c. search needs) (λ c. search needs) (λ c. search needs) (λ c. search needs) (λ c. search needs)
+    (λ c. search needs) (λ c. search needs) (λ c. search needs) (λ c. search needs) (λ c. search needs)
+    (λ c. search needs) returns returns-2 returns-3 returns-4 returns-5 returns-6 returns-7)

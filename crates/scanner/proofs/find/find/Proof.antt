@@ -9,17 +9,15 @@ use Rattle.scanner.proofs.FindLaws.{found-end, found-run, found-break, 
 skip-requires : tie.Need-skip-requires
 skip-requires c κs = c .before .pre
 
-line-end-requires : tie.Need-line-end-requires
-line-end-requires c κs = search needs
-
 returns : tie.Need-returns
-returns c = found-end (c .before .before .before .before .args .report .now) (c .before .before .before .before .args .at) (c .before .before .before .before .args .column) (c .before .before .before .before .args .mark) (c .before .before .skip .result) (c .before .before .skip .ensures) (c .before .if1 .taken) (c .line-end .ensures)
+returns c =
+    let skip = c .before .before .skip in
+    let start = c .before .before .before .before in
+    found-end (start .args .report .now) (start .args .at) (start .args .column) (start .args .mark) (skip .result)
+    (skip .ensures) (c .before .if1 .taken) (c .line-end .ensures)
 
 shared-slice-read-b : tie.Need-shared-slice-read-b
 shared-slice-read-b c = omega (arith, c .before .before .skip .ensures .room .within)
-
-in-run-requires : tie.Need-in-run-requires
-in-run-requires c κs = search needs
 
 run-end-requires : tie.Need-run-end-requires
 run-end-requires c κs = c .before .before .before .before .skip .ensures .room
@@ -27,54 +25,56 @@ run-end-requires c κs = c .before .before .before .before .skip .ensures .room
 sub-spelling : tie.Need-sub-spelling
 sub-spelling c = omega (arith, c .run-end .ensures .ends)
 
-spelling-requires : tie.Need-spelling-requires
-spelling-requires c κs = search needs
-
 returns-2 : tie.Need-returns-2
-returns-2 c = found-run (c .before .before .before .before .before .before .before .before .args .report .now) (c .before .before .before .before .before .before .before .before .args .at) (c .before .before .before .before .before .before .before .before .args .column) (c .before .before .before .before .before .before .before .before .args .mark) (c .before .before .before .before .before .before .skip .result) (c .before .before .before .before .before .before .skip .ensures) (omega (arith, c .before .before .before .before .before .before .skip .ensures .room .within, c .before .before .before .before .before .if1 .left)) (sym (c .before .before .before .in-run .ensures) ∙ c .before .before .if2 .taken) (c .before .run-end .ensures) (c .spelling .ensures)
-
-is-break-requires : tie.Need-is-break-requires
-is-break-requires c κs = search needs
+returns-2 c =
+    let in-run = c .before .before .before .in-run in
+    let if1 = c .before .before .before .before .before .if1 in
+    let skip = c .before .before .before .before .before .before .skip in
+    let start = c .before .before .before .before .before .before .before .before in
+    found-run (start .args .report .now) (start .args .at) (start .args .column) (start .args .mark) (skip .result)
+    (skip .ensures) (omega (arith, skip .ensures .room .within, if1 .left))
+    (sym (in-run .ensures) ∙ c .before .before .if2 .taken) (c .before .run-end .ensures) (c .spelling .ensures)
 
 add-line-end : tie.Need-add-line-end
-add-line-end c = omega (arith, c .before .before .before .before .before .before .skip .ensures .room .within)
-
-line-end-requires-2 : tie.Need-line-end-requires-2
-line-end-requires-2 c κs = search needs
+add-line-end c =
+    let skip = c .before .before .before .before .before .before .skip in
+    omega (arith, skip .ensures .room .within)
 
 returns-3 : tie.Need-returns-3
-returns-3 c = found-break (c .before .before .before .before .before .before .before .before .before .args .report .now) (c .before .before .before .before .before .before .before .before .before .args .at) (c .before .before .before .before .before .before .before .before .before .args .column) (c .before .before .before .before .before .before .before .before .before .args .mark) (c .before .before .before .before .before .before .before .skip .result) (c .before .before .before .before .before .before .before .skip .ensures) (omega (arith, c .before .before .before .before .before .before .before .skip .ensures .room .within, c .before .before .before .before .before .before .if1 .left)) (sym (c .before .before .is-break .ensures) ∙ c .before .if3 .taken) (c .line-end2 .ensures)
+returns-3 c =
+    let if1 = c .before .before .before .before .before .before .if1 in
+    let skip = c .before .before .before .before .before .before .before .skip in
+    let start = c .before .before .before .before .before .before .before .before .before in
+    found-break (start .args .report .now) (start .args .at) (start .args .column) (start .args .mark) (skip .result)
+    (skip .ensures) (omega (arith, skip .ensures .room .within, if1 .left))
+    (sym (c .before .before .is-break .ensures) ∙ c .before .if3 .taken) (c .line-end2 .ensures)
 
 add-spelling : tie.Need-add-spelling
-add-spelling c = omega (arith, c .before .before .before .before .before .before .skip .ensures .room .within)
+add-spelling c =
+    let skip = c .before .before .before .before .before .before .skip in
+    omega (arith, skip .ensures .room .within)
 
 column-after-requires : tie.Need-column-after-requires
-column-after-requires c κs = omega (arith, c .before .before .before .before .before .before .skip .ensures .room .within, c .before .before .before .before .before .before .skip .ensures .room .fits)
-
-spelling-requires-2 : tie.Need-spelling-requires-2
-spelling-requires-2 c κs = search needs
+column-after-requires c κs =
+    let skip = c .before .before .before .before .before .before .skip in
+    omega (arith, skip .ensures .room .within, skip .ensures .room .fits)
 
 returns-4 : tie.Need-returns-4
-returns-4 c = found-single (c .before .before .before .before .before .before .before .before .before .before .args .report .now) (c .before .before .before .before .before .before .before .before .before .before .args .at) (c .before .before .before .before .before .before .before .before .before .before .args .column) (c .before .before .before .before .before .before .before .before .before .before .args .mark) (c .before .before .before .before .before .before .before .before .skip .result) (c .before .before .before .before .before .before .before .before .skip .ensures) (omega (arith, c .before .before .before .before .before .before .before .before .skip .ensures .room .within, c .before .before .before .before .before .before .before .if1 .left)) (sym (c .before .before .before .before .before .in-run .ensures) ∙ c .before .before .before .before .if2 .left) (sym (c .before .before .before .is-break .ensures) ∙ c .before .before .if3 .left) (c .before .column-after .ensures) (c .spelling2 .ensures)
+returns-4 c =
+    let is-break = c .before .before .before .is-break in
+    let if2 = c .before .before .before .before .if2 in
+    let in-run = c .before .before .before .before .before .in-run in
+    let if1 = c .before .before .before .before .before .before .before .if1 in
+    let skip = c .before .before .before .before .before .before .before .before .skip in
+    let start = c .before .before .before .before .before .before .before .before .before .before in
+    found-single (start .args .report .now) (start .args .at) (start .args .column) (start .args .mark) (skip .result)
+    (skip .ensures) (omega (arith, skip .ensures .room .within, if1 .left)) (sym (in-run .ensures) ∙ if2 .left)
+    (sym (is-break .ensures) ∙ c .before .before .if3 .left) (c .before .column-after .ensures)
+    (c .spelling2 .ensures)
 
 pub find-spec : {M : Type 1} → statement M
 find-spec =
     tie.close
-    (tie.spec
-    skip-requires
-    line-end-requires
-    returns
-    shared-slice-read-b
-    in-run-requires
-    run-end-requires
-    sub-spelling
-    spelling-requires
-    returns-2
-    is-break-requires
-    add-line-end
-    line-end-requires-2
-    returns-3
-    add-spelling
-    column-after-requires
-    spelling-requires-2
-    returns-4)
+    (tie.spec skip-requires (λ c κs. search needs) returns shared-slice-read-b (λ c κs. search needs)
+    run-end-requires sub-spelling (λ c κs. search needs) returns-2 (λ c κs. search needs) add-line-end
+    (λ c κs. search needs) returns-3 add-spelling column-after-requires (λ c κs. search needs) returns-4)

@@ -23,7 +23,10 @@ Running text first start at column =
 
 module _ (text : List ℕ) (first start at column : ℕ) (r : Running text first start at column) where
   -- Nothing of the run is left.
-  ended : runLength (drop at text) ≡ 0 → columnOver (take (runLength (drop at text)) (drop at text)) column ≡ column → RunEnd text first start (record { at = at; column = column })
+  ended :
+      runLength (drop at text) ≡ 0
+      → columnOver (take (runLength (drop at text)) (drop at text)) column ≡ column
+      → RunEnd text first start (record { at = at; column = column })
   ended n e = record { ends = omega (arith, r .1); within = r .0 .within; column = sym (r .2 ∙ e) }
 
   run-stops : at < length text → inRun (getD text at 0) ≡ false → RunEnd text first start (record { at = at; column = column })
@@ -37,7 +40,10 @@ module _ (text : List ℕ) (first start at column : ℕ) (r : Running text first
   run-goes h e {next} q =
       let n = run-more (getD text at 0) (drop (at + 1) text) column e in
       let a : runLength (drop at text) ≡ suc (runLength (drop (at + 1) text)) = rw (from-one text at h) (n .0) in
-      let b : columnOver (take (runLength (drop at text)) (drop at text)) column ≡ columnOver (take (runLength (drop (at + 1) text)) (drop (at + 1) text)) (columnAfter (getD text at 0) column) = rw (from-one text at h) (n .1) in
+      let b :
+      columnOver (take (runLength (drop at text)) (drop at text)) column
+      ≡ columnOver (take (runLength (drop (at + 1) text)) (drop (at + 1) text)) (columnAfter (getD text at 0) column) =
+      rw (from-one text at h) (n .1) in
       (room-next (r .0) h (getD text at 0) q, omega (arith, r .1), r .2 ∙ b ∙ rw q refl)
 
 abbrev Inv-loop : tie.InvT-loop
@@ -49,46 +55,37 @@ abbrev μ-loop : tie.MeasureT-loop
 loop-holds : tie.Need-loop-holds Inv-loop μ-loop
 loop-holds c = (c .before .pre, refl, refl)
 
-shared-slice-read-in-run : tie.Need-shared-slice-read-in-run Inv-loop μ-loop
-shared-slice-read-in-run c = omega arith
-
-in-run-requires : tie.Need-in-run-requires Inv-loop μ-loop
-in-run-requires c κs = tt
-
 returns : tie.Need-returns Inv-loop μ-loop
-returns c = run-stops (c .before .before .before .before .before .before .args .report .now) (c .before .before .before .before .before .before .args .first) (c .before .before .before .before .before .before .args .start) (c .before .before .before .before .loop .at) (c .before .before .before .before .loop .column) (c .before .before .before .before .loop .inv) (c .before .before .before .loop-test .taken) (sym (c .before .in-run .ensures) ∙ not-true _ (c .if1 .taken))
-
-shared-slice-read-column-after : tie.Need-shared-slice-read-column-after Inv-loop μ-loop
-shared-slice-read-column-after c = omega arith
+returns c =
+    let loop-test = c .before .before .before .loop-test in
+    let loop = c .before .before .before .before .loop in
+    let start = c .before .before .before .before .before .before in
+    run-stops (start .args .report .now) (start .args .first) (start .args .start) (loop .at) (loop .column)
+    (loop .inv) (loop-test .taken) (sym (c .before .in-run .ensures) ∙ not-true _ (c .if1 .taken))
 
 column-after-requires : tie.Need-column-after-requires Inv-loop μ-loop
-column-after-requires c κs = omega (arith, c .before .before .before .before .before .loop .inv .0 .fits, c .before .before .before .before .before .loop .inv .0 .within)
-
-add-at : tie.Need-add-at Inv-loop μ-loop
-add-at c = omega arith
-
-loop-less : tie.Need-loop-less Inv-loop μ-loop
-loop-less c = omega arith
+column-after-requires c κs =
+    let loop = c .before .before .before .before .before .loop in
+    omega (arith, loop .inv .0 .fits, loop .inv .0 .within)
 
 loop-again : tie.Need-loop-again Inv-loop μ-loop
-loop-again c = run-goes (c .before .before .before .before .before .before .before .before .args .report .now) (c .before .before .before .before .before .before .before .before .args .first) (c .before .before .before .before .before .before .before .before .args .start) (c .before .before .before .before .before .before .loop .at) (c .before .before .before .before .before .before .loop .column) (c .before .before .before .before .before .before .loop .inv) (c .before .before .before .before .before .loop-test .taken) (sym (c .before .before .before .in-run .ensures) ∙ not-false _ (c .before .before .if1 .left)) (c .column-after .ensures)
+loop-again c =
+    let in-run = c .before .before .before .in-run in
+    let loop-test = c .before .before .before .before .before .loop-test in
+    let loop = c .before .before .before .before .before .before .loop in
+    let start = c .before .before .before .before .before .before .before .before in
+    run-goes (start .args .report .now) (start .args .first) (start .args .start) (loop .at) (loop .column)
+    (loop .inv) (loop-test .taken) (sym (in-run .ensures) ∙ not-false _ (c .before .before .if1 .left))
+    (c .column-after .ensures)
 
 returns-2 : tie.Need-returns-2 Inv-loop μ-loop
-returns-2 c = run-over (c .before .before .before .args .report .now) (c .before .before .before .args .first) (c .before .before .before .args .start) (c .before .loop .at) (c .before .loop .column) (c .before .loop .inv) (c .loop-test .left)
+returns-2 c =
+    let start = c .before .before .before in
+    run-over (start .args .report .now) (start .args .first) (start .args .start) (c .before .loop .at)
+    (c .before .loop .column) (c .before .loop .inv) (c .loop-test .left)
 
 pub run-end-spec : {M : Type 1} → statement M
 run-end-spec =
     tie.close
-    (tie.spec
-    Inv-loop
-    μ-loop
-    loop-holds
-    shared-slice-read-in-run
-    in-run-requires
-    returns
-    shared-slice-read-column-after
-    column-after-requires
-    add-at
-    loop-less
-    loop-again
-    returns-2)
+    (tie.spec Inv-loop μ-loop loop-holds (λ c. omega arith) (λ c κs. tt) returns (λ c. omega arith)
+    column-after-requires (λ c. omega arith) (λ c. omega arith) loop-again returns-2)

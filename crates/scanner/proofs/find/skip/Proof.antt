@@ -19,29 +19,36 @@ abbrev μ-loop : tie.MeasureT-loop
 loop-holds : tie.Need-loop-holds Inv-loop μ-loop
 loop-holds c = (c .before .pre, refl)
 
-shared-slice-read-passes : tie.Need-shared-slice-read-passes Inv-loop μ-loop
-shared-slice-read-passes c = omega arith
-
-passes-requires : tie.Need-passes-requires Inv-loop μ-loop
-passes-requires c κs = tt
-
 returns : tie.Need-returns Inv-loop μ-loop
-returns c = record { room = c .before .before .before .before .loop .inv .0; same = c .before .before .before .before .loop .inv .1; stops = λ _. sym (c .before .passes .ensures) ∙ not-true _ (c .if1 .taken) }
-
-shared-slice-read-column-after : tie.Need-shared-slice-read-column-after Inv-loop μ-loop
-shared-slice-read-column-after c = omega arith
+returns c =
+    let loop = c .before .before .before .before .loop in
+    record {
+      room = loop .inv .0;
+      same = loop .inv .1;
+      stops = λ _. sym (c .before .passes .ensures) ∙ not-true _ (c .if1 .taken);
+    }
 
 column-after-requires : tie.Need-column-after-requires Inv-loop μ-loop
-column-after-requires c κs = omega (arith, c .before .before .before .before .before .loop .inv .0 .fits, c .before .before .before .before .before .loop .inv .0 .within)
-
-add-at : tie.Need-add-at Inv-loop μ-loop
-add-at c = omega arith
-
-loop-less : tie.Need-loop-less Inv-loop μ-loop
-loop-less c = omega arith
+column-after-requires c κs =
+    let loop = c .before .before .before .before .before .loop in
+    omega (arith, loop .inv .0 .fits, loop .inv .0 .within)
 
 loop-again : tie.Need-loop-again Inv-loop μ-loop
-loop-again c = (room-next (c .before .before .before .before .before .before .loop .inv .0) (c .before .before .before .before .before .loop-test .taken) (getD (c .before .before .before .before .before .before .before .before .args .report .now) (c .before .before .before .before .before .before .loop .at) 0) (c .column-after .ensures), c .before .before .before .before .before .before .loop .inv .1 ∙ at-byte (c .before .before .before .before .before .before .before .before .args .report .now) (c .before .before .before .before .before .before .loop .at) (c .before .before .before .before .before .before .loop .column) (c .before .before .before .before .before .before .before .before .args .mark) (c .before .before .before .before .before .loop-test .taken) ∙ over-move (getD (c .before .before .before .before .before .before .before .before .args .report .now) (c .before .before .before .before .before .before .loop .at) 0) (drop ((c .before .before .before .before .before .before .loop .at) + 1) (c .before .before .before .before .before .before .before .before .args .report .now)) (c .before .before .before .before .before .before .loop .at) (c .before .before .before .before .before .before .loop .column) (c .before .before .before .before .before .before .before .before .args .mark) (sym (c .before .before .before .passes .ensures) ∙ not-false _ (c .before .before .if1 .left)) ∙ ap (λ (d : ℕ). nextIn (c .before .before .before .before .before .before .before .before .args .report .now) (position ((c .before .before .before .before .before .before .loop .at) + 1) d (c .before .before .before .before .before .before .before .before .args .mark))) (sym (c .column-after .ensures)))
+loop-again c =
+    let passes = c .before .before .before .passes in
+    let loop-test = c .before .before .before .before .before .loop-test in
+    let loop = c .before .before .before .before .before .before .loop in
+    let start = c .before .before .before .before .before .before .before .before in (
+      room-next (loop .inv .0) (loop-test .taken) (getD (start .args .report .now) (loop .at) 0)
+          (c .column-after .ensures),
+      loop .inv .1
+          ∙ at-byte (start .args .report .now) (loop .at) (loop .column) (start .args .mark) (loop-test .taken)
+          ∙ over-move (getD (start .args .report .now) (loop .at) 0) (drop ((loop .at) + 1) (start .args .report .now))
+          (loop .at) (loop .column) (start .args .mark)
+          (sym (passes .ensures) ∙ not-false _ (c .before .before .if1 .left))
+          ∙ ap (λ (d : ℕ). nextIn (start .args .report .now) (position ((loop .at) + 1) d (start .args .mark)))
+          (sym (c .column-after .ensures)),
+    )
 
 returns-2 : tie.Need-returns-2 Inv-loop μ-loop
 returns-2 c = record { room = c .before .loop .inv .0; same = c .before .loop .inv .1; stops = λ h. absurd (omega (arith, c .loop-test .left)) }
@@ -49,16 +56,5 @@ returns-2 c = record { room = c .before .loop .inv .0; same = c .before .loop .i
 pub skip-spec : {M : Type 1} → statement M
 skip-spec =
     tie.close
-    (tie.spec
-    Inv-loop
-    μ-loop
-    loop-holds
-    shared-slice-read-passes
-    passes-requires
-    returns
-    shared-slice-read-column-after
-    column-after-requires
-    add-at
-    loop-less
-    loop-again
-    returns-2)
+    (tie.spec Inv-loop μ-loop loop-holds (λ c. omega arith) (λ c κs. tt) returns (λ c. omega arith)
+    column-after-requires (λ c. omega arith) (λ c. omega arith) loop-again returns-2)

@@ -22,23 +22,18 @@ loop-holds : tie.Need-loop-holds Inv-loop μ-loop
 unfolding offsetOf
 loop-holds c = (omega arith, refl, refl, record { room = omega arith; each = λ i h. absurd (omega arith) })
 
-mul-offsets : tie.Need-mul-offsets Inv-loop μ-loop
-mul-offsets c = search needs
-
 slice-write-offsets : tie.Need-slice-write-offsets Inv-loop μ-loop
 slice-write-offsets c = omega (arith, c .before .loop .inv .1, c .before .before .before .before .pre)
 
-next-at-requires : tie.Need-next-at-requires Inv-loop μ-loop
-next-at-requires c κs = tt
-
-add-k : tie.Need-add-k Inv-loop μ-loop
-add-k c = omega arith
-
-loop-less : tie.Need-loop-less Inv-loop μ-loop
-loop-less c = omega arith
-
 loop-again : tie.Need-loop-again Inv-loop μ-loop
-loop-again c = (omega arith, simp length-set (c .before .before .loop .inv .1), rw (offset-next, ← c .before .before .loop .inv .2) (c .next-at .ensures), starts-more (c .before .before .loop .inv .3) (omega (arith, c .before .before .loop .inv .1, c .before .before .before .before .before .pre)) (c .before .before .loop .inv .2))
+loop-again c =
+    let loop = c .before .before .loop in
+    let start = c .before .before .before .before .before in (
+      omega arith,
+      simp length-set (loop .inv .1),
+      rw (offset-next, ← loop .inv .2) (c .next-at .ensures),
+      starts-more (loop .inv .3) (omega (arith, loop .inv .1, start .pre)) (loop .inv .2),
+    )
 
 same-length : tie.Need-same-length Inv-loop μ-loop
 same-length c = c .before .loop .inv .1
@@ -49,15 +44,5 @@ returns c = subst (λ (n : ℕ). Starts (c .before .before .before .before .args
 pub starts-spec : {M : Type 1} → statement M
 starts-spec =
     tie.close
-    (tie.spec
-    Inv-loop
-    μ-loop
-    loop-holds
-    mul-offsets
-    slice-write-offsets
-    next-at-requires
-    add-k
-    loop-less
-    loop-again
-    same-length
-    returns)
+    (tie.spec Inv-loop μ-loop loop-holds (λ c. search needs) slice-write-offsets (λ c κs. tt) (λ c. omega arith)
+    (λ c. omega arith) loop-again same-length returns)

@@ -97,14 +97,11 @@ module _ (s : List ℕ) (whole end : ℕ) (h : whole < length s) (e : getD s who
   with-fraction : (end ≡ whole + 1 → ⊥) → fraction (drop whole s) ≡ eqb end (length s)
   with-fraction n = rw (with-point, some s (whole + 1) end d n) (empty s end (d .1))
 
-minus-requires : tie.Need-minus-requires
-minus-requires c κs = search needs
-
-digits-end-requires : tie.Need-digits-end-requires
-digits-end-requires c κs = search needs
-
 -- What is left to ask where there are digits behind the sign.
-behind : (c : tie.Else1) → isNumber (c .before .before .before .before .args .s .now) ≡ fraction (drop (c .before .digits-end .result) (c .before .before .before .before .args .s .now))
+behind :
+    (c : tie.Else1)
+    → isNumber (c .before .before .before .before .args .s .now)
+    ≡ fraction (drop (c .before .digits-end .result) (c .before .before .before .before .args .s .now))
 behind c = with-whole _ _ _ (c .before .before .minus .ensures .1) (c .before .digits-end .ensures) (c .if1 .left)
 
 returns : tie.Need-returns
@@ -113,39 +110,31 @@ returns c = sym (no-whole _ _ _ (c .before .before .minus .ensures .1) (c .befor
 returns-2 : tie.Need-returns-2
 returns-2 c = sym (behind (c .before) ∙ no-rest _ _ (c .if2 .taken))
 
-shared-slice-read-if3 : tie.Need-shared-slice-read-if3
-shared-slice-read-if3 c = search needs
-
 returns-3 : tie.Need-returns-3
-returns-3 c = sym (behind (c .before .before .before) ∙ no-point (c .before .before .before .before .before .before .before .args .s .now) (c .before .before .before .before .digits-end .result) (omega arith) (c .if3 .taken))
-
-add-digits-end : tie.Need-add-digits-end
-add-digits-end c = search needs
-
-digits-end-requires-2 : tie.Need-digits-end-requires-2
-digits-end-requires-2 c κs = search needs
-
-add-if4 : tie.Need-add-if4
-add-if4 c = search needs
+returns-3 c =
+    let earlier = c .before .before .before in
+    let digits-end = c .before .before .before .before .digits-end in
+    let start = c .before .before .before .before .before .before .before in
+    sym (behind earlier ∙ no-point (start .args .s .now) (digits-end .result) (omega arith) (c .if3 .taken))
 
 returns-4 : tie.Need-returns-4
-returns-4 c = sym (behind (c .before .before .before .before .before) ∙ no-fraction _ _ _ (omega arith) (c .before .before .if3 .left) (c .before .digits-end2 .ensures) (c .if4 .taken))
+returns-4 c =
+    let earlier = c .before .before .before .before .before in
+    sym
+    (behind earlier
+    ∙ no-fraction _ _ _ (omega arith) (c .before .before .if3 .left) (c .before .digits-end2 .ensures)
+    (c .if4 .taken))
 
 returns-5 : tie.Need-returns-5
-returns-5 c = sym (behind (c .before .before .before .before .before) ∙ with-fraction _ _ _ (omega arith) (c .before .before .if3 .left) (c .before .digits-end2 .ensures) (c .if4 .left))
+returns-5 c =
+    let earlier = c .before .before .before .before .before in
+    sym
+    (behind earlier
+    ∙ with-fraction _ _ _ (omega arith) (c .before .before .if3 .left) (c .before .digits-end2 .ensures)
+    (c .if4 .left))
 
 pub number-spec : {M : Type 1} → statement M
 number-spec =
     tie.close
-    (tie.spec
-    minus-requires
-    digits-end-requires
-    returns
-    returns-2
-    shared-slice-read-if3
-    returns-3
-    add-digits-end
-    digits-end-requires-2
-    add-if4
-    returns-4
-    returns-5)
+    (tie.spec (λ c κs. search needs) (λ c κs. search needs) returns returns-2 (λ c. search needs) returns-3
+    (λ c. search needs) (λ c κs. search needs) (λ c. search needs) returns-4 returns-5)

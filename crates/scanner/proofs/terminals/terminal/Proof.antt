@@ -12,7 +12,10 @@ use Rattle.scanner.specs.Tokens.{terminalFrom}
 use Rattle.scanner.proofs.KeywordLaws.{length-keywords, ended, step}
 
 abbrev Inv-loop : tie.InvT-loop
-Inv-loop file count s at₀ k₀ at k = (k ≤ count) × (at ≡ offsetOf file 4 k) × (terminalFrom 0 (keywordsFrom file count) s ≡ terminalFrom k (drop k (keywordsFrom file count)) s)
+Inv-loop file count s at₀ k₀ at k =
+    (k ≤ count)
+    × (at ≡ offsetOf file 4 k)
+    × (terminalFrom 0 (keywordsFrom file count) s ≡ terminalFrom k (drop k (keywordsFrom file count)) s)
 
 abbrev μ-loop : tie.MeasureT-loop
 μ-loop file count s at₀ k₀ at k = count - k
@@ -21,50 +24,43 @@ loop-holds : tie.Need-loop-holds Inv-loop μ-loop
 unfolding offsetOf
 loop-holds c = (omega arith, refl, refl)
 
-value-at-requires : tie.Need-value-at-requires Inv-loop μ-loop
-value-at-requires c κs = tt
-
-same-requires : tie.Need-same-requires Inv-loop μ-loop
-same-requires c κs = tt
-
-keyword-terminal-requires : tie.Need-keyword-terminal-requires Inv-loop μ-loop
-keyword-terminal-requires c κs = omega arith
-
 returns : tie.Need-returns Inv-loop μ-loop
-returns c = c .keyword-terminal .ensures ∙ sym (c .before .before .before .before .before .loop .inv .2 ∙ step (c .before .before .before .before .before .before .before .before .args .file .now) (c .before .before .before .before .before .before .before .before .args .count) (c .before .before .before .before .before .loop .k) (c .before .before .before .before .before .before .before .before .args .s .now) (c .before .before .before .before .before .loop .inv .1) (c .before .before .before .before .loop-test .taken) (c .before .before .before .value-at .ensures) (sym (c .before .if1 .taken) ∙ c .before .before .same .ensures))
-
-next-at-requires : tie.Need-next-at-requires Inv-loop μ-loop
-next-at-requires c κs = tt
-
-add-k : tie.Need-add-k Inv-loop μ-loop
-add-k c = omega arith
-
-loop-less : tie.Need-loop-less Inv-loop μ-loop
-loop-less c = omega arith
+returns c =
+    let value-at = c .before .before .before .value-at in
+    let loop-test = c .before .before .before .before .loop-test in
+    let loop = c .before .before .before .before .before .loop in
+    let start = c .before .before .before .before .before .before .before .before in
+    c .keyword-terminal .ensures
+    ∙ sym
+    (loop .inv .2
+    ∙ step (start .args .file .now) (start .args .count) (loop .k) (start .args .s .now) (loop .inv .1)
+    (loop-test .taken) (value-at .ensures) (sym (c .before .if1 .taken) ∙ c .before .before .same .ensures))
 
 loop-again : tie.Need-loop-again Inv-loop μ-loop
-loop-again c = (omega arith, rw (offset-next, ← c .before .before .before .before .before .loop .inv .1) (c .next-at .ensures), c .before .before .before .before .before .loop .inv .2 ∙ step (c .before .before .before .before .before .before .before .before .args .file .now) (c .before .before .before .before .before .before .before .before .args .count) (c .before .before .before .before .before .loop .k) (c .before .before .before .before .before .before .before .before .args .s .now) (c .before .before .before .before .before .loop .inv .1) (c .before .before .before .before .loop-test .taken) (c .before .before .before .value-at .ensures) (sym (c .before .if1 .left) ∙ c .before .before .same .ensures))
-
-no-keyword-requires : tie.Need-no-keyword-requires Inv-loop μ-loop
-no-keyword-requires c κs = tt
+loop-again c =
+    let value-at = c .before .before .before .value-at in
+    let loop-test = c .before .before .before .before .loop-test in
+    let loop = c .before .before .before .before .before .loop in
+    let start = c .before .before .before .before .before .before .before .before in (
+      omega arith,
+      rw (offset-next, ← loop .inv .1) (c .next-at .ensures),
+      loop .inv .2
+          ∙ step (start .args .file .now) (start .args .count) (loop .k) (start .args .s .now) (loop .inv .1)
+          (loop-test .taken) (value-at .ensures) (sym (c .before .if1 .left) ∙ c .before .before .same .ensures),
+    )
 
 returns-2 : tie.Need-returns-2 Inv-loop μ-loop
-returns-2 c = c .no-keyword .ensures ∙ sym (c .before .before .loop .inv .2 ∙ ended (keywordsFrom (c .before .before .before .before .before .args .file .now) (c .before .before .before .before .before .args .count)) (c .before .before .loop .k) _ (rw length-keywords (c .before .loop-test .left)))
+returns-2 c =
+    let loop = c .before .before .loop in
+    let start = c .before .before .before .before .before in
+    c .no-keyword .ensures
+    ∙ sym
+    (loop .inv .2
+    ∙ ended (keywordsFrom (start .args .file .now) (start .args .count)) (loop .k) _
+    (rw length-keywords (c .before .loop-test .left)))
 
 pub terminal-spec : {M : Type 1} → statement M
 terminal-spec =
     tie.close
-    (tie.spec
-    Inv-loop
-    μ-loop
-    loop-holds
-    value-at-requires
-    same-requires
-    keyword-terminal-requires
-    returns
-    next-at-requires
-    add-k
-    loop-less
-    loop-again
-    no-keyword-requires
-    returns-2)
+    (tie.spec Inv-loop μ-loop loop-holds (λ c κs. tt) (λ c κs. tt) (λ c κs. omega arith) returns
+    (λ c κs. tt) (λ c. omega arith) (λ c. omega arith) loop-again (λ c κs. tt) returns-2)

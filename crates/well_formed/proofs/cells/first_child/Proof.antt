@@ -10,12 +10,6 @@ use lib.ListN.{List·getD-eq-default}
 returns : tie.Need-returns
 returns c = rw (ne-eqb _ _ (c .if1 .taken)) refl
 
-mul-result : tie.Need-mul-result
-mul-result c = search needs
-
-shared-slice-read-result : tie.Need-shared-slice-read-result
-shared-slice-read-result c = search needs
-
 cast-result : tie.Need-cast-result
 cast-result c = omega (arith, c .shared-slice-known .given (c .before .before .before .args .a))
 
@@ -28,4 +22,4 @@ returns-3 c = rw (eq-eqb _ _ (c .before .if1 .left)) (sym (List·getD-eq-default
 pub first-child-spec : {M : Type 1} → statement M
 first-child-spec =
     tie.close
-    (tie.spec returns mul-result shared-slice-read-result cast-result returns-2 returns-3)
+    (tie.spec returns (λ c. search needs) (λ c. search needs) cast-result returns-2 returns-3)

@@ -7,30 +7,6 @@ use Rattle.well_formed.specs.Rounds.{gives}
 use Rattle.well_formed.proofs.FormLaws.{by-fact}
 use Rattle.table.proofs.NodeKinds.{over-nine}
 
-facts-of-requires : tie.Need-facts-of-requires
-facts-of-requires c κs = search needs
-
-facts-of-requires-2 : tie.Need-facts-of-requires-2
-facts-of-requires-2 c κs = search needs
-
-sequence-requires : tie.Need-sequence-requires
-sequence-requires c κs = search needs
-
-choice-requires : tie.Need-choice-requires
-choice-requires c κs = search needs
-
-either-requires : tie.Need-either-requires
-either-requires c κs = search needs
-
-facts-of-requires-3 : tie.Need-facts-of-requires-3
-facts-of-requires-3 c κs = search needs
-
-facts-of-requires-4 : tie.Need-facts-of-requires-4
-facts-of-requires-4 c κs = search needs
-
-facts-of-requires-5 : tie.Need-facts-of-requires-5
-facts-of-requires-5 c κs = search needs
-
 returns : tie.Need-returns
 unfolding gives
 returns c = rw (c .before .match .keys1) (by-fact _ _ (c .facts-of .ensures .0) (c .facts-of .ensures .1 .0) (c .facts-of .ensures .1 .1))
@@ -51,7 +27,10 @@ returns-5 c = rw (c .before .match .keys5) (c .choice .ensures)
 
 returns-6 : tie.Need-returns-6
 unfolding gives
-returns-6 c = rw (c .before .before .match .keys6) (by-fact _ _ (c .facts-of3 .ensures .0) (c .facts-of3 .ensures .1 .0) (c .facts-of3 .ensures .1 .1 ∙ c .before .either .ensures))
+returns-6 c =
+    rw (c .before .before .match .keys6)
+    (by-fact _ _ (c .facts-of3 .ensures .0) (c .facts-of3 .ensures .1 .0)
+    (c .facts-of3 .ensures .1 .1 ∙ c .before .either .ensures))
 
 returns-7 : tie.Need-returns-7
 unfolding gives
@@ -76,23 +55,6 @@ returns-11 c = rw (over-nine _ (c .before .match .rest) .1) (by-fact _ _ (c .fac
 pub by-form-spec : {M : Type 1} → statement M
 by-form-spec =
     tie.close
-    (tie.spec
-    facts-of-requires
-    facts-of-requires-2
-    sequence-requires
-    choice-requires
-    either-requires
-    facts-of-requires-3
-    facts-of-requires-4
-    facts-of-requires-5
-    returns
-    returns-2
-    returns-3
-    returns-4
-    returns-5
-    returns-6
-    returns-7
-    returns-8
-    returns-9
-    returns-10
-    returns-11)
+    (tie.spec (λ c κs. search needs) (λ c κs. search needs) (λ c κs. search needs) (λ c κs. search needs)
+    (λ c κs. search needs) (λ c κs. search needs) (λ c κs. search needs) (λ c κs. search needs) returns
+    returns-2 returns-3 returns-4 returns-5 returns-6 returns-7 returns-8 returns-9 returns-10 returns-11)

@@ -5,21 +5,15 @@ use Rattle.well_formed.proofs.facts.facts_at.Tie as tie
 use mathlib.Core.Path.{_∙_}
 use Rattle.well_formed.proofs.FormLaws.{by-fact}
 
-has-requires : tie.Need-has-requires
-has-requires c κs = search needs
-
-has-requires-2 : tie.Need-has-requires-2
-has-requires-2 c κs = search needs
-
-has-requires-3 : tie.Need-has-requires-3
-has-requires-3 c κs = search needs
-
-facts-of-requires : tie.Need-facts-of-requires
-facts-of-requires c κs = search needs
-
 returns : tie.Need-returns
-returns c = by-fact _ _ (c .facts-of .ensures .0 ∙ c .before .before .before .has .ensures) (c .facts-of .ensures .1 .0 ∙ c .before .before .has2 .ensures) (c .facts-of .ensures .1 .1 ∙ c .before .has3 .ensures)
+returns c =
+    let has = c .before .before .before .has in
+    by-fact _ _ (c .facts-of .ensures .0 ∙ has .ensures)
+    (c .facts-of .ensures .1 .0 ∙ c .before .before .has2 .ensures)
+    (c .facts-of .ensures .1 .1 ∙ c .before .has3 .ensures)
 
 pub facts-at-spec : {M : Type 1} → statement M
 facts-at-spec =
-    tie.close (tie.spec has-requires has-requires-2 has-requires-3 facts-of-requires returns)
+    tie.close
+    (tie.spec (λ c κs. search needs) (λ c κs. search needs) (λ c κs. search needs) (λ c κs. search needs)
+    returns)

@@ -12,46 +12,52 @@ use Rattle.well_formed.proofs.DecidedLaws.{cellsBelow, cell-at}
 use Rattle.well_formed.proofs.PassLaws.{last-pass, fewer}
 
 abbrev Inv-loop : tie.InvT-loop
-Inv-loop nodes rules nothing₀ something₀ fails₀ nothing something fails = FactsReady nodes rules nothing something fails × (length nothing ≡ length nothing₀) × (length something ≡ length something₀) × (length fails ≡ length fails₀)
+Inv-loop nodes rules nothing₀ something₀ fails₀ nothing something fails =
+    FactsReady nodes rules nothing something fails
+    × (length nothing ≡ length nothing₀)
+    × (length something ≡ length something₀)
+    × (length fails ≡ length fails₀)
 
 abbrev μ-loop : tie.MeasureT-loop
 μ-loop nodes rules nothing₀ something₀ fails₀ nothing something fails = missing (knownCells nodes rules (three nothing something fails)) (cellsBelow (nodeCount nodes))
 
 loop-holds : tie.Need-loop-holds Inv-loop μ-loop
-loop-holds c = (c .before .before .before .before .before .pre, refl, refl, refl)
+loop-holds c =
+    let start = c .before .before .before .before .before in
+    (start .pre, refl, refl, refl)
 
 pass-requires : tie.Need-pass-requires Inv-loop μ-loop
 pass-requires c κs = c .before .before .before .loop .inv .0
 
-same-length : tie.Need-same-length Inv-loop μ-loop
-same-length c = omega arith
-
-same-length-2 : tie.Need-same-length-2 Inv-loop μ-loop
-same-length-2 c = omega arith
-
-same-length-3 : tie.Need-same-length-3 Inv-loop μ-loop
-same-length-3 c = omega arith
-
 returns : tie.Need-returns Inv-loop μ-loop
-returns c = last-pass _ _ _ (λ k l. l) (not-true (c .before .before .before .before .before .before .before .pass .result) (c .if1 .taken)) (c .before .before .before .before .before .before .before .pass .ensures)
+returns c =
+    let pass = c .before .before .before .before .before .before .before .pass in
+    last-pass _ _ _ (λ k l. l) (not-true (pass .result) (c .if1 .taken)) (pass .ensures)
 
 loop-less : tie.Need-loop-less Inv-loop μ-loop
-loop-less c = fewer _ _ _ (cellsBelow (nodeCount (c .before .before .before .before .before .before .before .before .before .before .before .before .before .before .before .before .before .args .nodes .now))) (λ k l Q e. cell-at Q (nodeCount (c .before .before .before .before .before .before .before .before .before .before .before .before .before .before .before .before .before .args .nodes .now)) e (k .node) l (k .fact)) (not-false (c .before .before .before .before .before .before .before .pass .result) (c .if1 .left)) (c .before .before .before .before .before .before .before .pass .ensures)
+loop-less c =
+    let pass = c .before .before .before .before .before .before .before .pass in
+    let start = c .before .before .before .before .before .before .before .before .before .before .before .before .before .before .before .before .before in
+    fewer _ _ _ (cellsBelow (nodeCount (start .args .nodes .now)))
+    (λ k l Q e. cell-at Q (nodeCount (start .args .nodes .now)) e (k .node) l (k .fact))
+    (not-false (pass .result) (c .if1 .left)) (pass .ensures)
 
 loop-again : tie.Need-loop-again Inv-loop μ-loop
-loop-again c = (record { room-nothing = omega arith; room-something = omega arith; room-fails = omega arith; true-ones = c .before .before .before .before .before .before .before .pass .ensures .true-ones }, omega arith, omega arith, omega arith)
+loop-again c =
+    let pass = c .before .before .before .before .before .before .before .pass in (
+      record {
+        room-nothing = omega arith;
+        room-something = omega arith;
+        room-fails = omega arith;
+        true-ones = pass .ensures .true-ones;
+      },
+      omega arith,
+      omega arith,
+      omega arith,
+    )
 
 pub find-spec : {M : Type 1} → statement M
 find-spec =
     tie.close
-    (tie.spec
-    Inv-loop
-    μ-loop
-    loop-holds
-    pass-requires
-    same-length
-    same-length-2
-    same-length-3
-    returns
-    loop-less
-    loop-again)
+    (tie.spec Inv-loop μ-loop loop-holds pass-requires (λ c. omega arith) (λ c. omega arith) (λ c. omega arith)
+    returns loop-less loop-again)

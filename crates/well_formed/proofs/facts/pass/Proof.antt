@@ -11,43 +11,49 @@ use Rattle.well_formed.proofs.CellLaws.{length-learnt}
 use Rattle.well_formed.proofs.StepLaws.{facts-turn}
 
 abbrev Inv-loop : tie.InvT-loop
-Inv-loop nodes rules nothing₀ something₀ fails₀ count found₀ n₀ nothing something fails found n = (n ≤ count) × (length nothing ≡ length nothing₀) × (length something ≡ length something₀) × (length fails ≡ length fails₀) × FactsPass nodes rules n (three nothing₀ something₀ fails₀) (three nothing something fails) found
+Inv-loop nodes rules nothing₀ something₀ fails₀ count found₀ n₀ nothing something fails found n =
+    (n ≤ count)
+    × (length nothing ≡ length nothing₀)
+    × (length something ≡ length something₀)
+    × (length fails ≡ length fails₀)
+    × FactsPass nodes rules n (three nothing₀ something₀ fails₀) (three nothing something fails) found
 
 abbrev μ-loop : tie.MeasureT-loop
 μ-loop nodes rules nothing₀ something₀ fails₀ count found₀ n₀ nothing something fails found n = count - n
 
 loop-holds : tie.Need-loop-holds Inv-loop μ-loop
-loop-holds c = (omega arith, refl, refl, refl, started _ _ _ _ (c .before .before .before .before .before .pre .true-ones) _ (λ k l. omega arith))
-
-gives-requires : tie.Need-gives-requires Inv-loop μ-loop
-gives-requires c κs = omega arith
-
-learn-requires : tie.Need-learn-requires Inv-loop μ-loop
-learn-requires c κs = omega arith
-
-learn-requires-2 : tie.Need-learn-requires-2 Inv-loop μ-loop
-learn-requires-2 c κs = omega arith
-
-learn-requires-3 : tie.Need-learn-requires-3 Inv-loop μ-loop
-learn-requires-3 c κs = omega arith
-
-either-requires : tie.Need-either-requires Inv-loop μ-loop
-either-requires c κs = tt
-
-either-requires-2 : tie.Need-either-requires-2 Inv-loop μ-loop
-either-requires-2 c κs = tt
-
-either-requires-3 : tie.Need-either-requires-3 Inv-loop μ-loop
-either-requires-3 c κs = tt
-
-add-n : tie.Need-add-n Inv-loop μ-loop
-add-n c = omega arith
-
-loop-less : tie.Need-loop-less Inv-loop μ-loop
-loop-less c = omega arith
+loop-holds c =
+    let start = c .before .before .before .before .before in
+    (omega arith, refl, refl, refl, started _ _ _ _ (start .pre .true-ones) _ (λ k l. omega arith))
 
 loop-again : tie.Need-loop-again Inv-loop μ-loop
-loop-again c = (omega arith, ap length (c .before .before .before .before .before .before .before .before .before .before .before .before .before .learn .ensures .1) ∙ length-learnt _ _ _ ∙ c .before .before .before .before .before .before .before .before .before .before .before .before .before .before .before .before .before .before .before .before .loop .inv .1, ap length (c .before .before .before .before .before .before .before .before .before .learn2 .ensures .1) ∙ length-learnt _ _ _ ∙ c .before .before .before .before .before .before .before .before .before .before .before .before .before .before .before .before .before .before .before .before .loop .inv .2, ap length (c .before .before .before .before .before .learn3 .ensures .1) ∙ length-learnt _ _ _ ∙ c .before .before .before .before .before .before .before .before .before .before .before .before .before .before .before .before .before .before .before .before .loop .inv .3, facts-turn (c .before .before .before .before .before .before .before .before .before .before .before .before .before .before .before .before .before .before .before .before .before .before .before .before .before .before .args .nodes .now) (c .before .before .before .before .before .before .before .before .before .before .before .before .before .before .before .before .before .before .before .before .before .before .before .before .before .before .args .rules .now) (three (c .before .before .before .before .before .before .before .before .before .before .before .before .before .before .before .before .before .before .before .before .before .before .before .before .before .before .args .nothing .now) (c .before .before .before .before .before .before .before .before .before .before .before .before .before .before .before .before .before .before .before .before .before .before .before .before .before .before .args .something .now) (c .before .before .before .before .before .before .before .before .before .before .before .before .before .before .before .before .before .before .before .before .before .before .before .before .before .before .args .fails .now)) (c .before .before .before .before .before .before .before .before .before .before .before .before .before .before .before .before .before .before .before .before .loop .nothing) (c .before .before .before .before .before .before .before .before .before .before .before .before .before .before .before .before .before .before .before .before .loop .something) (c .before .before .before .before .before .before .before .before .before .before .before .before .before .before .before .before .before .before .before .before .loop .fails) (c .before .before .before .before .before .before .before .before .before .before .before .before .before .before .before .before .before .before .before .before .loop .n) (c .before .before .before .before .before .before .before .before .before .before .before .before .before .before .before .before .before .before .before .before .loop .found) (c .before .before .before .before .before .before .before .before .before .before .before .before .before .before .before .before .before .before .before .before .loop .inv .4) (c .before .before .before .before .before .before .before .before .before .before .before .before .before .before .before .gives .result) (c .before .before .before .before .before .before .before .before .before .before .before .before .before .before .before .gives .ensures) (c .before .before .before .before .before .before .before .before .before .before .before .before .before .before .before .before .before .before .before .loop-test .taken) (omega (arith, c .before .before .before .before .before .before .before .before .before .before .before .before .before .before .before .before .before .before .before .loop-test .taken, c .before .before .before .before .before .before .before .before .before .before .before .before .before .before .before .before .before .before .before .before .loop .inv .1, c .before .before .before .before .before .before .before .before .before .before .before .before .before .before .before .before .before .before .before .before .before .before .before .before .before .before .pre .room-nothing)) (omega (arith, c .before .before .before .before .before .before .before .before .before .before .before .before .before .before .before .before .before .before .before .loop-test .taken, c .before .before .before .before .before .before .before .before .before .before .before .before .before .before .before .before .before .before .before .before .loop .inv .2, c .before .before .before .before .before .before .before .before .before .before .before .before .before .before .before .before .before .before .before .before .before .before .before .before .before .before .pre .room-something)) (omega (arith, c .before .before .before .before .before .before .before .before .before .before .before .before .before .before .before .before .before .before .before .loop-test .taken, c .before .before .before .before .before .before .before .before .before .before .before .before .before .before .before .before .before .before .before .before .loop .inv .3, c .before .before .before .before .before .before .before .before .before .before .before .before .before .before .before .before .before .before .before .before .before .before .before .before .before .before .pre .room-fails)) (c .before .before .before .before .before .before .before .before .before .before .before .before .before .learn .ensures .1) (c .before .before .before .before .before .before .before .before .before .learn2 .ensures .1) (c .before .before .before .before .before .learn3 .ensures .1) (c .before .before .before .before .before .before .before .before .before .before .before .before .before .learn .ensures .0) (c .before .before .before .before .before .before .before .before .before .learn2 .ensures .0) (c .before .before .before .before .before .learn3 .ensures .0) (c .before .before .either .ensures) (c .before .either2 .ensures) (c .either3 .ensures))
+loop-again c =
+    let learn3 = c .before .before .before .before .before .learn3 in
+    let learn2 = c .before .before .before .before .before .before .before .before .before .learn2 in
+    let learn = c .before .before .before .before .before .before .before .before .before .before .before .before .before .learn in
+    let gives = c .before .before .before .before .before .before .before .before .before .before .before .before .before .before .before .gives in
+    let loop-test =
+    c .before .before .before .before .before .before .before .before .before .before .before .before .before
+    .before .before .before .before .before .before .loop-test in
+    let loop =
+    c .before .before .before .before .before .before .before .before .before .before .before .before .before
+    .before .before .before .before .before .before .before .loop in
+    let start =
+    c .before .before .before .before .before .before .before .before .before .before .before .before .before
+    .before .before .before .before .before .before .before .before .before .before .before .before .before in (
+      omega arith,
+      ap length (learn .ensures .1) ∙ length-learnt _ _ _ ∙ loop .inv .1,
+      ap length (learn2 .ensures .1) ∙ length-learnt _ _ _ ∙ loop .inv .2,
+      ap length (learn3 .ensures .1) ∙ length-learnt _ _ _ ∙ loop .inv .3,
+      facts-turn (start .args .nodes .now) (start .args .rules .now)
+          (three (start .args .nothing .now) (start .args .something .now) (start .args .fails .now)) (loop .nothing)
+          (loop .something) (loop .fails) (loop .n) (loop .found) (loop .inv .4) (gives .result) (gives .ensures)
+          (loop-test .taken) (omega (arith, loop-test .taken, loop .inv .1, start .pre .room-nothing))
+          (omega (arith, loop-test .taken, loop .inv .2, start .pre .room-something))
+          (omega (arith, loop-test .taken, loop .inv .3, start .pre .room-fails)) (learn .ensures .1)
+          (learn2 .ensures .1) (learn3 .ensures .1) (learn .ensures .0) (learn2 .ensures .0) (learn3 .ensures .0)
+          (c .before .before .either .ensures) (c .before .either2 .ensures) (c .either3 .ensures),
+    )
 
 same-length : tie.Need-same-length Inv-loop μ-loop
 same-length c = c .before .loop .inv .1
@@ -64,21 +70,6 @@ returns c = looked-also _ _ _ (λ k l. omega arith) (c .before .loop .inv .4)
 pub pass-spec : {M : Type 1} → statement M
 pass-spec =
     tie.close
-    (tie.spec
-    Inv-loop
-    μ-loop
-    loop-holds
-    gives-requires
-    learn-requires
-    learn-requires-2
-    learn-requires-3
-    either-requires
-    either-requires-2
-    either-requires-3
-    add-n
-    loop-less
-    loop-again
-    same-length
-    same-length-2
-    same-length-3
-    returns)
+    (tie.spec Inv-loop μ-loop loop-holds (λ c κs. omega arith) (λ c κs. omega arith) (λ c κs. omega arith)
+    (λ c κs. omega arith) (λ c κs. tt) (λ c κs. tt) (λ c κs. tt) (λ c. omega arith) (λ c. omega arith)
+    loop-again same-length same-length-2 same-length-3 returns)

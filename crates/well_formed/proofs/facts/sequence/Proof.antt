@@ -6,48 +6,24 @@ use mathlib.Core.Path.{refl, _∙_}
 use Rattle.well_formed.specs.Rounds.{gives}
 use Rattle.well_formed.proofs.FormLaws.{by-fact}
 
-either-requires : tie.Need-either-requires
-either-requires c κs = search needs
-
-either-requires-2 : tie.Need-either-requires-2
-either-requires-2 c κs = search needs
-
-both-requires : tie.Need-both-requires
-both-requires c κs = search needs
-
-both-requires-2 : tie.Need-both-requires-2
-both-requires-2 c κs = search needs
-
-both-requires-3 : tie.Need-both-requires-3
-both-requires-3 c κs = search needs
-
-either-requires-3 : tie.Need-either-requires-3
-either-requires-3 c κs = search needs
-
-both-requires-4 : tie.Need-both-requires-4
-both-requires-4 c κs = search needs
-
-either-requires-4 : tie.Need-either-requires-4
-either-requires-4 c κs = search needs
-
-facts-of-requires : tie.Need-facts-of-requires
-facts-of-requires c κs = search needs
-
 returns : tie.Need-returns
 unfolding gives
-returns c = by-fact _ _ (c .facts-of .ensures .0 ∙ c .before .before .before .before .before .before .both .ensures) (c .facts-of .ensures .1 .0 ∙ rw (c .before .before .before .either3 .ensures, c .before .before .before .before .both3 .ensures, c .before .before .before .before .before .both2 .ensures, c .before .before .before .before .before .before .before .either2 .ensures, c .before .before .before .before .before .before .before .before .either .ensures) refl) (c .facts-of .ensures .1 .1 ∙ rw (c .before .either4 .ensures, c .before .before .both4 .ensures, c .before .before .before .before .before .before .before .before .either .ensures) refl)
+returns c =
+    let either3 = c .before .before .before .either3 in
+    let both3 = c .before .before .before .before .both3 in
+    let both2 = c .before .before .before .before .before .both2 in
+    let both = c .before .before .before .before .before .before .both in
+    let either2 = c .before .before .before .before .before .before .before .either2 in
+    let either = c .before .before .before .before .before .before .before .before .either in
+    by-fact _ _ (c .facts-of .ensures .0 ∙ both .ensures)
+    (c .facts-of .ensures .1 .0
+    ∙ rw (either3 .ensures, both3 .ensures, both2 .ensures, either2 .ensures, either .ensures) refl)
+    (c .facts-of .ensures .1 .1
+    ∙ rw (c .before .either4 .ensures, c .before .before .both4 .ensures, either .ensures) refl)
 
 pub sequence-spec : {M : Type 1} → statement M
 sequence-spec =
     tie.close
-    (tie.spec
-    either-requires
-    either-requires-2
-    both-requires
-    both-requires-2
-    both-requires-3
-    either-requires-3
-    both-requires-4
-    either-requires-4
-    facts-of-requires
-    returns)
+    (tie.spec (λ c κs. search needs) (λ c κs. search needs) (λ c κs. search needs) (λ c κs. search needs)
+    (λ c κs. search needs) (λ c κs. search needs) (λ c κs. search needs) (λ c κs. search needs)
+    (λ c κs. search needs) returns)

@@ -6,18 +6,6 @@ use mathlib.Core.Path.{refl}
 use Rattle.well_formed.specs.Rounds.{passes}
 use Rattle.table.proofs.NodeKinds.{over-nine}
 
-either-requires : tie.Need-either-requires
-either-requires c κs = search needs
-
-both-requires : tie.Need-both-requires
-both-requires c κs = search needs
-
-both-requires-2 : tie.Need-both-requires-2
-both-requires-2 c κs = search needs
-
-both-requires-3 : tie.Need-both-requires-3
-both-requires-3 c κs = search needs
-
 returns : tie.Need-returns
 unfolding passes
 returns c = rw (c .match .keys1) refl
@@ -65,19 +53,5 @@ returns-11 c = rw (over-nine _ (c .match .rest) .1) refl
 pub by-form-spec : {M : Type 1} → statement M
 by-form-spec =
     tie.close
-    (tie.spec
-    either-requires
-    both-requires
-    both-requires-2
-    both-requires-3
-    returns
-    returns-2
-    returns-3
-    returns-4
-    returns-5
-    returns-6
-    returns-7
-    returns-8
-    returns-9
-    returns-10
-    returns-11)
+    (tie.spec (λ c κs. search needs) (λ c κs. search needs) (λ c κs. search needs) (λ c κs. search needs)
+    returns returns-2 returns-3 returns-4 returns-5 returns-6 returns-7 returns-8 returns-9 returns-10 returns-11)

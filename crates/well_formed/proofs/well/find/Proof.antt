@@ -23,19 +23,31 @@ loop-holds c = (c .before .before .before .before .pre, refl)
 pass-requires : tie.Need-pass-requires Inv-loop μ-loop
 pass-requires c κs = c .before .loop .inv .0
 
-same-length : tie.Need-same-length Inv-loop μ-loop
-same-length c = omega arith
-
 returns : tie.Need-returns Inv-loop μ-loop
 returns c = last-pass _ _ _ (λ k l. l) (not-true (c .before .before .before .pass .result) (c .if1 .taken)) (c .before .before .before .pass .ensures)
 
 loop-less : tie.Need-loop-less Inv-loop μ-loop
-loop-less c = fewer _ _ _ (nodesBelow (nodeCount (c .before .before .before .before .before .before .before .before .before .before .args .nodes .now))) (λ k l Q e. node-at Q (nodeCount (c .before .before .before .before .before .before .before .before .before .before .args .nodes .now)) e k l) (not-false (c .before .before .before .pass .result) (c .if1 .left)) (c .before .before .before .pass .ensures)
+loop-less c =
+    let pass = c .before .before .before .pass in
+    let start = c .before .before .before .before .before .before .before .before .before .before in
+    fewer _ _ _ (nodesBelow (nodeCount (start .args .nodes .now)))
+    (λ k l Q e. node-at Q (nodeCount (start .args .nodes .now)) e k l) (not-false (pass .result) (c .if1 .left))
+    (pass .ensures)
 
 loop-again : tie.Need-loop-again Inv-loop μ-loop
-loop-again c = (record { passing = c .before .before .before .before .before .before .before .before .before .before .pre .passing; all-nothing = c .before .before .before .before .before .before .before .before .before .before .pre .all-nothing; room = omega arith; true-ones = c .before .before .before .pass .ensures .true-ones }, omega arith)
+loop-again c =
+    let pass = c .before .before .before .pass in
+    let start = c .before .before .before .before .before .before .before .before .before .before in (
+      record {
+        passing = start .pre .passing;
+        all-nothing = start .pre .all-nothing;
+        room = omega arith;
+        true-ones = pass .ensures .true-ones;
+      },
+      omega arith,
+    )
 
 pub find-spec : {M : Type 1} → statement M
 find-spec =
     tie.close
-    (tie.spec Inv-loop μ-loop loop-holds pass-requires same-length returns loop-less loop-again)
+    (tie.spec Inv-loop μ-loop loop-holds pass-requires (λ c. omega arith) returns loop-less loop-again)

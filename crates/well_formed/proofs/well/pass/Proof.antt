@@ -19,23 +19,19 @@ abbrev μ-loop : tie.MeasureT-loop
 loop-holds : tie.Need-loop-holds Inv-loop μ-loop
 loop-holds c = (omega arith, refl, started _ _ _ _ (c .before .before .before .before .pre .true-ones) _ (λ k l. omega arith))
 
-passes-requires : tie.Need-passes-requires Inv-loop μ-loop
-passes-requires c κs = omega arith
-
-learn-requires : tie.Need-learn-requires Inv-loop μ-loop
-learn-requires c κs = omega arith
-
-either-requires : tie.Need-either-requires Inv-loop μ-loop
-either-requires c κs = tt
-
-add-n : tie.Need-add-n Inv-loop μ-loop
-add-n c = omega arith
-
-loop-less : tie.Need-loop-less Inv-loop μ-loop
-loop-less c = omega arith
-
 loop-again : tie.Need-loop-again Inv-loop μ-loop
-loop-again c = (omega arith, ap length (c .before .before .before .learn .ensures .1) ∙ length-learnt _ _ _ ∙ c .before .before .before .before .before .before .before .before .loop .inv .1, well-turn (c .before .before .before .before .before .before .before .before .before .before .before .before .before .args .nodes .now) (c .before .before .before .before .before .before .before .before .before .before .before .before .before .args .rules .now) (c .before .before .before .before .before .before .before .before .before .before .before .before .before .pre .passing) (c .before .before .before .before .before .before .before .before .before .before .before .before .before .args .nothing .now) (c .before .before .before .before .before .before .before .before .before .before .before .before .before .args .well .now) (c .before .before .before .before .before .before .before .before .loop .well) (c .before .before .before .before .before .before .before .before .before .before .before .before .before .pre .all-nothing) (c .before .before .before .before .before .before .before .before .loop .n) (c .before .before .before .before .before .before .before .before .loop .found) (c .before .before .before .before .before .before .before .before .loop .inv .2) (c .before .before .before .before .before .passes .result) (c .before .before .before .before .before .passes .ensures) (omega arith) (omega arith) (c .before .before .before .learn .ensures .1) (c .before .before .before .learn .ensures .0) (c .either .ensures))
+loop-again c =
+    let learn = c .before .before .before .learn in
+    let passes = c .before .before .before .before .before .passes in
+    let loop = c .before .before .before .before .before .before .before .before .loop in
+    let start = c .before .before .before .before .before .before .before .before .before .before .before .before .before in (
+      omega arith,
+      ap length (learn .ensures .1) ∙ length-learnt _ _ _ ∙ loop .inv .1,
+      well-turn (start .args .nodes .now) (start .args .rules .now) (start .pre .passing)
+          (start .args .nothing .now) (start .args .well .now) (loop .well) (start .pre .all-nothing) (loop .n)
+          (loop .found) (loop .inv .2) (passes .result) (passes .ensures) (omega arith) (omega arith)
+          (learn .ensures .1) (learn .ensures .0) (c .either .ensures),
+    )
 
 same-length : tie.Need-same-length Inv-loop μ-loop
 same-length c = c .before .loop .inv .1
@@ -46,15 +42,5 @@ returns c = looked-also _ _ _ (λ k l. omega arith) (c .before .loop .inv .2)
 pub pass-spec : {M : Type 1} → statement M
 pass-spec =
     tie.close
-    (tie.spec
-    Inv-loop
-    μ-loop
-    loop-holds
-    passes-requires
-    learn-requires
-    either-requires
-    add-n
-    loop-less
-    loop-again
-    same-length
-    returns)
+    (tie.spec Inv-loop μ-loop loop-holds (λ c κs. omega arith) (λ c κs. omega arith) (λ c κs. tt)
+    (λ c. omega arith) (λ c. omega arith) loop-again same-length returns)

@@ -1,0 +1,366 @@
+#!/usr/bin/env python3
+"""Tests of tools/build.py: its messages, its nodes, and what it says of a grammar beside what the reader answers.
+
+    python3 trials/test_build.py LIBRARY
+
+LIBRARY is the reader as a shared library (trials/library.py says how it is made).
+"""
+
+import pathlib
+import random
+import subprocess
+import sys
+import tempfile
+import unittest
+
+import library
+
+ROOT = pathlib.Path(__file__).resolve().parent.parent
+sys.path.insert(0, str(ROOT / "tools"))
+import build  # noqa: E402
+
+HEAD = 'keywords "loss" ":"\nstart report\nmode greater\n'
+SEED, GRAMMARS = 13, 600
+
+
+def faults_of(text):
+    """What the builder says of a grammar, a line for each fault."""
+    try:
+        build.built(text)
+    except build.Faults as wrong:
+        return [fault.line("x") for fault in wrong.faults]
+    return []
+
+
+def nodes_of(rules, keywords='"loss" ":"'):
+    """The grammar of some rules."""
+    return build.grammar_of(f"keywords {keywords}\nstart report\nmode greater\n{rules}")
+
+
+def first_line(text):
+    """The first fault of a grammar, or an empty line."""
+    return (faults_of(text) or [""])[0]
+
+
+class Messages(unittest.TestCase):
+    def says(self, text, *lines):
+        self.assertEqual(faults_of(text), list(lines))
+
+    def test_words(self):
+        self.says(HEAD + "report = word & word", "x:4:15: '&' begins no word of the notation")
+        self.says(HEAD + 'report = "loss', 'x:4:10: this keyword is not closed: a second " is expected on its line')
+
+    def test_statements(self):
+        self.says(HEAD + "report word", "x:4:1: keywords, start, mode or a rule `NAME = ..` expected, not report")
+        self.says("keywords loss", 'x:1:10: a keyword in quotes, as "loss", expected, not loss')
+        self.says("start report\nreport = word", "x:2:14: there is no mode: a line `mode RELATION` is expected")
+        self.says("mode any\nreport = word\n", "x:3:1: there is no start: a line `start NAME` is expected")
+        self.says("", "x:1:1: there is no start: a line `start NAME` is expected")
+        self.says("mode any\nmode any", "x:2:1: mode is there twice")
+        self.says("mode all", "x:1:6: a relation (equal, greater, at-least or any) expected, not all")
+        self.says("start (", "x:1:7: the name of the start rule expected, not '('")
+
+    def test_expressions(self):
+        relation = "a relation (equal, greater, at-least or any) expected, not"
+        self.says(HEAD + "report = ", "x:4:10: an expression expected, not the end of the file")
+        self.says(HEAD + "report = word / * word", "x:4:17: an expression expected, not '*'")
+        self.says(HEAD + "report = (word eol", "x:4:19: / or the closing bracket of 4:10 expected, not the end of the file")
+        self.says(HEAD + "report = word) eol", "x:4:14: / or the next statement expected, not ')'")
+        self.says(HEAD + "report = indent word", f"x:4:17: {relation} the reserved word word")
+        self.says(HEAD + 'report = position "loss"', f'x:4:19: {relation} the keyword "loss"')
+        self.says(HEAD + "report = word greater", "x:4:15: an expression expected, not the reserved word greater")
+        self.says(HEAD + "report = " + "(" * 9000 + "word", "x: an expression is nested too deep")
+
+    def test_reserved(self):
+        reserved = (
+            "reserved are: keywords, start, mode, align, indent, position, empty, number, word, eol, "
+            "token, line, end, equal, greater, at-least, any"
+        )
+        expected = "the name of a rule expected, not the reserved word"
+        self.says(HEAD + "report = word\ntoken = word", f"x:5:1: {expected} token; {reserved}")
+        self.says(HEAD + "report = word\nmode = word", f"x:5:1: {expected} mode; {reserved}")
+        self.says("start end", f"x:1:7: the name of the start rule expected, not the reserved word end; {reserved}")
+
+    def test_rules_not_there(self):
+        declared = lambda name: f"rule is declared by a line `{name} = ..`"
+        like = f"is it entry? A {declared('entri')}"
+        self.says(HEAD + "report = entri eol\nentry = word", f"x:4:10: no rule is named entri; {like}")
+        self.says(HEAD + "report = other", f"x:4:10: no rule is named other; a {declared('other')}")
+        self.says(HEAD + "report = loss", 'x:4:10: no rule is named loss; the keyword is written "loss"')
+        like = f"is it report? A {declared('repot')}"
+        self.says("start repot\nmode any\nreport = word", f"x:1:7: no rule is named repot; {like}")
+        both = [f"x:4:{c}: no rule is named {name}; a {declared(name)}" for c, name in ((10, "one"), (14, "two"))]
+        self.says(HEAD + "report = one two", *both)
+        self.says(HEAD + "report = word\nreport = eol", "x:5:1: rule report is there twice; the first is at 4:1")
+
+    def test_keywords_not_there(self):
+        missing, add = "is not among the keywords;", "add it to the keywords of line 1"
+        self.says(HEAD + 'report = "arc"', f'x:4:10: "arc" {missing} {add}')
+        self.says(HEAD + 'report = "los"', f'x:4:10: "los" {missing} is it "loss"? Otherwise {add}')
+        self.says('start r\nmode any\nr = "arc"', f'x:3:5: "arc" {missing} declare it by a line `keywords "arc"`')
+
+    def test_unused(self):
+        source = nodes_of("report = entry\nentry = word\nother = more\nmore = last\nlast = word").source
+        told = [fault.line("x") for fault in build.unused(source)]
+        warning = "is not used; the start, report, does not lead to it"
+        rules = ((6, "other"), (7, "more"), (8, "last"))
+        self.assertEqual(told, [f"x:{line}:1: warning: rule {rule} {warning}" for line, rule in rules])
+
+
+class Nodes(unittest.TestCase):
+    def test_same_as_spelled_out(self):
+        for short, long in (
+            ("word?", "word / empty"),
+            ("word+", "word word*"),
+            ("(word eol)+", "(word eol) (word eol)*"),
+            ("!word? eol", "!(word / empty) eol"),
+            ("align word+", "align (word word*)"),
+            ("word+?", "(word word*) / empty"),
+            ("end", "!(indent any (position any token))"),
+            ('token', 'eol / (number / (word / ("loss" / ":")))'),
+            ('line', '(number / word / "loss" / ":")* eol'),
+        ):
+            short, long = nodes_of(f"report = {short}"), nodes_of(f"report = {long}")
+            spelled = lambda g, n: (g.nodes[n][0], g.nodes[n][3], *children(g, n, spelled))
+            self.assertEqual(spelled(short, short.start), spelled(long, long.start))
+
+    def test_counts(self):
+        for n in (0, 1, 2, 8, 40):
+            keywords = "keywords " + " ".join(f'"k{i}"' for i in range(n)) + "\n" if n else ""
+            of = lambda words: build.grammar_of(f"{keywords}start report\nmode any\nreport = {words}")
+            self.assertEqual(len(of("token").nodes), 2 * n + 5)
+            self.assertEqual(len(of("token / token").nodes), 2 * n + 6)
+            self.assertEqual(len(of("end").nodes), 2 * n + 8)
+            self.assertEqual(len(of("line").nodes), 2 * n + 6)
+            self.assertEqual(len(of("line end").nodes), 2 * n + 11)
+            self.assertEqual(len(of("line token end").nodes), 2 * n + 12)
+            self.assertEqual(len(of("word").nodes), 1)
+            self.assertEqual(list(of("line token end").rules), ["report"])
+            self.assertFalse(any(node[0] == build.RULE for node in of("line token end").nodes))
+
+    def test_keywords_anywhere(self):
+        last = build.grammar_of('start report\nmode any\nreport = "a" token\nkeywords "a"\nkeywords "b"')
+        first = build.grammar_of('keywords "a" "b"\nstart report\nmode any\nreport = "a" token')
+        self.assertEqual((last.nodes, last.keywords), (first.nodes, first.keywords))
+        self.assertEqual(len(last.nodes), 2 * 2 + 5 + 1)
+
+    def test_origins(self):
+        grammar = nodes_of('entry = "loss" ":"\n  number eol\nreport = entry* end')
+        self.assertEqual([str(o.place) for o in grammar.origins[:4]], ["4:9", "4:16", "5:3", "5:10"])
+        self.assertEqual({o.rule for o in grammar.origins[:7]}, {"entry"})
+        last = grammar.origins[-2]
+        self.assertEqual((last.rule, str(last.place), last.built_in), ("report", "6:17", "end"))
+
+    def test_texts(self):
+        """An expression in the notation reads as the same expression; random ones too."""
+        chance = random.Random(SEED)
+        for _ in range(GRAMMARS):
+            grammar = build.grammar_of(random_grammar(chance))
+            rules = "\n".join(f"{rule.name} = {build.text_of(rule.expression)}" for rule in grammar.source.rules)
+            again = build.grammar_of(f'keywords "a" "b"\nstart r0\nmode any\n{rules}\n')
+            self.assertEqual((again.nodes, again.rules), (grammar.nodes, grammar.rules), rules)
+
+
+def children(grammar, number, spelled):
+    kind, a, b, _ = grammar.nodes[number]
+    if kind in (build.SEQUENCE, build.CHOICE):
+        return spelled(grammar, a), spelled(grammar, b)
+    return (spelled(grammar, a),) if kind > build.CHOICE else (a,)
+
+
+class Refusals(unittest.TestCase):
+    """The first number that the builder tells, with its node, is the reader's answer to the file that would be written."""
+
+    def answer(self, grammar):
+        """What the reader answers to a grammar's file."""
+        try:
+            nodes, rules, _, _ = READER.read(build.file_of(grammar))
+            READER.check(nodes, rules)
+        except library.Refused as refused:
+            return str(refused)
+        return "passed"
+
+    def told(self, grammar):
+        faults = build.refusals(grammar)
+        self.assertEqual(len({fault.answer() for fault in faults}), min(1, len(faults)))
+        return faults[0].answer() if faults else "passed"
+
+    def same(self, text, answer):
+        grammar = build.grammar_of(text)
+        self.assertEqual(self.told(grammar), answer)
+        self.assertEqual(self.answer(grammar), answer)
+
+    def keywords(self, *spellings):
+        return "keywords " + " ".join(f'"{s}"' for s in spellings) + "\nstart report\nmode any\nreport = word"
+
+    def test_1(self):
+        self.same(self.keywords(*(f"k{i}" for i in range(253))), "passed")
+        self.same(self.keywords(*(f"k{i}" for i in range(254))), "refused 1")
+        self.assertEqual(first_line(self.keywords(*(f"k{i}" for i in range(254)))),
+                         "x:1:1671: 254 keywords, and at most 253 can be (the reader would answer: refused 1)")
+        self.same(self.keywords("k" * 65502), "refused 2")
+        self.same(self.keywords("k" * 65503), "refused 1")
+        self.assertEqual(first_line(self.keywords("k" * 65503)),
+                         "x: the grammar file would have 65536 bytes, and at most 65535 can be "
+                         "(the reader would answer: refused 1)")
+        self.same(self.keywords("a b", *(f"k{i}" for i in range(254))), "refused 1")
+
+    def test_2(self):
+        for spelling, wrong in (
+            ("", "is empty"),
+            ("k" * 33, "has 33 bytes, and at most 32 can be"),
+            ("µ" * 17, "has 34 bytes, and at most 32 can be"),
+            ("a b", "holds a blank or a control character"),
+            ("a\tb", "holds a blank or a control character"),
+            ("a\x7f", "holds a blank or a control character"),
+            ("loss:", "holds ':', which is a token by itself; write \"loss\" \":\""),
+            ("a(b", "holds '(', which is a token by itself; write \"a\" \"(\" \"b\""),
+            ("%%", "holds '%', which is a token by itself; write \"%\" \"%\""),
+        ):
+            text = self.keywords(spelling)
+            self.same(text, "refused 2")
+            self.assertEqual(first_line(text), f'x:1:10: the keyword "{spelling}" {wrong} (the reader would answer: refused 2)')
+        self.assertEqual(first_line(self.keywords("a", "b", "a")),
+                         'x:1:18: the keyword "a" is there twice; the first is at 1:10 (the reader would answer: refused 2)')
+        for right in ("k" * 32, "µ" * 16, "°", "\u00a0", *":,()[]=;%", "loss-", "*", "#"):
+            self.same(self.keywords(right), "passed")
+        name = "r" * 33
+        text = f"start {name}\nmode any\n{name} = word"
+        self.same(text, "refused 2")
+        self.assertEqual(first_line(text), f"x:3:1: the name {name} has 33 bytes, and at most 32 can be "
+                         "(the reader would answer: refused 2)")
+        self.same(text.replace(name, "r" * 32), "passed")
+
+    def rules(self, count):
+        return "start r0\nmode any\n" + "\n".join(f"r{i} = word" for i in range(count))
+
+    def test_3(self):
+        self.same(self.rules(128), "passed")
+        self.same(self.rules(129), "refused 3")
+        self.assertEqual(first_line(self.rules(129)),
+                         "x:131:1: 129 rules, and at most 128 can be (the reader would answer: refused 3)")
+        self.same("start r\nmode any\nr = " + "!" * 511 + "word", "passed")
+        self.same("start r\nmode any\nr = " + "!" * 512 + "word", "refused 3")
+        self.assertEqual(first_line("start r\nmode any\nr = " + "!" * 512 + "word"),
+                         "x:3:5: rule r: 513 nodes, and at most 512 can be (the reader would answer: refused 3)")
+        for count, answer in ((252, "passed"), (253, "refused 3")):
+            text = self.keywords(*(f"k{i}" for i in range(count))).replace("= word", "= end")
+            self.same(text, answer)
+        self.assertEqual(first_line(text), "x:4:10: rule report: 514 nodes, and at most 512 can be; "
+                         "token, line and end take 514 of them, for 253 keywords (the reader would answer: refused 3)")
+
+    def test_7(self):
+        reads = "repeats what may succeed without reading a token"
+        comes = "is left recursive: it comes back to itself before a token is read,"
+        for rules, place, text, answer in (
+            ("report = empty*", "4:10", f"rule report: empty* {reads}", "refused 7 1"),
+            ("report = end*", "4:10", f"rule report: end* {reads}", "refused 7 12"),
+            ("report = (word?\n eol?)+", "4:11", f"rule report: (word? eol?)+ {reads}", "refused 7 6"),
+            ("report = report word", "4:1", f"rule report {comes} report -> report", "refused 7 0"),
+            ("report = word b\nb = word? c\nc = !eol b", "5:1", f"rule b {comes} b -> c -> b", "refused 7 1"),
+            ("report = word b\nb = word (eol?)*", "5:11", f"rule b: (eol?)* {reads}", "refused 7 6"),
+            ("report = word b\nb = (eol / !word)* word", "5:6", f"rule b: (eol / !word)* {reads}", "refused 7 1"),
+            ("report = word\nb = align (indent any b)", "5:1", f"rule b {comes} b -> b", "refused 7 1"),
+        ):
+            self.same(HEAD + rules, answer)
+            self.assertEqual(first_line(HEAD + rules), f"x:{place}: {text} (the reader would answer: {answer})")
+        self.same(HEAD + "report = (!empty)*", "passed")
+        self.same(HEAD + "report = word report / empty", "passed")
+
+    def test_random(self):
+        """Random grammars: the verdict and the node are the reader's."""
+        chance, answers = random.Random(SEED), []
+        for _ in range(GRAMMARS):
+            text = random_grammar(chance)
+            grammar = build.grammar_of(text)
+            answers.append(self.told(grammar))
+            self.assertEqual((answers[-1], text), (self.answer(grammar), text))
+        refused = [answer for answer in answers if answer != "passed"]
+        self.assertGreater(len(refused), GRAMMARS // 5)
+        self.assertLess(len(refused), GRAMMARS - GRAMMARS // 5)
+        self.assertGreater(len(set(refused)), 10)
+
+
+def random_grammar(chance):
+    names = [f"r{i}" for i in range(chance.randint(1, 5))]
+    rules = "\n".join(f"{name} = {random_expression(chance, names, chance.randint(0, 4))}" for name in names)
+    return f'keywords "a" "b"\nstart r0\nmode any\n{rules}\n'
+
+
+def random_expression(chance, names, depth):
+    if depth == 0:
+        return chance.choice(['"a"', '"b"', "number", "eol", "empty", "token", "line", "end", *names, '"a"', '"b"'])
+    inner = lambda: random_expression(chance, names, depth - chance.randint(1, depth))
+    form = chance.randrange(8)
+    if form < 2:
+        return f"({inner()} {inner()})"
+    if form < 4:
+        return f"({inner()} / {inner()})"
+    if form < 6:
+        return f"({inner()}){chance.choice('*+?')}"
+    return f"{chance.choice(['!', 'align ', 'indent greater ', 'position any '])}({inner()})"
+
+
+class Command(unittest.TestCase):
+    """The builder as it is started."""
+
+    def start(self, *words):
+        command = [sys.executable, str(ROOT / "tools/build.py"), *words]
+        done = subprocess.run(command, capture_output=True, text=True, cwd=self.folder.name)
+        return done.returncode, done.stdout, done.stderr
+
+    def setUp(self):
+        self.folder = tempfile.TemporaryDirectory()
+        self.addCleanup(self.folder.cleanup)
+
+    def write(self, text, name="x.grammar"):
+        path = pathlib.Path(self.folder.name) / name
+        path.write_bytes(text if isinstance(text, bytes) else text.encode())
+        return path
+
+    def test_builds(self):
+        self.write("\ufeff" + HEAD + "report = entry* end\nentry = \"loss\" \":\" number eol\nother = word")
+        status, out, err = self.start("x.grammar", "x.bin")
+        self.assertEqual((status, out), (0, "x.bin: 18 nodes, 3 rules, 2 keywords, 214 bytes\n"))
+        self.assertEqual(err, "x.grammar:6:1: warning: rule other is not used; the start, report, does not lead to it\n")
+        self.assertEqual((pathlib.Path(self.folder.name) / "x.bin").stat().st_size, 214)
+
+    def test_refuses(self):
+        self.write(HEAD + "report = report")
+        status, out, err = self.start("x.grammar", "x.bin")
+        self.assertEqual((status, out), (1, ""))
+        self.assertEqual(err, "x.grammar:4:1: rule report is left recursive: it comes back to itself before a token is read, "
+                         "report -> report (the reader would answer: refused 7 0)\n")
+        self.assertFalse((pathlib.Path(self.folder.name) / "x.bin").exists())
+
+    def test_nodes(self):
+        self.write(HEAD + "report = empty* line")
+        status, out, err = self.start("--nodes", "x.grammar")
+        lines = out.splitlines()
+        self.assertEqual(lines[0], "node  kind       a     b     relation  rule    place    in words")
+        self.assertEqual(lines[2], "1     repeat     0     0     0         report  4:10     0*")
+        self.assertEqual(lines[4], "3     terminal   1     0     0         report  4:17     word  (of line)")
+        self.assertEqual(lines[-1], "rule 0, report, is node 12")
+        self.assertEqual((status, err[:16]), (1, "x.grammar:4:10: "))
+
+    def test_words(self):
+        header = (ROOT / "include/saktroum.h").read_text()
+        status, out, err = self.start("--version")
+        self.assertEqual((status, out[:9], err), (0, "saktroum ", ""))
+        self.assertIn(f'\n#define SAKTROUM_VERSION "{out[9:].strip()}"\n', header)
+        self.assertEqual(self.start("--help"), (0, build.__doc__.strip() + "\n", ""))
+        self.assertEqual(self.start()[0], 2)
+        self.assertEqual(self.start("x.grammar")[0], 2)
+        self.assertEqual(self.start("--nodes", "x.grammar", "x.bin")[0], 2)
+        self.assertEqual(self.start("x.grammar", "x.bin"), (1, "", "x.grammar: No such file or directory\n"))
+        self.write(b"\xff\xfe")
+        self.assertEqual(self.start("x.grammar", "x.bin"), (1, "", "x.grammar: no UTF-8 text: invalid start byte at byte 0\n"))
+        self.write(HEAD + "report = word")
+        self.assertEqual(self.start("x.grammar", "no/x.bin"), (1, "", "no/x.bin: No such file or directory\n"))
+
+
+if __name__ == "__main__":
+    if len(sys.argv) < 2:
+        sys.exit("usage: test_build.py LIBRARY [TEST..]")
+    READER = library.Reader(sys.argv.pop(1))
+    unittest.main()
