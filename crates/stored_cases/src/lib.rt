@@ -28,6 +28,20 @@ pub fn read(path: &[u8], bytes: &mut [u8]) -> usize
     n
 }
 
+// 700,000 zeros, for a file of cases; only their number is said.
+pub fn room_for_cases() -> [u8; 700000]
+    ensures { λ r. ⌜ 700000 ≡ length r ⌝ }
+{
+    [0; 700000]
+}
+
+// 140,000 zeros, for a part of a record.
+pub fn room_for_part() -> [u8; 140000]
+    ensures { λ r. ⌜ 140000 ≡ length r ⌝ }
+{
+    [0; 140000]
+}
+
 // The n bytes from an index on, or as many as there are.
 pub fn part(bytes: &[u8], at: usize, n: usize) -> &[u8]
     ensures { λ r. ⌜ now r ≡ take n (drop at (now (bytes .entry))) ⌝ }
@@ -150,6 +164,13 @@ fn count_here(cases: &[u8], at: usize, n: usize) -> usize
     }
 }
 
+// Where the n bytes from an index on end.
+pub fn after(cases: &[u8], at: usize, n: usize) -> usize
+    ensures { λ r. ⌜ r ≡ past (now (cases .entry)) at n ⌝ }
+{
+    at + count_here(cases, at, n)
+}
+
 // How many bytes there are from one index to before another.
 fn room_of(bytes: &[u8], from: usize, end: usize) -> usize
     ensures { λ r. ⌜ r ≡ room (now (bytes .entry)) from end ⌝ }
@@ -213,10 +234,10 @@ pub fn stored(cases: &[u8], at: usize, five: &[u8], bytes: &mut [u8]) -> usize
 pub fn label(cases: &[u8], at: usize, header: usize, n: usize) -> usize
     ensures { λ r. ⌜ r ≡ past (now (cases .entry)) (past (now (cases .entry)) at header) n ⌝ }
 {
-    let from = at + count_here(cases, at, header);
+    let from = after(cases, at, header);
     io::write_all(1, part(cases, from, n));
     io::write_all(1, b": ");
-    from + count_here(cases, from, n)
+    after(cases, from, n)
 }
 
 // Prints a text and numbers, a blank before each. The answer is how many numbers there were.
