@@ -1,8 +1,7 @@
--- `line_cases::records` meets its contract.
-use borrow.Author.Needs.{needs}
-use Prim.Native.Nat.{_-_}
+-- `line_cases::records` is safe and ends: the lengths stay, and the count of records left falls. Assumes nothing.
 use mathlib.Core.Path.{_≡_}
 use lib.ListN.{length}
+use borrow.Author.Needs.{needs}
 use Rattle.line_cases.proofs.records.Statement.{statement}
 use Rattle.line_cases.proofs.records.Tie as tie
 
