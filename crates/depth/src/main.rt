@@ -23,7 +23,12 @@ fn call(shape: &[u8]) {
     let y = pair(shape, 2) * 2;
     let z = least(pair(shape, 4), 4096) * 4;
     let start = start_at(pair(shape, 6) as u16, pair(shape, 8) as u16);
-    stored_runs::show(stored_runs::run(part(shape, 10, x), part(shape, 10 + x, y), &tokens[0..z], start));
+    stored_runs::show(stored_runs::run(
+        part(shape, 10, x),
+        part(shape, 10 + x, y),
+        &tokens[0..z],
+        start,
+    ));
     io::write_all(1, b"\n");
 }
 

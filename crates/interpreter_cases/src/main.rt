@@ -7,10 +7,10 @@
 // stored (`stored_cases::stored`). The table is the node words, then the rule words, two bytes each. A token word has four.
 use interpreter::Ran;
 use stored_cases::byte;
-use stored_cases::label;
-use stored_cases::part;
 use stored_cases::fill;
+use stored_cases::label;
 use stored_cases::pair;
+use stored_cases::part;
 use stored_cases::stored;
 use stored_cases::triple;
 
@@ -46,13 +46,23 @@ fn record(cases: &[u8], at: usize, table: &mut [u8], text: &mut [u8]) -> usize {
     let first = label(cases, at, 40, byte(header, 0));
     let second = fill(cases, first, table, pair(header, 23), x + y);
     let end = stored(cases, second, part(header, 25, 15), text);
-    call(header, part(table, 0, x), part(table, x, y), part(text, 0, triple(header, 37)));
+    call(
+        header,
+        part(table, 0, x),
+        part(table, x, y),
+        part(text, 0, triple(header, 37)),
+    );
     end
 }
 
 // Makes the run of stored words and prints what it ended in, for a success the place too.
 fn call(header: &[u8], nodes: &[u8], rules: &[u8], tokens: &[u8]) {
-    let ran = stored_runs::run_stored(nodes, rules, tokens, stored_runs::start(part(header, 1, 18)));
+    let ran = stored_runs::run_stored(
+        nodes,
+        rules,
+        tokens,
+        stored_runs::start(part(header, 1, 18)),
+    );
     stored_runs::show(ran);
     show_place(ran);
     io::write_all(1, b"\n");

@@ -53,7 +53,12 @@ fn record(cases: &[u8], at: usize) -> usize {
 // Makes the run of a kind and prints what it ends in.
 fn call(header: &[u8], a: &[u8], b: &[u8], c: &[u8]) {
     if byte(header, 1) == 0 {
-        stored_runs::show(stored_runs::run_stored(a, b, c, stored_runs::start(part(header, 2, 18))));
+        stored_runs::show(stored_runs::run_stored(
+            a,
+            b,
+            c,
+            stored_runs::start(part(header, 2, 18)),
+        ));
         io::write_all(1, b"\n");
     } else {
         show_line(a, b);
