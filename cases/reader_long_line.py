@@ -1,4 +1,4 @@
-"""Writes the stored run of crates/reader_long_line: its grammar file, its report and the line, which has 31 bytes.
+"""Writes the stored run of the program in trials/program/long_line: its grammar file, its report and the line, of 31 bytes.
 
 The answer stands beside the inputs and was worked out by hand from the words of 01 that are quoted here.
 """
@@ -36,9 +36,9 @@ LINE = b"success 4096 65535 65535 clear\n"
 
 
 def main():
-    out = ROOT / "crates" / "reader_long_line"
-    (out / "data").mkdir(parents=True, exist_ok=True)
-    (out / "data" / "grammar.bin").write_bytes(FILE)
+    out = ROOT / "trials" / "program" / "long_line"
+    out.mkdir(parents=True, exist_ok=True)
+    (out / "grammar.bin").write_bytes(FILE)
     (out / "stdin").write_bytes(REPORT)
     (out / "stdout").write_bytes(LINE)
 

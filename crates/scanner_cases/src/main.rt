@@ -2,11 +2,8 @@
 // `cases/scanner_cases.py` writes that file and the lines that are expected.
 //
 // A record is a header of 39 bytes, a label, a grammar file and a report. The header has the kind of the
-// call, the label's length, the mark (0 is clear) and twelve numbers of three bytes each, high byte
-// first: x, y, and five that tell how the file is stored, then the report. The five: how many bytes are
-// those of the one before it, at the start of both; where the bytes end that follow in the record; a
-// distance; where the bytes end that are each a copy of the one at that distance before it; and the
-// length, up to which the bytes are in the record again. The kinds:
+// call, the label's length, the mark (0 is clear) and twelve numbers of three bytes each: x, y, and five
+// that tell how the file is stored (`stored_cases::stored`), then the report. The kinds:
 //   s  scan the report, x words lent
 //   a  the same, then hand out the report's tokens one by one
 //   n  the next token from offset x and column y on, with the mark
@@ -15,8 +12,26 @@
 use scanner::Handed;
 use scanner::Scanned;
 use scanner::Step;
+use slices::filled_32;
+use stored_cases::byte;
+use stored_cases::label;
+use stored_cases::least;
+use stored_cases::mark_32;
+use stored_cases::part;
+use stored_cases::show;
+use stored_cases::stored;
+use stored_cases::triple;
 ghost use mathlib.Core.Path.{_≡_};
-ghost use Prim.Native.Nat.{min, _<_};
+ghost use Rattle.scanner_cases.specs.Handing.{isToken};
+
+// The kinds of calls.
+const SCAN: usize = 115;
+
+const HAND_OUT: usize = 97;
+
+const OFFSET_DOWN: usize = 111;
+
+const COLUMN_DOWN: usize = 99;
 
 // What every lent word holds before a scan.
 const MARKER: u32 = 4000000000;
@@ -38,191 +53,95 @@ struct Walk {
 }
 
 fn main() {
-    let path = b"cases";
-    let fd = os::open_read(path);
-    if fd < 0 {
-        os::fail(path);
-        return;
-    }
-    let mut file = [0u8; 70000];
-    let mut report = [0u8; 70000];
-    let mut tokens = [0u32; 16400];
-    records(fd, &mut file, &mut report, &mut tokens);
-    libc::close(fd);
+    let mut cases = stored_cases::room_for_cases();
+    let mut file = stored_cases::room_for_part();
+    let mut report = stored_cases::room_for_part();
+    let n = stored_cases::read(b"cases", &mut cases);
+    records(part(&cases, 0, n), &mut file, &mut report);
 }
 
-// Goes through the records to the end of the file of cases.
-fn records(fd: i32, file: &mut [u8], report: &mut [u8], tokens: &mut [u32]) {
+// Goes through the records.
+fn records(cases: &[u8], file: &mut [u8], report: &mut [u8]) {
+    let mut at = 0;
     let mut left = MOST_RECORDS;
     while left > 0 {
-        if !record(fd, file, report, tokens) {
+        if at >= cases.len() {
             return;
         }
+        at = record(cases, at, file, report);
         left -= 1;
     }
 }
 
-// Reads one record and makes its call. The answer is whether there was a whole one.
-fn record(fd: i32, file: &mut [u8], report: &mut [u8], tokens: &mut [u32]) -> bool {
-    let mut header = [0u8; 39];
-    if !fill(fd, &mut header, 0, 39) {
-        return false;
-    }
-    if !label(fd, wide(header[1])) {
-        return false;
-    }
-    if !stored(fd, file, &header, 9) {
-        return false;
-    }
-    if !stored(fd, report, &header, 24) {
-        return false;
-    }
-    call(&header, file, report, tokens);
-    io::write_all(1, b"\n");
-    true
-}
-
-// Puts a file or report together by the five numbers at index `at` of the header. The answer is whether
-// all its bytes were there.
-fn stored(fd: i32, bytes: &mut [u8], header: &[u8; 39], at: usize) -> bool {
-    if at > 24 {
-        return false;
-    }
-    let same = number(header, at);
-    let head = number(header, at + 3);
-    let distance = number(header, at + 6);
-    let middle = number(header, at + 9);
-    let size = number(header, at + 12);
-    if !fill(fd, bytes, same, head) {
-        return false;
-    }
-    if !repeat(bytes, head, middle, distance) {
-        return false;
-    }
-    fill(fd, bytes, middle, size)
-}
-
-// The number of three bytes at index `at` of the header.
-fn number(header: &[u8; 39], at: usize) -> usize
-    ensures { λ r. ⌜ r < 16777216 ⌝ }
-{
-    if at > 36 {
-        return 0;
-    }
-    triple(header[at], header[at + 1], header[at + 2])
-}
-
-// Sets each byte from index `from` to before `end` to the one at the distance before it. The answer is
-// whether there are such.
-fn repeat(bytes: &mut [u8], from: usize, end: usize, distance: usize) -> bool {
-    if distance > from || end > bytes.len() {
-        return false;
-    }
-    let mut i = from;
-    while i < end {
-        bytes[i] = bytes[i - distance];
-        i += 1;
-    }
-    true
-}
-
-// Reads and prints a label of n bytes. The answer is whether all were there.
-fn label(fd: i32, n: usize) -> bool {
-    let mut text = [0u8; 256];
-    if !fill(fd, &mut text, 0, n) {
-        return false;
-    }
-    io::write_all(1, slices::front(&text, n));
-    io::write_all(1, b": ");
-    true
-}
-
-// Reads the bytes from index `from` to before `end`, and answers whether all were there.
-fn fill(fd: i32, bytes: &mut [u8], from: usize, end: usize) -> bool {
-    if from > end || end > bytes.len() {
-        return false;
-    }
-    io::read_full(fd, &mut bytes[from..end]) == end - from
-}
-
-fn wide(byte: u8) -> usize
-    ensures { λ r. ⌜ r < 256 ⌝ }
-{
-    byte as usize
-}
-
-// A number of three bytes.
-fn triple(high: u8, middle: u8, low: u8) -> usize
-    ensures { λ r. ⌜ r < 16777216 ⌝ }
-{
-    wide(high) * 65536 + wide(middle) * 256 + wide(low)
-}
-
-fn least(a: usize, b: usize) -> usize
-    ensures { λ r. ⌜ r ≡ min a b ⌝ }
-{
-    if a < b { a } else { b }
-}
-
-// A number of three bytes as a column.
-fn narrow(y: usize) -> u32
-    ensures { λ r. ⌜ r < 16777216 ⌝ }
-{
-    if y > 16777215 { 16777215 } else { y as u32 }
+// Makes the call of the record at an index. The answer is where the record ends.
+fn record(cases: &[u8], at: usize, file: &mut [u8], report: &mut [u8]) -> usize {
+    let header = part(cases, at, 39);
+    let first = label(cases, at, 39, byte(header, 1));
+    let second = stored(cases, first, part(header, 9, 15), file);
+    let end = stored(cases, second, part(header, 24, 15), report);
+    call(
+        header,
+        part(file, 0, triple(header, 21)),
+        part(report, 0, triple(header, 36)),
+    );
+    end
 }
 
 // Makes the call that the header tells of and prints its answer.
-fn call(header: &[u8; 39], file: &[u8], report: &[u8], tokens: &mut [u32]) {
-    let kind = header[0];
-    let x = number(header, 3);
-    let y = number(header, 6);
-    let file = slices::front(file, number(header, 21));
-    let report = slices::front(report, number(header, 36));
+fn call(header: &[u8], file: &[u8], report: &[u8]) {
+    let kind = byte(header, 0);
+    let x = triple(header, 3);
     match kind {
-        b's' | b'a' => lend(kind, file, report, x, tokens),
-        _ => show_next(kind, file, report, x, narrow(y), header[2] != 0),
+        SCAN => lend(file, report, x, false),
+        HAND_OUT => lend(file, report, x, true),
+        _ => show_next(
+            kind,
+            file,
+            report,
+            x,
+            triple(header, 6) as u32,
+            byte(header, 2) != 0,
+        ),
     }
+    io::write_all(1, b"\n");
 }
 
 // Prints the next token from an offset, a column and a mark on.
-fn show_next(kind: u8, file: &[u8], report: &[u8], x: usize, y: u32, mark: bool) {
-    match kind {
-        b'o' => show_step(scanner::next_token(file, report, usize::MAX - x, y, mark)),
-        b'c' => show_step(scanner::next_token(file, report, x, u32::MAX - y, mark)),
-        _ => show_step(scanner::next_token(file, report, x, y, mark)),
+fn show_next(kind: usize, file: &[u8], report: &[u8], x: usize, y: u32, mark: bool) {
+    if kind == OFFSET_DOWN {
+        show_step(scanner::next_token(file, report, usize::MAX - x, y, mark));
+        return;
     }
+    show_step(scanner::next_token(file, report, x, column(kind, y), mark));
+}
+
+// The column, or as much less than the greatest.
+fn column(kind: usize, y: u32) -> u32 {
+    if kind == COLUMN_DOWN { u32::MAX - y } else { y }
 }
 
 // Makes a call that is lent x words.
-fn lend(kind: u8, file: &[u8], report: &[u8], x: usize, tokens: &mut [u32]) {
-    if x > tokens.len() {
-        return;
-    }
-    if kind == b'a' {
-        show_all(file, report, &mut tokens[0..x]);
-    } else {
-        show_scan(file, report, &mut tokens[0..x]);
+fn lend(file: &[u8], report: &[u8], x: usize, all: bool) {
+    let mut tokens = [0u32; 16400];
+    let n = least(x, 16400);
+    show_lent(file, report, &mut tokens[0..n], all);
+}
+
+// Prints what a scan answers, then, where all are asked for, what is handed out one by one.
+fn show_lent(file: &[u8], report: &[u8], tokens: &mut [u32], all: bool) {
+    let count = show_scan(file, report, tokens);
+    if all {
+        show_all(hand_out(file, report, tokens), count);
     }
 }
 
 // Prints what a scan answers and whether it left alone what it was to leave alone. The answer here is
 // the number of tokens, 0 where the scan was refused.
 fn show_scan(file: &[u8], report: &[u8], tokens: &mut [u32]) -> usize {
-    fill_in(tokens);
-    let mut count = 0;
-    match scanner::scan(file, report, tokens) {
-        Scanned::Tokens(n) => {
-            count = n;
-            io::write_all(1, b"tokens");
-            show_number(n as u64);
-            show_tokens(tokens, n);
-        }
-        Scanned::Refused(number) => {
-            io::write_all(1, b"refused");
-            show_number(number as u64);
-        }
-    }
-    if slices::filled_32(tokens, least(count, MOST_HANDED) * 4, MARKER) {
+    mark_32(tokens, MARKER);
+    let count = show_scanned(scanner::scan(file, report, tokens));
+    show_tokens(tokens, count);
+    if filled_32(tokens, least(count, MOST_HANDED) * 4, MARKER) {
         io::write_all(1, b" | kept");
     } else {
         io::write_all(1, b" | changed");
@@ -230,20 +149,38 @@ fn show_scan(file: &[u8], report: &[u8], tokens: &mut [u32]) -> usize {
     count
 }
 
-// Prints what a scan answers, then how many tokens are handed out one by one, what comes after them,
-// and whether they are those of the scan, where it had some.
-fn show_all(file: &[u8], report: &[u8], tokens: &mut [u32]) {
-    let count = show_scan(file, report, tokens);
-    let walk = hand_out(file, report, tokens);
-    io::write_all(1, b" | handed");
-    show_number(walk.count as u64);
+// Prints how many tokens a scan has, or its refusal. The answer is the number of tokens, 0 where it was refused.
+fn show_scanned(scanned: Scanned) -> usize {
+    match scanned {
+        Scanned::Tokens(n) => {
+            let numbers = [n as u64];
+            show(b"tokens", &numbers);
+            n
+        }
+        Scanned::Refused(number) => {
+            let numbers = [number as u64];
+            show(b"refused", &numbers);
+            0
+        }
+    }
+}
+
+// Prints how many tokens were handed out one by one, what comes after them, and whether they are those of the scan, where
+// it had some.
+fn show_all(walk: Walk, count: usize) {
+    let numbers = [walk.count as u64];
+    show(b" | handed", &numbers);
     io::write_all(1, b" then ");
     let last = walk.last;
     show_step(last);
+    show_same(walk.same && walk.count == count, count);
+}
+
+fn show_same(same: bool, count: usize) {
     if count == 0 {
         return;
     }
-    if walk.same && walk.count == count {
+    if same {
         io::write_all(1, b" | same");
     } else {
         io::write_all(1, b" | different");
@@ -274,7 +211,10 @@ fn hand_out(file: &[u8], report: &[u8], words: &[u32]) -> Walk {
     }
 }
 
-fn is_token(handed: Handed) -> bool {
+// Whether a token was handed out.
+fn is_token(handed: Handed) -> bool
+    ensures { λ r. ⌜ r ≡ isToken handed ⌝ }
+{
     match handed {
         Handed::Token {
             terminal,
@@ -314,30 +254,9 @@ fn holds(words: &[u32], i: usize, handed: Handed) -> bool {
 // Prints the token handed out, `none` or the number of a refusal, then the offset, column and mark.
 fn show_step(step: Step) {
     let handed = step.handed;
-    match handed {
-        Handed::Token {
-            terminal,
-            column,
-            offset,
-            length,
-        } => {
-            io::write_all(1, b"token");
-            show_number(terminal as u64);
-            show_number(column as u64);
-            show_number(offset as u64);
-            show_number(length as u64);
-        }
-        Handed::Nothing => {
-            io::write_all(1, b"none");
-        }
-        Handed::Refused(number) => {
-            io::write_all(1, b"refused");
-            show_number(number as u64);
-        }
-    }
-    io::write_all(1, b" | at");
-    show_number(step.at as u64);
-    show_number(step.column as u64);
+    show_handed(handed);
+    let numbers = [step.at as u64, step.column as u64];
+    show(b" | at", &numbers);
     if step.mark {
         io::write_all(1, b" set");
     } else {
@@ -345,9 +264,26 @@ fn show_step(step: Step) {
     }
 }
 
-fn show_number(n: u64) {
-    io::write_all(1, b" ");
-    io::print_decimal(1, n);
+// Prints the token handed out, `none` or the number of a refusal.
+fn show_handed(handed: Handed) {
+    match handed {
+        Handed::Token {
+            terminal,
+            column,
+            offset,
+            length,
+        } => {
+            let numbers = [terminal as u64, column as u64, offset as u64, length as u64];
+            show(b"token", &numbers);
+        }
+        Handed::Nothing => {
+            io::write_all(1, b"none");
+        }
+        Handed::Refused(number) => {
+            let numbers = [number as u64];
+            show(b"refused", &numbers);
+        }
+    }
 }
 
 // Prints the words of n tokens where they are few, else those of the last two and a sum of all.
@@ -360,8 +296,8 @@ fn show_tokens(words: &[u32], n: usize) {
     if end >= 8 {
         show_words(words, end - 8, end);
     }
-    io::write_all(1, b" | sum");
-    show_number(sum(words, end));
+    let numbers = [sum(words, end)];
+    show(b" | sum", &numbers);
 }
 
 // Prints the words from index `from` to before `end`, a bar before each fourth.
@@ -378,7 +314,8 @@ fn show_word(i: usize, word: u32) {
     if i % 4 == 0 {
         io::write_all(1, b" |");
     }
-    show_number(word as u64);
+    let numbers = [word as u64];
+    show(b"", &numbers);
 }
 
 // A sum of the first `end` words that tells their order too.
@@ -396,13 +333,4 @@ fn sum(words: &[u32], end: usize) -> u64 {
 // The next sum: 31 times the last and the word, less whole thousand millions.
 fn added(total: u64, word: u32) -> u64 {
     (total % 1000000000 * 31 + word as u64) % 1000000000
-}
-
-// Sets every word to the marker.
-fn fill_in(words: &mut [u32]) {
-    let mut i = 0;
-    while i < words.len() {
-        words[i] = MARKER;
-        i += 1;
-    }
 }

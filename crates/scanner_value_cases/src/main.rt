@@ -1,7 +1,7 @@
 // Steps through reports with a scanner value and prints a line for each step. The files in `data` and the lines that are
 // expected are written by `cases/scanner_value_cases.py`.
-ghost use Rattle.io.specs.Counts.{Counts};
 use scanner::Handed;
+use stored_cases::part;
 
 fn main() {
     run(b"grammar.bin", b"report", 11);
@@ -14,27 +14,18 @@ fn main() {
 fn run(grammar: &[u8], path: &[u8], count: usize) {
     let mut file = io::large_buffer();
     let mut report = io::large_buffer();
-    let n = read(grammar, &mut file);
-    let m = read(path, &mut report);
-    io::write_all(libc::STDOUT_FILENO, path);
-    io::write_all(libc::STDOUT_FILENO, b" by ");
-    io::write_all(libc::STDOUT_FILENO, grammar);
-    io::write_all(libc::STDOUT_FILENO, b"\n");
-    steps(&file[..n], &report[..m], count);
+    let n = stored_cases::read(grammar, &mut file);
+    let m = stored_cases::read(path, &mut report);
+    name(path, grammar);
+    steps(part(&file, 0, n), part(&report, 0, m), count);
 }
 
-// Reads a file, and says how many bytes it gave: none if it cannot be opened.
-fn read(path: &[u8], bytes: &mut [u8]) -> usize
-    ensures { λ r. ⌜ Counts r (now (bytes .exit)) ⌝ }
-{
-    let fd = os::open_read(path);
-    if fd < 0 {
-        os::fail(path);
-        return 0;
-    }
-    let n = io::read_full(fd, bytes);
-    libc::close(fd);
-    n
+// Prints the names of a report and a grammar file.
+fn name(path: &[u8], grammar: &[u8]) {
+    io::write_all(1, path);
+    io::write_all(1, b" by ");
+    io::write_all(1, grammar);
+    io::write_all(1, b"\n");
 }
 
 // Shows the first steps of a value.
@@ -42,6 +33,7 @@ fn steps(file: &[u8], report: &[u8], count: usize) {
     let mut n = 0;
     while n < count {
         show(scanner_value::nth(file, report, n));
+        io::write_all(1, b"\n");
         n += 1;
     }
 }
@@ -55,24 +47,15 @@ fn show(handed: Handed) {
             offset,
             length,
         } => {
-            io::write_all(libc::STDOUT_FILENO, b"token");
-            show_number(terminal);
-            show_number(column);
-            show_number(offset);
-            show_number(length);
+            let numbers = [terminal as u64, column as u64, offset as u64, length as u64];
+            stored_cases::show(b"token", &numbers);
         }
         Handed::Nothing => {
-            io::write_all(libc::STDOUT_FILENO, b"none");
+            io::write_all(1, b"none");
         }
         Handed::Refused(number) => {
-            io::write_all(libc::STDOUT_FILENO, b"refused");
-            show_number(number as u32);
+            let numbers = [number as u64];
+            stored_cases::show(b"refused", &numbers);
         }
     }
-    io::write_all(libc::STDOUT_FILENO, b"\n");
-}
-
-fn show_number(n: u32) {
-    io::write_all(libc::STDOUT_FILENO, b" ");
-    io::print_decimal(libc::STDOUT_FILENO, n as u64);
 }

@@ -4,131 +4,80 @@
 // A record is a header of nine bytes, a label and the end of a payload. The header has the label's
 // length in one byte and four numbers of two bytes each: how often the call is made again, the node
 // words, the rule words, and how many bytes the payload has in common with the one before it, at the
-// start of both. The payload is the node words, then the rule words. High bytes come first.
+// start of both. The payload is the node words, then the rule words.
+use stored_cases::byte;
+use stored_cases::label;
+use stored_cases::load_16;
+use stored_cases::pair;
+use stored_cases::part;
 use well_formed::Verdict;
-ghost use Prim.Native.Nat.{_<_};
 
 // At least the number of records.
 const MOST_RECORDS: u32 = 100000;
 
 fn main() {
-    let path = b"cases";
-    let fd = os::open_read(path);
-    if fd < 0 {
-        os::fail(path);
-        return;
-    }
-    let mut bytes = [0u8; 4600];
-    let mut nodes = [0u16; 2100];
-    let mut rules = [0u16; 200];
-    records(fd, &mut bytes, &mut nodes, &mut rules);
-    libc::close(fd);
+    let mut cases = stored_cases::room_for_cases();
+    let mut bytes = stored_cases::room_for_part();
+    let n = stored_cases::read(b"cases", &mut cases);
+    records(part(&cases, 0, n), &mut bytes);
 }
 
-// Goes through the records to the end of the file.
-fn records(fd: i32, bytes: &mut [u8], nodes: &mut [u16], rules: &mut [u16]) {
+// Goes through the records.
+fn records(cases: &[u8], bytes: &mut [u8]) {
+    let mut at = 0;
     let mut left = MOST_RECORDS;
     while left > 0 {
-        if !record(fd, bytes, nodes, rules) {
+        if at >= cases.len() {
             return;
         }
+        at = record(cases, at, bytes);
         left -= 1;
     }
 }
 
-// Reads one record and makes its call. The answer is whether there was a whole one.
-fn record(fd: i32, bytes: &mut [u8], nodes: &mut [u16], rules: &mut [u16]) -> bool {
-    let mut header = [0u8; 9];
-    if !fill(fd, &mut header, 0, 9) {
-        return false;
-    }
-    let again = pair(header[1], header[2]);
-    let x = pair(header[3], header[4]);
-    let y = pair(header[5], header[6]);
-    let same = pair(header[7], header[8]);
-    if !label(fd, wide(header[0])) {
-        return false;
-    }
-    if !fill(fd, bytes, same, (x + y) * 2) {
-        return false;
-    }
-    call(bytes, x, y, again, nodes, rules);
+// Makes the call of the record at an index. The answer is where the record ends.
+fn record(cases: &[u8], at: usize, bytes: &mut [u8]) -> usize {
+    let header = part(cases, at, 9);
+    let x = pair(header, 3) * 2;
+    let y = pair(header, 5) * 2;
+    let first = label(cases, at, 9, byte(header, 0));
+    let end = stored_cases::fill(cases, first, bytes, pair(header, 7), x + y);
+    call(part(bytes, 0, x), part(bytes, x, y), pair(header, 1));
     io::write_all(1, b"\n");
-    true
+    end
 }
 
-// Reads and prints a label of n bytes. The answer is whether all were there.
-fn label(fd: i32, n: usize) -> bool {
-    let mut text = [0u8; 256];
-    if !fill(fd, &mut text, 0, n) {
-        return false;
-    }
-    io::write_all(1, slices::front(&text, n));
-    io::write_all(1, b": ");
-    true
-}
-
-// Reads the bytes from index `from` to before `end`, and answers whether all were there.
-fn fill(fd: i32, bytes: &mut [u8], from: usize, end: usize) -> bool {
-    if from > end || end > bytes.len() {
-        return false;
-    }
-    io::read_full(fd, &mut bytes[from..end]) == end - from
-}
-
-fn wide(byte: u8) -> usize
-    ensures { λ r. ⌜ r < 256 ⌝ }
-{
-    byte as usize
-}
-
-// A number of two bytes.
-fn pair(high: u8, low: u8) -> usize
-    ensures { λ r. ⌜ r < 65536 ⌝ }
-{
-    wide(high) * 256 + wide(low)
-}
-
-// Checks the table of x node words and y rule words, then as often again, and prints the answer.
-fn call(payload: &[u8], x: usize, y: usize, again: usize, nodes: &mut [u16], rules: &mut [u16]) {
-    if x > nodes.len() {
-        return;
-    }
-    if y > rules.len() {
-        return;
-    }
-    let first = answer(payload, &mut nodes[0..x], &mut rules[0..y]);
-    if repeats(
-        payload,
-        &mut nodes[0..x],
-        &mut rules[0..y],
-        again,
-        number(first),
-    ) {
+// Checks the table of stored node words and rule words, then as often again, and prints the answer.
+fn call(nodes: &[u8], rules: &[u8], again: usize) {
+    let first = answer(nodes, rules);
+    if repeats(nodes, rules, again, number(first)) {
         show_verdict(first);
     } else {
         io::write_all(1, b"differs");
     }
 }
 
-// The answer for the payload's table. Its words are set anew each time.
-fn answer(payload: &[u8], nodes: &mut [u16], rules: &mut [u16]) -> Verdict {
-    load(payload, 0, nodes);
-    load(payload, nodes.len(), rules);
-    well_formed::check(nodes, rules)
+// The answer for a stored table, of at most 2,100 node words and 200 rule words. They are loaded anew each time.
+fn answer(nodes: &[u8], rules: &[u8]) -> Verdict {
+    let mut node_words = [0u16; 2100];
+    let mut rule_words = [0u16; 200];
+    let x = stored_cases::least(nodes.len() / 2, 2100);
+    let y = stored_cases::least(rules.len() / 2, 200);
+    check(nodes, rules, &mut node_words[0..x], &mut rule_words[0..y])
+}
+
+// Loads the words of a table and checks it.
+fn check(nodes: &[u8], rules: &[u8], first: &mut [u16], second: &mut [u16]) -> Verdict {
+    load_16(nodes, first);
+    load_16(rules, second);
+    well_formed::check(first, second)
 }
 
 // Makes the call as often again, and answers whether each time the answer has the same number.
-fn repeats(
-    payload: &[u8],
-    nodes: &mut [u16],
-    rules: &mut [u16],
-    again: usize,
-    expected: u32,
-) -> bool {
+fn repeats(nodes: &[u8], rules: &[u8], again: usize, expected: u32) -> bool {
     let mut i = 0;
     while i < again {
-        if number(answer(payload, nodes, rules)) != expected {
+        if number(answer(nodes, rules)) != expected {
             return false;
         }
         i += 1;
@@ -152,41 +101,12 @@ fn show_verdict(verdict: Verdict) {
             io::write_all(1, b"passes");
         }
         Verdict::Refused(n) => {
-            io::write_all(1, b"refused");
-            show_number(n as u64);
+            let numbers = [n as u64];
+            stored_cases::show(b"refused", &numbers);
         }
         Verdict::IllFormed(node) => {
-            io::write_all(1, b"refused 7");
-            show_number(node as u64);
+            let numbers = [node as u64];
+            stored_cases::show(b"refused 7", &numbers);
         }
     }
-}
-
-fn show_number(n: u64) {
-    io::write_all(1, b" ");
-    io::print_decimal(1, n);
-}
-
-// Sets the words to those of the payload, from its word `from` on.
-fn load(payload: &[u8], from: usize, words: &mut [u16]) {
-    let mut i = 0;
-    while i < words.len() {
-        words[i] = word(payload, from, i);
-        i += 1;
-    }
-}
-
-// Word `from + i` of the payload, or 0 where it has no such word.
-fn word(payload: &[u8], from: usize, i: usize) -> u16 {
-    if from > 65535 {
-        return 0;
-    }
-    if i > 65535 {
-        return 0;
-    }
-    let at = (from + i) * 2;
-    if at + 1 >= payload.len() {
-        return 0;
-    }
-    pair(payload[at], payload[at + 1]) as u16
 }

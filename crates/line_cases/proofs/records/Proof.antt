@@ -6,16 +6,13 @@ use Rattle.line_cases.proofs.records.Statement.{statement}
 use Rattle.line_cases.proofs.records.Tie as tie
 
 abbrev Inv-loop : tie.InvT-loop
-Inv-loop fd file₀ report₀ left₀ file report left = (length file ≡ length file₀) × (length report ≡ length report₀)
+Inv-loop cases file₀ report₀ at₀ left₀ file report at left = (length file ≡ length file₀) × (length report ≡ length report₀)
 
 abbrev μ-loop : tie.MeasureT-loop
-μ-loop fd file₀ report₀ left₀ file report left = left
+μ-loop cases file₀ report₀ at₀ left₀ file report at left = left
 
 loop-holds : tie.Need-loop-holds Inv-loop μ-loop
 loop-holds c = search needs
-
-record-requires : tie.Need-record-requires Inv-loop μ-loop
-record-requires c κs = search needs
 
 same-length : tie.Need-same-length Inv-loop μ-loop
 same-length c = search needs
@@ -25,6 +22,9 @@ same-length-2 c = search needs
 
 returns : tie.Need-returns Inv-loop μ-loop
 returns c = search needs
+
+record-requires : tie.Need-record-requires Inv-loop μ-loop
+record-requires c κs = search needs
 
 sub-left : tie.Need-sub-left Inv-loop μ-loop
 sub-left c = search needs
@@ -51,10 +51,10 @@ records-spec =
     Inv-loop
     μ-loop
     loop-holds
-    record-requires
     same-length
     same-length-2
     returns
+    record-requires
     sub-left
     loop-less
     loop-again

@@ -4,19 +4,19 @@ use Rattle.published.proofs.records.Statement.{statement}
 use Rattle.published.proofs.records.Tie as tie
 
 abbrev Inv-loop : tie.InvT-loop
-Inv-loop fd left₀ left = Unit
+Inv-loop cases at₀ left₀ at left = Unit
 
 abbrev μ-loop : tie.MeasureT-loop
-μ-loop fd left₀ left = left
+μ-loop cases at₀ left₀ at left = left
 
 loop-holds : tie.Need-loop-holds Inv-loop μ-loop
 loop-holds c = search needs
 
-record-requires : tie.Need-record-requires Inv-loop μ-loop
-record-requires c κs = search needs
-
 returns : tie.Need-returns Inv-loop μ-loop
 returns c = search needs
+
+record-requires : tie.Need-record-requires Inv-loop μ-loop
+record-requires c κs = search needs
 
 sub-left : tie.Need-sub-left Inv-loop μ-loop
 sub-left c = search needs
@@ -37,8 +37,8 @@ records-spec =
     Inv-loop
     μ-loop
     loop-holds
-    record-requires
     returns
+    record-requires
     sub-left
     loop-less
     loop-again

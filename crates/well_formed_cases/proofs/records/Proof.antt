@@ -6,28 +6,22 @@ use Rattle.well_formed_cases.proofs.records.Statement.{statement}
 use Rattle.well_formed_cases.proofs.records.Tie as tie
 
 abbrev Inv-loop : tie.InvT-loop
-Inv-loop fd bytes₀ nodes₀ rules₀ left₀ bytes nodes rules left = (length bytes ≡ length bytes₀) × (length nodes ≡ length nodes₀) × (length rules ≡ length rules₀)
+Inv-loop cases bytes₀ at₀ left₀ bytes at left = (length bytes ≡ length bytes₀)
 
 abbrev μ-loop : tie.MeasureT-loop
-μ-loop fd bytes₀ nodes₀ rules₀ left₀ bytes nodes rules left = left
+μ-loop cases bytes₀ at₀ left₀ bytes at left = left
 
 loop-holds : tie.Need-loop-holds Inv-loop μ-loop
 loop-holds c = search needs
 
-record-requires : tie.Need-record-requires Inv-loop μ-loop
-record-requires c κs = search needs
-
 same-length : tie.Need-same-length Inv-loop μ-loop
 same-length c = search needs
 
-same-length-2 : tie.Need-same-length-2 Inv-loop μ-loop
-same-length-2 c = search needs
-
-same-length-3 : tie.Need-same-length-3 Inv-loop μ-loop
-same-length-3 c = search needs
-
 returns : tie.Need-returns Inv-loop μ-loop
 returns c = search needs
+
+record-requires : tie.Need-record-requires Inv-loop μ-loop
+record-requires c κs = search needs
 
 sub-left : tie.Need-sub-left Inv-loop μ-loop
 sub-left c = search needs
@@ -38,14 +32,8 @@ loop-less c = search needs
 loop-again : tie.Need-loop-again Inv-loop μ-loop
 loop-again c = search needs
 
-same-length-4 : tie.Need-same-length-4 Inv-loop μ-loop
-same-length-4 c = search needs
-
-same-length-5 : tie.Need-same-length-5 Inv-loop μ-loop
-same-length-5 c = search needs
-
-same-length-6 : tie.Need-same-length-6 Inv-loop μ-loop
-same-length-6 c = search needs
+same-length-2 : tie.Need-same-length-2 Inv-loop μ-loop
+same-length-2 c = search needs
 
 returns-2 : tie.Need-returns-2 Inv-loop μ-loop
 returns-2 c = search needs
@@ -57,15 +45,11 @@ records-spec =
     Inv-loop
     μ-loop
     loop-holds
-    record-requires
     same-length
-    same-length-2
-    same-length-3
     returns
+    record-requires
     sub-left
     loop-less
     loop-again
-    same-length-4
-    same-length-5
-    same-length-6
+    same-length-2
     returns-2)

@@ -1,0 +1,62 @@
+-- `stored_cases::load_16` meets its contract.
+use native.Mathlib.Omega.{arith}
+use borrow.Author.Needs.{needs}
+use Prim.Native.Nat.{_-_, _*_}
+use lib.ListN.{length}
+use Rattle.stored_cases.specs.Numbers.{pairAt}
+use Rattle.stored_cases.proofs.Laws.{Written, written-none, written-more, written-all}
+use Rattle.stored_cases.proofs.load_16.Statement.{statement}
+use Rattle.stored_cases.proofs.load_16.Tie as tie
+
+abbrev Inv-loop : tie.InvT-loop
+Inv-loop bytes words₀ i₀ words i = Written (λ k. pairAt bytes (k * 2)) words₀ words i
+
+abbrev μ-loop : tie.MeasureT-loop
+μ-loop bytes words₀ i₀ words i = length words₀ - i
+
+loop-holds : tie.Need-loop-holds Inv-loop μ-loop
+loop-holds c = written-none _ _
+
+mul-word : tie.Need-mul-word Inv-loop μ-loop
+mul-word c = search needs
+
+word-requires : tie.Need-word-requires Inv-loop μ-loop
+word-requires c κs = search needs
+
+mul-words : tie.Need-mul-words Inv-loop μ-loop
+mul-words c = search needs
+
+slice-write-words : tie.Need-slice-write-words Inv-loop μ-loop
+slice-write-words c = search needs
+
+add-i : tie.Need-add-i Inv-loop μ-loop
+add-i c = search needs
+
+loop-less : tie.Need-loop-less Inv-loop μ-loop
+loop-less c = search needs
+
+loop-again : tie.Need-loop-again Inv-loop μ-loop
+loop-again c = written-more (c .before .before .loop .inv) (omega arith) (c .word .ensures)
+
+same-length : tie.Need-same-length Inv-loop μ-loop
+same-length c = search needs
+
+returns : tie.Need-returns Inv-loop μ-loop
+returns c = written-all (c .before .loop .inv) (omega arith)
+
+pub load-16-spec : {M : Type 1} → statement M
+load-16-spec =
+    tie.close
+    (tie.spec
+    Inv-loop
+    μ-loop
+    loop-holds
+    mul-word
+    word-requires
+    mul-words
+    slice-write-words
+    add-i
+    loop-less
+    loop-again
+    same-length
+    returns)

@@ -1,0 +1,64 @@
+-- `stored_cases::repeat` meets its contract.
+use native.Mathlib.Omega.{arith}
+use Prim.Native.Nat.{_-_}
+use borrow.Author.Needs.{needs}
+use Rattle.stored_cases.proofs.Laws.{Repeating, repeating-more, repeating-all, repeated-not}
+use Rattle.stored_cases.proofs.repeat.Statement.{statement}
+use Rattle.stored_cases.proofs.repeat.Tie as tie
+
+abbrev Inv-loop : tie.InvT-loop
+Inv-loop bytes₀ from end distance last i₀ bytes i = Repeating bytes₀ from last distance bytes i
+
+abbrev μ-loop : tie.MeasureT-loop
+μ-loop bytes₀ from end distance last i₀ bytes i = last - i
+
+returns : tie.Need-returns Inv-loop μ-loop
+returns c = repeated-not _ _ _ _ (omega arith)
+
+least-requires : tie.Need-least-requires Inv-loop μ-loop
+least-requires c κs = search needs
+
+loop-holds : tie.Need-loop-holds Inv-loop μ-loop
+loop-holds c = search needs
+
+sub-bytes : tie.Need-sub-bytes Inv-loop μ-loop
+sub-bytes c = search needs
+
+slice-read-bytes : tie.Need-slice-read-bytes Inv-loop μ-loop
+slice-read-bytes c = search needs
+
+slice-write-bytes : tie.Need-slice-write-bytes Inv-loop μ-loop
+slice-write-bytes c = search needs
+
+add-i : tie.Need-add-i Inv-loop μ-loop
+add-i c = search needs
+
+loop-less : tie.Need-loop-less Inv-loop μ-loop
+loop-less c = search needs
+
+loop-again : tie.Need-loop-again Inv-loop μ-loop
+loop-again c = repeating-more _ _ _ _ (c .before .before .loop .inv) (omega arith)
+
+same-length : tie.Need-same-length Inv-loop μ-loop
+same-length c = search needs
+
+returns-2 : tie.Need-returns-2 Inv-loop μ-loop
+returns-2 c = repeating-all _ _ _ _ (c .before .loop .inv) (omega arith) (omega arith) _ (c .before .before .least .ensures)
+
+pub repeat-spec : {M : Type 1} → statement M
+repeat-spec =
+    tie.close
+    (tie.spec
+    Inv-loop
+    μ-loop
+    returns
+    least-requires
+    loop-holds
+    sub-bytes
+    slice-read-bytes
+    slice-write-bytes
+    add-i
+    loop-less
+    loop-again
+    same-length
+    returns-2)

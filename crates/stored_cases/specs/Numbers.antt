@@ -1,0 +1,21 @@
+-- Numbers in bytes, high byte first, at an index. A byte that is not there counts as 0.
+use Prim.Native.Nat.{ℕ, zero, suc, _+_, _*_}
+use mathlib.Core.List.{List, [], _∷_, _++_}
+use lib.ListN.{getD}
+
+-- The number of two bytes.
+unfoldable pub pairAt : List ℕ → ℕ → ℕ
+pairAt bytes i = getD bytes i 0 * 256 + getD bytes (i + 1) 0
+
+-- The number of three bytes.
+unfoldable pub tripleAt : List ℕ → ℕ → ℕ
+tripleAt bytes i = getD bytes i 0 * 65536 + pairAt bytes (i + 1)
+
+-- The number of four bytes.
+unfoldable pub quadAt : List ℕ → ℕ → ℕ
+quadAt bytes i = getD bytes i 0 * 16777216 + tripleAt bytes (i + 1)
+
+-- The values of a function at 0, 1, .. up to before n.
+unfoldable pub tabulate : (ℕ → ℕ) → ℕ → List ℕ
+tabulate f zero = []
+tabulate f (suc n) = tabulate f n ++ (f n ∷ [])

@@ -1,0 +1,60 @@
+-- What stored bytes stand for in a run, and how many numbers are printed of what it ended in.
+use Prim.Native.Nat.{ℕ, zero, suc, _*_, _/_, min}
+use mathlib.Core.Bool.{Bool, true, false}
+use mathlib.Core.List.{List}
+use lib.ListN.{length, getD}
+use Rattle.columns.specs.declared.Interval.{Interval}
+use Rattle.columns.specs.declared.Start.{Start}
+use Rattle.columns.specs.declared.State.{State}
+use Rattle.columns.specs.declared.Upper.{Upper}
+use Rattle.columns.specs.declared.Upper.the-variants.{At, Endless}
+use Rattle.interpreter.specs.declared.Ran.{Ran}
+use Rattle.interpreter.specs.declared.Ran.the-variants.{Success, Failure, Refused, IllFormed}
+use Rattle.stored_cases.specs.Numbers.{pairAt, quadAt, tabulate}
+
+-- 0 is without end; any other number says that the end is a column.
+abbrev pub upperOf : ℕ → ℕ → Upper
+upperOf zero column = Endless
+upperOf (suc n) column = At column
+
+-- 0 is clear.
+abbrev pub flagOf : ℕ → Bool
+flagOf zero = false
+flagOf (suc n) = true
+
+-- The start of a run in 18 bytes.
+unfoldable pub startOf : List ℕ → Start
+startOf bytes =
+    record {
+      node = pairAt bytes 2;
+      place = quadAt bytes 6;
+      interval = record { lower = quadAt bytes 10; upper = upperOf (getD bytes 1 0) (quadAt bytes 14) };
+      flag = flagOf (getD bytes 0 0);
+      mode = pairAt bytes 4;
+    }
+
+-- The first n words of two bytes, and of four.
+abbrev pub firstPairs : ℕ → List ℕ → List ℕ
+firstPairs n bytes = tabulate (λ i. pairAt bytes (i * 2)) n
+
+abbrev pub firstQuads : ℕ → List ℕ → List ℕ
+firstQuads n bytes = tabulate (λ i. quadAt bytes (i * 4)) n
+
+-- The words of two bytes, no more of them than n; and those of four.
+abbrev pub pairs : ℕ → List ℕ → List ℕ
+pairs n bytes = firstPairs (min (length bytes / 2) n) bytes
+
+abbrev pub quads : ℕ → List ℕ → List ℕ
+quads n bytes = firstQuads (min (length bytes / 4) n) bytes
+
+-- How many numbers a success has: the tokens read, the lower end, and the upper end where it is a column.
+abbrev pub shownUpper : Upper → ℕ
+shownUpper (At column) = 3
+shownUpper Endless = 2
+
+-- How many numbers are printed of what a run ended in.
+abbrev pub shownCount : Ran → ℕ
+shownCount (Success read state) = shownUpper (state .interval .upper)
+shownCount Failure = 0
+shownCount (Refused number) = 1
+shownCount (IllFormed node) = 1
