@@ -5,3 +5,4 @@ pub mod Scan
 pub mod Steps
 pub mod InternalFind
 pub mod InternalIndex
+pub mod InternalChecks

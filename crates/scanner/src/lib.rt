@@ -20,6 +20,7 @@ ghost use Rattle.scanner.specs.Steps.{position, stepFails9, stepAnswer, 
 ghost use Rattle.scanner.specs.Steps.{numbers as stepNumbers};
 ghost use Rattle.scanner.specs.InternalFind.{Measured, moveOf, Ready, HandsOut};
 ghost use Rattle.scanner.specs.InternalIndex.{Indexed};
+ghost use Rattle.scanner.specs.InternalChecks.{Checks};
 use classes::is_refused;
 use find::Found;
 use find::find;
@@ -66,6 +67,12 @@ pub struct Step {
     pub mark: bool,
 }
 
+// How many keywords a grammar file has, or the number of the first check that fails.
+enum Checked {
+    Keywords(usize),
+    Refused(u8),
+}
+
 // How many tokens a report has, and whether the column of one is over the last.
 struct Tally {
     count: usize,
@@ -83,19 +90,10 @@ pub fn scan(file: &[u8], report: &[u8], tokens: &mut [u32]) -> Scanned
         (now (tokens .entry))
         ⌝ }
 {
-    let read = grammar_file::check(file);
-    match read {
-        FileRead::Refused(n) => Scanned::Refused(n),
-        FileRead::Read {
-            nodes: _,
-            rules: _,
-            keywords,
-            start: _,
-            mode: _,
-        } => {
-            if refused(report) {
-                return Scanned::Refused(refusals::REPORT);
-            }
+    let first = first_checks(file, report);
+    match first {
+        Checked::Refused(n) => Scanned::Refused(n),
+        Checked::Keywords(keywords) => {
             let m = measure(report);
             if m.over {
                 return Scanned::Refused(refusals::COLUMN);
@@ -120,19 +118,10 @@ pub fn next_token(file: &[u8], report: &[u8], at: usize, column: u32, mark: bool
         ⌝ }
     ensures { λ r. ⌜ positionOf r ≡ standing (stepNumbers (r .handed)) (now (report .entry)) (position at column mark) ⌝ }
 {
-    let read = grammar_file::check(file);
-    match read {
-        FileRead::Refused(n) => stay(n, at, column, mark),
-        FileRead::Read {
-            nodes: _,
-            rules: _,
-            keywords,
-            start: _,
-            mode: _,
-        } => {
-            if refused(report) {
-                return stay(refusals::REPORT, at, column, mark);
-            }
+    let first = first_checks(file, report);
+    match first {
+        Checked::Refused(n) => stay(n, at, column, mark),
+        Checked::Keywords(keywords) => {
             if report.len() < at {
                 return stay(refusals::REPORT, at, column, mark);
             }
@@ -144,6 +133,28 @@ pub fn next_token(file: &[u8], report: &[u8], at: usize, column: u32, mark: bool
                 return stay(refusals::COLUMN, at, column, mark);
             }
             hand_out(file, keywords, report, f)
+        }
+    }
+}
+
+// 1 to 5 of a grammar file and 8 of a report.
+fn first_checks(file: &[u8], report: &[u8]) -> Checked
+    ensures { λ r. ⌜ Checks (now (file .entry)) (now (report .entry)) r ⌝ }
+{
+    let read = grammar_file::check(file);
+    match read {
+        FileRead::Refused(n) => Checked::Refused(n),
+        FileRead::Read {
+            nodes: _,
+            rules: _,
+            keywords,
+            start: _,
+            mode: _,
+        } => {
+            if refused(report) {
+                return Checked::Refused(refusals::REPORT);
+            }
+            Checked::Keywords(keywords)
         }
     }
 }
