@@ -1,5 +1,4 @@
 pub mod ClassLaws
-pub mod FindLaws
 pub mod PlaceLaws
 pub mod LoopLaws
 pub mod StepLaws

@@ -13,11 +13,12 @@ use Rattle.byte_class.specs.Bytes.{classOf}
 use Rattle.byte_class.specs.declared.Class.{Class}
 use Rattle.byte_class.specs.declared.Class.the-variants.{Break, Tab, Blank, Single, Digit, Run, Refused}
 use Rattle.file_fields.proofs.FieldLaws.{from-one}
-use Rattle.scanner.specs.Columns.{columnBy, columnAfter, columnAt, columnOver}
-use Rattle.scanner.specs.Places.{Place, runClass, inRun, runLength, midRun, markBy, markAfter, hadToken, lineEnd, spelling, placeBy, placeAt, placesAt, places}
-use Rattle.scanner.specs.Steps.{Position, position, Move, move, nextPlace, nextIn}
-use Rattle.scanner.specs.InternalFind.{passedBy, passedOver, breakClass, isBreak, Room}
-use Rattle.scanner.proofs.FindLaws.{column-grows, over-move, run-move, break-move, single-move, run-more, run-none}
+use Rattle.places.specs.Columns.{columnBy, columnAfter, columnAt, columnOver}
+use Rattle.places.specs.Places.{Place, runClass, inRun, runLength}
+use Rattle.scanner.specs.Places.{midRun, markBy, markAfter, hadToken, lineEnd, spelling, placeBy, placeAt, placesAt, places}
+use Rattle.places.specs.Moves.{Position, position, Move, move, nextPlace, nextIn}
+use Rattle.places.specs.InternalFind.{passedBy, passedOver, breakClass, isBreak, Room}
+use Rattle.places.proofs.FindLaws.{column-grows, over-move, run-move, break-move, single-move, run-more, run-none}
 
 -- The places of some bytes, walked through: offset and column, whether the line has had a token, whether the byte before
 -- belongs to a run.

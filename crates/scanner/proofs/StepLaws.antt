@@ -20,15 +20,18 @@ use Rattle.table.proofs.AnswerLaws.{first-refuses, first-passes}
 use Rattle.scanner.specs.Places.{places}
 use Rattle.scanner.specs.Tokens.{tokenOf, tokens, tokenWords, wordsOf}
 use Rattle.scanner.specs.Scan.{mostBytes, fails8, fails9, fails10, scanTokens, scanAnswer}
-use Rattle.scanner.specs.Steps.{Position, nextIn, stepFails8, stepFails9, stepAnswer, standing, numbers, positionOf}
-use Rattle.scanner.specs.InternalFind.{Room, moveOf, Ready, HandsOut, Measured}
+use Rattle.places.specs.Moves.{Position, nextIn, nextWithin, moveOf}
+use Rattle.scanner.specs.Steps.{stepFails8, stepFails9, stepAnswer, standing, numbers, positionOf}
+use Rattle.places.specs.InternalFind.{Room}
+use Rattle.scanner.specs.InternalFind.{Ready, HandsOut, Measured}
 use Rattle.scanner.specs.InternalChecks.{firstAnswer, Passed, Checks, refuses, passed}
 use Rattle.scanner.specs.declared.Checked.{Checked}
 use Rattle.scanner.specs.declared.Checked.the-variants.{Keywords, Refused as NotChecked}
 use Rattle.scanner.specs.declared.Step.{Step}
 use Rattle.scanner.specs.declared.Handed.the-variants.{Refused}
 use Rattle.scanner.specs.declared.Tally.{Tally}
-use Rattle.scanner.specs.declared.find.Found.{Found}
+use Rattle.places.specs.declared.Found.{Found}
+use Rattle.places.proofs.FindLaws.{with-room}
 use Rattle.scanner.proofs.LoopLaws.{lies-inside}
 
 -- A report that number 8 passes is not over length.
@@ -123,10 +126,13 @@ module _ (file text : List ℕ) (p : Position) where
       step-column e w = stays 8 e (step-by false true (le-ltb (length text) (p .offset) a) (lt-ltb 524280 (p .column) w))
 
       module _ (b : p .column ≤ 524280) where
-        pub step-room : Room text (p .offset) (p .column)
+        step-room : Room text (p .offset) (p .column)
         step-room = record { within = a; fits = omega (arith, h .short) }
 
-        module _ (f : Found) (v : moveOf f ≡ nextIn text p) where
+        module _ (f : Found) (z : moveOf f ≡ nextWithin text p) where
+          v : moveOf f ≡ nextIn text p
+          v = z ∙ with-room text p step-room
+
           found : {w : Bool} → w ≡ stepFails9 (moveOf f .found)
               → refuseIf w 9 (given (Option·map (tokenOf (keywords (fieldsOf file)) text) (nextIn text p .found))) ≡ stepAnswer file text p
           found {w} q =
@@ -138,7 +144,7 @@ module _ (file text : List ℕ) (p : Position) where
           step-9 e w = stays 9 e (found w)
 
           pub step-ready : Ready text k f
-          step-ready = record { few = h .few; short = h .short; inside = λ q. lies-inside text p step-room f v q }
+          step-ready = record { few = h .few; short = h .short; inside = λ q. lies-inside text p step-room f z q }
 
           pub step-on : {s : Step} → HandsOut (keywordsFrom file k) text f s → false ≡ stepFails9 (moveOf f .found) → Right s
           step-on o w =

@@ -1,4 +1,3 @@
-pub mod Columns
 pub mod Places
 pub mod Tokens
 pub mod Scan

@@ -1,6 +1,5 @@
 // The report scanner: from the bytes of a report to tokens with columns (numbers 1 to 5 and 8 to 10).
 mod classes;
-mod find;
 mod index;
 mod terminals;
 
@@ -16,17 +15,18 @@ ghost use Rattle.scanner.specs.Places.{places};
 ghost use Rattle.scanner.specs.Tokens.{tokens as tokensOf, terminalAt, wordsOf};
 ghost use Rattle.scanner.specs.Scan.{fails8, scanTokens, scanAnswer};
 ghost use Rattle.scanner.specs.Scan.{numbers as scanNumbers};
-ghost use Rattle.scanner.specs.Steps.{position, stepFails9, stepAnswer, standing, positionOf};
+ghost use Rattle.places.specs.Moves.{position, moveOf};
+ghost use Rattle.scanner.specs.Steps.{stepFails9, stepAnswer, standing, positionOf};
 ghost use Rattle.scanner.specs.Steps.{numbers as stepNumbers};
-ghost use Rattle.scanner.specs.InternalFind.{Measured, moveOf, Ready, HandsOut};
+ghost use Rattle.scanner.specs.InternalFind.{Measured, Ready, HandsOut};
 ghost use Rattle.scanner.specs.InternalIndex.{Indexed};
 ghost use Rattle.scanner.specs.InternalChecks.{Checks};
 use classes::is_refused;
-use find::Found;
-use find::find;
 use grammar_file::FileRead;
 use index::link;
 use index::starts;
+use places::Found;
+use places::find;
 use table::refusals;
 use terminals::indexed;
 use terminals::terminal;

@@ -3,8 +3,8 @@ use borrow.Author.Needs.{needs}
 use Rattle.scanner.proofs.next_token.Statement.{statement}
 use Rattle.scanner.proofs.next_token.Tie as tie
 use mathlib.Core.Path.{sym, _∙_}
-use Rattle.scanner.specs.Steps.{position}
-use Rattle.scanner.proofs.StepLaws.{passed-of, step-first, step-offset, step-column, step-room, step-9, step-ready, step-on}
+use Rattle.places.specs.Moves.{position}
+use Rattle.scanner.proofs.StepLaws.{passed-of, step-first, step-offset, step-column, step-9, step-ready, step-on}
 
 returns : tie.Need-returns
 returns c =
@@ -20,13 +20,6 @@ returns-2 c =
     let args = first .before .before .before .before .before .args in
     step-column _ _ (position (args .at) (args .column) (args .mark)) h (c .before .before .if1 .left) (c .stay3 .ensures)
     (c .before .if2 .taken)
-
-find-requires : tie.Need-find-requires
-find-requires c κs =
-    let first = c .before .before .before in
-    let h = passed-of (first .before .before .first-checks .ensures) (first .first2 .given .1) in
-    let args = first .before .before .before .before .before .args in
-    step-room _ _ (position (args .at) (args .column) (args .mark)) h (c .before .if1 .left) (c .if2 .left)
 
 returns-3 : tie.Need-returns-3
 returns-3 c =
@@ -70,5 +63,5 @@ pub next-token-spec : {M : Type 1} → statement M
 next-token-spec =
     tie.close
     (tie.spec (λ c κs. search needs) (λ c. search needs) (λ c κs. search needs) (λ c. search needs)
-    (λ c κs. search needs) returns (λ c κs. search needs) returns-2 find-requires (λ c κs. search needs)
+    (λ c κs. search needs) returns (λ c κs. search needs) returns-2 (λ c κs. tt) (λ c κs. search needs)
     (λ c κs. search needs) returns-3 hand-out-requires returns-4 returns-5)

@@ -1,23 +1,50 @@
 -- Where the next token stands: bytes that are passed over, a run, a line's end and a single byte, by class; and the room
 -- for columns.
-use Prim.Native.Nat.{ℕ, suc, _+_, _-_, _≤_, _<_}
+use Prim.Native.Nat.{ℕ, suc, _+_, _-_, _*_, _/_, _≤_, _<_}
 use mathlib.Core.Path.{_≡_, refl, sym, ap, _∙_}
-use mathlib.Core.Bool.{Bool, true, false, true≢false, false≢true}
+use mathlib.Core.Bool.{Bool, true, false, or-true, true≢false, false≢true}
 use mathlib.Core.List.{List, [], _∷_}
-use mathlib.Core.Option.{some}
+use mathlib.Core.Option.{none}
 use lib.ListN.{length, getD, take, drop, drop-of-length-le}
+use lib.Seq.{drop-cons}
+use lib.Dec.{ltb}
+use native.Mathlib.Numerals.{add-one}
+use borrow.Author.Tests.{lt-ltb, le-ltb}
 use native.Mathlib.Nat.{le-of-eq}
 use native.Mathlib.Omega.{arith}
 use Rattle.byte_class.specs.Bytes.{classOf}
 use Rattle.byte_class.specs.declared.Class.{Class}
 use Rattle.byte_class.specs.declared.Class.the-variants.{Break, Tab, Blank, Single, Digit, Run, Refused}
-use Rattle.file_fields.proofs.FieldLaws.{from-one}
-use Rattle.scanner.specs.Columns.{columnBy, columnAfter, columnOver}
-use Rattle.scanner.specs.Places.{runClass, inRun, runLength}
-use Rattle.scanner.specs.Steps.{Position, position, Move, move, moveBy, nextPlace, nextIn}
-use Rattle.scanner.specs.InternalFind.{passedBy, passedOver, breakClass, isBreak, Room, Skipped, RunEnd, moveOf}
-use Rattle.scanner.specs.declared.find.Spot.{Spot}
-use Rattle.scanner.specs.declared.find.Found.{Found}
+use Rattle.places.specs.Columns.{columnBy, columnAfter, columnOver}
+use Rattle.places.specs.Places.{runClass, inRun, runLength}
+use Rattle.places.specs.Moves.{Position, position, Move, move, moveBy, nextPlace, nextIn, nextWithin, moveOf}
+use Rattle.places.specs.InternalFind.{passedBy, passedOver, breakClass, isBreak, Room, Skipped, RunEnd}
+use Rattle.places.specs.declared.Spot.{Spot}
+use Rattle.places.specs.declared.Found.{Found}
+
+-- The bytes from an offset on.
+pub from-one : (text : List ℕ) (i : ℕ) → i < length text → drop i text ≡ getD text i 0 ∷ drop (i + 1) text
+from-one text i h = rw (add-one, drop-cons text i 0)
+
+-- Where there is room for the columns, and where there is none.
+module _ (text : List ℕ) (p : Position) where
+  pub past-end : {m : Move} → m ≡ record { found = none; reached = p } → length text < p .offset → m ≡ nextWithin text p
+  unfolding nextWithin
+  past-end e h = e ∙ rw (lt-ltb (length text) (p .offset) h) refl
+
+  pub no-room :
+      {m : Move}
+      → m ≡ record { found = none; reached = p }
+      → (4294967295 - p .column) / 8 < length text - p .offset
+      → m ≡ nextWithin text p
+  unfolding nextWithin
+  no-room e h = e ∙ rw (lt-ltb 4294967295 (p .column + 8 * (length text - p .offset)) (omega arith), or-true) refl
+
+  pub with-room : Room text (p .offset) (p .column) → nextWithin text p ≡ nextIn text p
+  unfolding nextWithin
+  with-room r =
+      rw (le-ltb (length text) (p .offset) (r .within), le-ltb 4294967295 (p .column + 8 * (length text - p .offset)) (omega (arith, r .fits)))
+      refl
 
 -- A byte moves the column by 8 at most.
 column-by : (k : Class) (c : ℕ) → columnBy k c ≤ c + 8

@@ -1,21 +1,27 @@
 // Where the next token of a report stands.
+mod classes;
+
 ghost use mathlib.Core.Path.{_≡_};
 ghost use mathlib.Core.Bool.{true, false};
-ghost use Rattle.scanner.specs.Steps.{position, nextIn};
-ghost use Rattle.scanner.specs.InternalFind.{Room, RunEnd, Skipped, moveOf};
-use crate::classes::column_after;
-use crate::classes::in_run;
-use crate::classes::is_break;
-use crate::classes::passes;
+ghost use mathlib.Core.Option.{none};
+ghost use Rattle.places.specs.Moves.{position, nextIn, nextWithin, moveOf};
+ghost use Rattle.places.specs.InternalFind.{Room, RunEnd, Skipped};
+use classes::column_after;
+use classes::in_run;
+use classes::is_break;
+use classes::passes;
+
+// The last column that 32 bits hold.
+const LAST: u32 = 4294967295;
 
 // An offset with its column.
-pub(crate) struct Spot {
-    pub at: usize,
-    pub column: u32,
+struct Spot {
+    at: usize,
+    column: u32,
 }
 
 // A token's place, if there is one, and the offset, column and mark behind it.
-pub(crate) struct Found {
+pub struct Found {
     pub any: bool,
     pub ends: bool,
     pub column: u32,
@@ -60,8 +66,39 @@ fn run_end(report: &[u8], first: usize, start: u32) -> Spot
     Spot { at, column }
 }
 
-// The next token's place from a position on.
-pub(crate) fn find(report: &[u8], at: usize, column: u32, mark: bool) -> Found
+// The next token's place from a position on; nothing, and the position itself, where the offset is past the report or its
+// columns have no room.
+pub fn find(report: &[u8], at: usize, column: u32, mark: bool) -> Found
+    ensures { λ r. ⌜ moveOf r ≡ nextWithin (now (report .entry)) (position at column mark) ⌝ }
+{
+    if report.len() < at {
+        return nothing(at, column, mark);
+    }
+    let room = (LAST - column) / 8;
+    if (room as usize) < report.len() - at {
+        return nothing(at, column, mark);
+    }
+    find_within(report, at, column, mark)
+}
+
+// Nothing at a position.
+fn nothing(at: usize, column: u32, mark: bool) -> Found
+    ensures { λ r. ⌜ moveOf r ≡ record { found = none; reached = position at column mark } ⌝ }
+{
+    Found {
+        any: false,
+        ends: false,
+        column,
+        offset: at,
+        length: 0,
+        at,
+        reached: column,
+        mark,
+    }
+}
+
+// The next token's place where there is room.
+fn find_within(report: &[u8], at: usize, column: u32, mark: bool) -> Found
     requires { ⌜ Room (now report) at column ⌝ }
     ensures { λ r. ⌜ moveOf r ≡ nextIn (now (report .entry)) (position at column mark) ⌝ }
 {

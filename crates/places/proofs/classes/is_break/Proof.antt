@@ -1,7 +1,7 @@
--- `scanner::classes::is_break` meets its contract.
-use Rattle.scanner.proofs.ClassLaws.{classes}
-use Rattle.scanner.proofs.classes.is_break.Statement.{statement}
-use Rattle.scanner.proofs.classes.is_break.Tie as tie
+-- `places::classes::is_break` meets its contract.
+use Rattle.places.proofs.ClassLaws.{classes}
+use Rattle.places.proofs.classes.is_break.Statement.{statement}
+use Rattle.places.proofs.classes.is_break.Tie as tie
 
 pub is-break-spec : {M : Type 1} → statement M
 is-break-spec =

@@ -1,7 +1,7 @@
--- `scanner::classes::passes` meets its contract.
-use Rattle.scanner.proofs.ClassLaws.{classes}
-use Rattle.scanner.proofs.classes.passes.Statement.{statement}
-use Rattle.scanner.proofs.classes.passes.Tie as tie
+-- `places::classes::passes` meets its contract.
+use Rattle.places.proofs.ClassLaws.{classes}
+use Rattle.places.proofs.classes.passes.Statement.{statement}
+use Rattle.places.proofs.classes.passes.Tie as tie
 
 pub passes-spec : {M : Type 1} → statement M
 passes-spec =

@@ -1,10 +1,10 @@
--- `scanner::find::find` meets its contract.
+-- `places::find_within` meets its contract.
 use borrow.Author.Needs.{needs}
-use Rattle.scanner.proofs.find.find.Statement.{statement}
-use Rattle.scanner.proofs.find.find.Tie as tie
+use Rattle.places.proofs.find_within.Statement.{statement}
+use Rattle.places.proofs.find_within.Tie as tie
 use native.Mathlib.Omega.{arith}
 use mathlib.Core.Path.{sym, _∙_}
-use Rattle.scanner.proofs.FindLaws.{found-end, found-run, found-break, found-single}
+use Rattle.places.proofs.FindLaws.{found-end, found-run, found-break, found-single}
 
 skip-requires : tie.Need-skip-requires
 skip-requires c κs = c .before .pre
@@ -72,8 +72,8 @@ returns-4 c =
     (sym (is-break .ensures) ∙ c .before .before .if3 .left) (c .before .column-after .ensures)
     (c .spelling2 .ensures)
 
-pub find-spec : {M : Type 1} → statement M
-find-spec =
+pub find-within-spec : {M : Type 1} → statement M
+find-within-spec =
     tie.close
     (tie.spec skip-requires (λ c κs. search needs) returns shared-slice-read-b (λ c κs. search needs)
     run-end-requires sub-spelling (λ c κs. search needs) returns-2 (λ c κs. search needs) add-line-end

@@ -1,7 +1,7 @@
--- `scanner::classes::in_run` meets its contract.
-use Rattle.scanner.proofs.ClassLaws.{classes}
-use Rattle.scanner.proofs.classes.in_run.Statement.{statement}
-use Rattle.scanner.proofs.classes.in_run.Tie as tie
+-- `places::classes::in_run` meets its contract.
+use Rattle.places.proofs.ClassLaws.{classes}
+use Rattle.places.proofs.classes.in_run.Statement.{statement}
+use Rattle.places.proofs.classes.in_run.Tie as tie
 
 pub in-run-spec : {M : Type 1} → statement M
 in-run-spec =

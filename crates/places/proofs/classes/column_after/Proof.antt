@@ -1,7 +1,7 @@
--- `scanner::classes::column_after` meets its contract.
-use Rattle.scanner.proofs.ClassLaws.{classes}
-use Rattle.scanner.proofs.classes.column_after.Statement.{statement}
-use Rattle.scanner.proofs.classes.column_after.Tie as tie
+-- `places::classes::column_after` meets its contract.
+use Rattle.places.proofs.ClassLaws.{classes}
+use Rattle.places.proofs.classes.column_after.Statement.{statement}
+use Rattle.places.proofs.classes.column_after.Tie as tie
 
 pub column-after-spec : {M : Type 1} → statement M
 column-after-spec =
