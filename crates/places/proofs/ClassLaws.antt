@@ -7,7 +7,7 @@ use Rattle.byte_class.specs.Bytes.{classOf}
 use Rattle.byte_class.specs.declared.Class.{Class}
 use Rattle.places.specs.Columns.{columnBy, columnAfter}
 use Rattle.places.specs.Places.{runClass, inRun}
-use Rattle.places.specs.InternalFind.{passedBy, passedOver, breakClass, isBreak}
+use Rattle.places.specs.InternalFind.{passedBy, passedOver}
 
 module _ (b : ℕ) {r k : Class} (e : r ≡ classOf b) (told : r ≡ k) where
   pub by-class : {A : Type 0} (f : Class → A) {v : A} → f k ≡ v → v ≡ f (classOf b)
@@ -25,8 +25,4 @@ module _ (b : ℕ) {r k : Class} (e : r ≡ classOf b) (told : r ≡ k) where
   unfolding passedOver
   passed-class m w = by-class (λ class. passedBy class m) w
 
-  pub break-class : {v : Bool} → breakClass k ≡ v → v ≡ isBreak b
-  unfolding isBreak
-  break-class w = by-class breakClass w
-
-pub ruleset classes = (needs, column-class, run-class, passed-class, break-class)
+pub ruleset classes = (needs, column-class, run-class, passed-class)

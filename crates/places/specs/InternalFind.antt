@@ -11,6 +11,7 @@ use Rattle.places.specs.Columns.{columnOver}
 use Rattle.places.specs.Places.{runLength}
 use Rattle.places.specs.Moves.{position, nextIn}
 use Rattle.places.specs.declared.Spot.{Spot}
+use Rattle.places.specs.declared.Found.{Found}
 
 -- A byte that begins and ends no token.
 abbrev pub passedBy : Class → Bool → Bool
@@ -24,18 +25,6 @@ passedBy Refused m = true
 
 unfoldable pub passedOver : ℕ → Bool → Bool
 passedOver byte m = passedBy (classOf byte) m
-
-abbrev pub breakClass : Class → Bool
-breakClass Break = true
-breakClass Tab = false
-breakClass Blank = false
-breakClass Single = false
-breakClass Digit = false
-breakClass Run = false
-breakClass Refused = false
-
-unfoldable pub isBreak : ℕ → Bool
-isBreak byte = breakClass (classOf byte)
 
 -- An offset in a text, and a column that no byte behind it makes too large.
 pub record Room (text : List ℕ) (at column : ℕ) : Type 0 where
@@ -51,3 +40,12 @@ pub record RunEnd (text : List ℕ) (first start : ℕ) (s : Spot) : Type 0 wher
   pub ends : s .at ≡ first + runLength (drop first text)
   pub within : s .at ≤ length text
   pub column : s .column ≡ columnOver (take (runLength (drop first text)) (drop first text)) start
+
+-- A line's end, and a single byte or a run, as they are found.
+abbrev pub endFound : Bool → ℕ → ℕ → ℕ → ℕ → Found
+endFound any c o at reached =
+    record { any = any; ends = true; column = c; offset = o; length = 0; at = at; reached = reached; mark = false }
+
+abbrev pub spellingFound : ℕ → ℕ → ℕ → ℕ → ℕ → Found
+spellingFound c o n at reached =
+    record { any = true; ends = false; column = c; offset = o; length = n; at = at; reached = reached; mark = true }

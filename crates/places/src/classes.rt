@@ -3,7 +3,7 @@ ghost use mathlib.Core.Path.{_≡_};
 ghost use Prim.Native.Nat.{_+_, _<_, _^_};
 ghost use Rattle.places.specs.Columns.{columnAfter};
 ghost use Rattle.places.specs.Places.{inRun};
-ghost use Rattle.places.specs.InternalFind.{passedOver, isBreak};
+ghost use Rattle.places.specs.InternalFind.{passedOver};
 use byte_class::Class;
 use byte_class::class_of;
 
@@ -53,20 +53,5 @@ pub(crate) fn passes(b: u8, mark: bool) -> bool
         Class::Digit => false,
         Class::Run => false,
         Class::Refused => true,
-    }
-}
-
-pub(crate) fn is_break(b: u8) -> bool
-    ensures { λ r. ⌜ r ≡ isBreak b ⌝ }
-{
-    let class = class_of(b);
-    match class {
-        Class::Break => true,
-        Class::Tab => false,
-        Class::Blank => false,
-        Class::Single => false,
-        Class::Digit => false,
-        Class::Run => false,
-        Class::Refused => false,
     }
 }

@@ -2,13 +2,11 @@
 mod classes;
 
 ghost use mathlib.Core.Path.{_≡_};
-ghost use mathlib.Core.Bool.{true, false};
 ghost use mathlib.Core.Option.{none};
 ghost use Rattle.places.specs.Moves.{position, nextIn, nextWithin, moveOf};
-ghost use Rattle.places.specs.InternalFind.{Room, RunEnd, Skipped};
+ghost use Rattle.places.specs.InternalFind.{Room, RunEnd, Skipped, endFound, spellingFound};
 use classes::column_after;
 use classes::in_run;
-use classes::is_break;
 use classes::passes;
 
 // The last column that 32 bits hold.
@@ -114,7 +112,8 @@ fn find_within(report: &[u8], at: usize, column: u32, mark: bool) -> Found
         let next = end.at;
         return spelling(place, offset, next - offset, next, end.column);
     }
-    if is_break(b) {
+    // Of the bytes that stand here only a break is passed over where the line has had no token.
+    if passes(b, false) {
         return line_end(true, place, offset, offset + 1, 0);
     }
     spelling(place, offset, 1, offset + 1, column_after(b, place))
@@ -122,19 +121,7 @@ fn find_within(report: &[u8], at: usize, column: u32, mark: bool) -> Found
 
 // The end of a line that has had a token, or nothing.
 fn line_end(any: bool, column: u32, offset: usize, at: usize, reached: u32) -> Found
-    ensures { λ r. ⌜
-        r
-        ≡ record {
-          any = any;
-          ends = true;
-          column = column;
-          offset = offset;
-          length = 0;
-          at = at;
-          reached = reached;
-          mark = false;
-        }
-        ⌝ }
+    ensures { λ r. ⌜ r ≡ endFound any column offset at reached ⌝ }
 {
     Found {
         any,
@@ -150,19 +137,7 @@ fn line_end(any: bool, column: u32, offset: usize, at: usize, reached: u32) -> F
 
 // A single byte or a run.
 fn spelling(column: u32, offset: usize, length: usize, at: usize, reached: u32) -> Found
-    ensures { λ r. ⌜
-        r
-        ≡ record {
-          any = true;
-          ends = false;
-          column = column;
-          offset = offset;
-          length = length;
-          at = at;
-          reached = reached;
-          mark = true;
-        }
-        ⌝ }
+    ensures { λ r. ⌜ r ≡ spellingFound column offset length at reached ⌝ }
 {
     Found {
         any: true,

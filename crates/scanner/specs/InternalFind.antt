@@ -6,14 +6,19 @@ use mathlib.Core.List.{List}
 use mathlib.Core.Option.{Option·map}
 use lib.ListN.{length}
 use Rattle.table.specs.Answer.{given}
+use Rattle.file_fields.specs.Offsets.{keywordsFrom}
 use Rattle.places.specs.Moves.{moveOf}
 use Rattle.places.specs.declared.Found.{Found}
 use Rattle.scanner.specs.Places.{places}
-use Rattle.scanner.specs.Tokens.{tokenOf}
+use Rattle.scanner.specs.Tokens.{tokenOf, terminalAt}
 use Rattle.scanner.specs.Scan.{overColumn}
 use Rattle.scanner.specs.Steps.{positionOf, numbers}
 use Rattle.scanner.specs.declared.Tally.{Tally}
 use Rattle.scanner.specs.declared.Step.{Step}
+
+-- The terminal of a place that was found, by the first keywords of a file.
+abbrev pub terminalOf : List ℕ → ℕ → List ℕ → Found → ℕ
+terminalOf file count text f = terminalAt (keywordsFrom file count) text (f .ends) (f .offset) (f .length)
 
 -- A place that was found in a report within the limits.
 pub record Ready (text : List ℕ) (keywords : ℕ) (f : Found) : Type 0 where

@@ -12,13 +12,13 @@ ghost use lib.ListN.{length, take, drop};
 ghost use Rattle.table.specs.Answer.{afterwards};
 ghost use Rattle.file_fields.specs.Offsets.{keywordsFrom};
 ghost use Rattle.scanner.specs.Places.{places};
-ghost use Rattle.scanner.specs.Tokens.{tokens as tokensOf, terminalAt, wordsOf};
+ghost use Rattle.scanner.specs.Tokens.{tokens as tokensOf, wordsOf};
 ghost use Rattle.scanner.specs.Scan.{fails8, scanTokens, scanAnswer};
 ghost use Rattle.scanner.specs.Scan.{numbers as scanNumbers};
 ghost use Rattle.places.specs.Moves.{position, moveOf};
 ghost use Rattle.scanner.specs.Steps.{stepFails9, stepAnswer, standing, positionOf};
 ghost use Rattle.scanner.specs.Steps.{numbers as stepNumbers};
-ghost use Rattle.scanner.specs.InternalFind.{Measured, Ready, HandsOut};
+ghost use Rattle.scanner.specs.InternalFind.{terminalOf, Measured, Ready, HandsOut};
 ghost use Rattle.scanner.specs.InternalIndex.{Indexed};
 ghost use Rattle.scanner.specs.InternalChecks.{Checks};
 use classes::is_refused;
@@ -209,11 +209,7 @@ fn hand_out(file: &[u8], keywords: usize, report: &[u8], f: Found) -> Step
 fn terminal_at(file: &[u8], keywords: usize, report: &[u8], f: Found) -> u32
     requires { ⌜ Ready (now report) keywords f ⌝ }
     requires { ⌜ f .any ≡ true ⌝ }
-    ensures { λ r. ⌜
-        r
-        ≡ terminalAt (keywordsFrom (now (file .entry)) keywords) (now (report .entry)) (f .ends) (f .offset)
-        (f .length)
-        ⌝ }
+    ensures { λ r. ⌜ r ≡ terminalOf (now (file .entry)) keywords (now (report .entry)) f ⌝ }
 {
     if f.ends {
         return 2;
@@ -233,11 +229,7 @@ fn indexed_at(
 ) -> u32
     requires { ⌜ Indexed (now file) keywords (now offsets) (now firsts) (now nexts) ⌝ }
     requires { ⌜ f .offset + f .length ≤ length (now report) ⌝ }
-    ensures { λ r. ⌜
-        r
-        ≡ terminalAt (keywordsFrom (now (file .entry)) keywords) (now (report .entry)) (f .ends) (f .offset)
-        (f .length)
-        ⌝ }
+    ensures { λ r. ⌜ r ≡ terminalOf (now (file .entry)) keywords (now (report .entry)) f ⌝ }
 {
     if f.ends {
         return 2;

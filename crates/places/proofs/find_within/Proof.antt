@@ -47,7 +47,7 @@ returns-3 c =
     let start = c .before .before .before .before .before .before .before .before .before in
     found-break (start .args .report .now) (start .args .at) (start .args .column) (start .args .mark) (skip .result)
     (skip .ensures) (omega (arith, skip .ensures .room .within, if1 .left))
-    (sym (c .before .before .is-break .ensures) ∙ c .before .if3 .taken) (c .line-end2 .ensures)
+    (sym (c .before .before .passes .ensures) ∙ c .before .if3 .taken) (c .line-end2 .ensures)
 
 add-spelling : tie.Need-add-spelling
 add-spelling c =
@@ -61,7 +61,7 @@ column-after-requires c κs =
 
 returns-4 : tie.Need-returns-4
 returns-4 c =
-    let is-break = c .before .before .before .is-break in
+    let passes = c .before .before .before .passes in
     let if2 = c .before .before .before .before .if2 in
     let in-run = c .before .before .before .before .before .in-run in
     let if1 = c .before .before .before .before .before .before .before .if1 in
@@ -69,7 +69,7 @@ returns-4 c =
     let start = c .before .before .before .before .before .before .before .before .before .before in
     found-single (start .args .report .now) (start .args .at) (start .args .column) (start .args .mark) (skip .result)
     (skip .ensures) (omega (arith, skip .ensures .room .within, if1 .left)) (sym (in-run .ensures) ∙ if2 .left)
-    (sym (is-break .ensures) ∙ c .before .before .if3 .left) (c .before .column-after .ensures)
+    (sym (passes .ensures) ∙ c .before .before .if3 .left) (c .before .column-after .ensures)
     (c .spelling2 .ensures)
 
 pub find-within-spec : {M : Type 1} → statement M
