@@ -13,11 +13,13 @@ use Rattle.table.proofs.Every.{both-false}
 use Rattle.table.specs.Answer.{Answer, given, refused, refusedAt, refuseIf, andThen}
 use Rattle.table.proofs.AnswerLaws.{first-refuses, first-names, first-passes}
 use Rattle.grammar_file.specs.File.{Contents, keywords, fieldsOf, fileAnswer}
-use Rattle.scanner.specs.Places.{Place, places}
+use Rattle.places.specs.Places.{Place}
+use Rattle.scanner.specs.Places.{places}
 use Rattle.scanner.specs.Tokens.{Token, tokenOf, tokens}
 use Rattle.scanner.specs.Scan.{fails8, fails9, fails10, overColumn, scanTokens, scanAnswer}
-use Rattle.scanner.specs.Steps.{Position, position, nextIn, stepFails9, stepAnswer, standing, handOn, handedOut}
-use Rattle.scanner.specs.InternalFind.{Room}
+use Rattle.places.specs.Moves.{Position, position, nextIn}
+use Rattle.scanner.specs.Steps.{stepFails9, stepAnswer, standing, handOn, handedOut}
+use Rattle.places.specs.InternalFind.{Room}
 use Rattle.scanner.proofs.PlaceLaws.{listed, placesFrom, onward, places-from}
 use Rattle.scanner.proofs.StepLaws.{short-report, step-passes8}
 

@@ -1,4 +1,4 @@
-pub mod FindLaws
+pub mod ClassLaws
 pub mod PlaceLaws
 pub mod LoopLaws
 pub mod StepLaws

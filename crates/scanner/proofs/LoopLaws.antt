@@ -11,12 +11,15 @@ use Rattle.table.specs.Limits.{mostColumn}
 use Rattle.file_fields.proofs.Lists.{four-more, length-written}
 use Rattle.table.specs.Words.{eachWords}
 use Rattle.table.proofs.Words.{words-append, length-words}
-use Rattle.scanner.specs.Places.{Place, places}
+use Rattle.places.specs.Places.{Place}
+use Rattle.scanner.specs.Places.{places}
 use Rattle.scanner.specs.Tokens.{Token, tokenOf, terminalAt, tokens, tokenWords, wordsOf}
 use Rattle.scanner.specs.Scan.{overColumn}
-use Rattle.scanner.specs.Steps.{Position, position, nextIn}
-use Rattle.scanner.specs.InternalFind.{Room, moveOf, Measured}
-use Rattle.scanner.specs.declared.find.Found.{Found}
+use Rattle.places.specs.Moves.{Position, position, nextWithin, moveOf}
+use Rattle.places.specs.InternalFind.{Room}
+use Rattle.scanner.specs.InternalFind.{Measured}
+use Rattle.places.specs.declared.Found.{Found}
+use Rattle.places.proofs.FindLaws.{with-room}
 use Rattle.scanner.proofs.PlaceLaws.{listed, insideOf, fallsOf, placesFrom, left, Onward, onward, places-from}
 
 -- The place that was found, and the position behind it.
@@ -26,9 +29,9 @@ placeOf f = record { ends = f .ends; column = f .column; offset = f .offset; len
 abbrev pub behind : Found → Position
 behind f = position (f .at) (f .reached) (f .mark)
 
-module _ (text : List ℕ) (p : Position) (r : Room text (p .offset) (p .column)) (f : Found) (e : moveOf f ≡ nextIn text p) where
+module _ (text : List ℕ) (p : Position) (r : Room text (p .offset) (p .column)) (f : Found) (e : moveOf f ≡ nextWithin text p) where
   on : Onward text p (moveOf f)
-  on = subst (Onward text p) (sym e) (onward text p r)
+  on = subst (Onward text p) (sym (e ∙ with-room text p r)) (onward text p r)
 
   pub room-behind : Room text (f .at) (f .reached)
   room-behind = on .room
@@ -66,7 +69,7 @@ counting-start text h =
       fits = omega arith;
     }
 
-module _ (text : List ℕ) (count : ℕ) (over : Bool) (p : Position) (k : Counting text count over p) (f : Found) (e : moveOf f ≡ nextIn text p) where
+module _ (text : List ℕ) (count : ℕ) (over : Bool) (p : Position) (k : Counting text count over p) (f : Found) (e : moveOf f ≡ nextWithin text p) where
   pub counting-ends : f .any ≡ false → Measured text (record { count = count; over = over })
   unfolding overColumn
   counting-ends h =
@@ -118,7 +121,7 @@ module _ (keywords : List (List ℕ)) (text old : List ℕ) where
     pub out-length : length (places text) * 4 ≤ length old → length out ≡ length old
     out-length h = ap length (k .words) ∙ length-written (wordsOf (map (tokenOf keywords text) (k .done))) old to front (omega (arith, total, k .at))
 
-    module _ (f : Found) (e : moveOf f ≡ nextIn text p) where
+    module _ (f : Found) (e : moveOf f ≡ nextWithin text p) where
       pub writing-ends : f .any ≡ false → out ≡ wordsOf (tokens keywords text) ++ drop (length (places text) * 4) old
       unfolding tokens
       writing-ends h =

@@ -13,11 +13,12 @@ use Rattle.byte_class.specs.Bytes.{classOf}
 use Rattle.byte_class.specs.declared.Class.{Class}
 use Rattle.byte_class.specs.declared.Class.the-variants.{Break, Tab, Blank, Single, Digit, Run, Refused}
 use Rattle.file_fields.proofs.FieldLaws.{from-one}
-use Rattle.scanner.specs.Columns.{columnBy, columnAfter, columnAt, columnOver}
-use Rattle.scanner.specs.Places.{Place, runClass, inRun, runLength, midRun, markBy, markAfter, hadToken, lineEnd, spelling, placeBy, placeAt, placesAt, places}
-use Rattle.scanner.specs.Steps.{Position, position, Move, move, nextPlace, nextIn}
-use Rattle.scanner.specs.InternalFind.{passedBy, passedOver, breakClass, isBreak, Room}
-use Rattle.scanner.proofs.FindLaws.{column-grows, over-move, run-move, break-move, single-move, run-more, run-none}
+use Rattle.places.specs.Columns.{columnBy, columnAfter, columnAt, columnOver}
+use Rattle.places.specs.Places.{Place, runClass, inRun, runLength}
+use Rattle.scanner.specs.Places.{midRun, markBy, markAfter, hadToken, lineEnd, spelling, placeBy, placeAt, placesAt, places}
+use Rattle.places.specs.Moves.{Position, position, Move, move, nextPlace, nextIn}
+use Rattle.places.specs.InternalFind.{passedBy, passedOver, Room}
+use Rattle.places.proofs.FindLaws.{column-grows, over-move, run-move, break-move, single-move, run-more, run-none}
 
 -- The places of some bytes, walked through: offset and column, whether the line has had a token, whether the byte before
 -- belongs to a run.
@@ -93,18 +94,18 @@ over-places Digit m c o n e = absurd (false≢true e)
 over-places Run m c o n e = absurd (false≢true e)
 over-places Refused m c o n e = (refl, refl, refl)
 
-break-places : (k : Class) (m : Bool) (c o n : ℕ) → breakClass k ≡ true → passedBy k m ≡ false
+break-places : (k : Class) (m : Bool) (c o n : ℕ) → passedBy k false ≡ true → passedBy k m ≡ false
     → (placeBy k m false c o n ≡ lineEnd true c o) × (markBy k m ≡ false) × (runClass k ≡ false) × (columnBy k c ≡ 0)
 break-places Break true c o n e p = (refl, refl, refl, refl)
 break-places Break false c o n e p = absurd (true≢false p)
-break-places Tab m c o n e p = absurd (false≢true e)
-break-places Blank m c o n e p = absurd (false≢true e)
+break-places Tab m c o n e p = absurd (true≢false p)
+break-places Blank m c o n e p = absurd (true≢false p)
 break-places Single m c o n e p = absurd (false≢true e)
 break-places Digit m c o n e p = absurd (false≢true e)
 break-places Run m c o n e p = absurd (false≢true e)
-break-places Refused m c o n e p = absurd (false≢true e)
+break-places Refused m c o n e p = absurd (true≢false p)
 
-single-places : (k : Class) (m : Bool) (c o n : ℕ) → runClass k ≡ false → breakClass k ≡ false → passedBy k m ≡ false
+single-places : (k : Class) (m : Bool) (c o n : ℕ) → runClass k ≡ false → passedBy k false ≡ false → passedBy k m ≡ false
     → (placeBy k m false c o n ≡ spelling c o 1) × (markBy k m ≡ true)
 single-places Break m c o n e b p = absurd (true≢false b)
 single-places Tab m c o n e b p = absurd (true≢false p)
@@ -260,8 +261,8 @@ goes-run b bytes o c m e =
     })
 
 -- A line's end by a break, and a single byte.
-goes-break : (b : ℕ) (bytes : List ℕ) (o c : ℕ) (m : Bool) → isBreak b ≡ true → passedOver b m ≡ false → Goes (b ∷ bytes) o c m (nextPlace (b ∷ bytes) o c m)
-unfolding placesOf markAfter inRun isBreak passedOver columnAfter
+goes-break : (b : ℕ) (bytes : List ℕ) (o c : ℕ) (m : Bool) → passedOver b false ≡ true → passedOver b m ≡ false → Goes (b ∷ bytes) o c m (nextPlace (b ∷ bytes) o c m)
+unfolding placesOf markAfter inRun passedOver columnAfter
 goes-break b bytes o c m e p =
     let q = break-places (classOf b) m c o (runLength (b ∷ bytes)) e p in
     rw (break-move b bytes o c m e p)
@@ -280,10 +281,10 @@ goes-break b bytes o c m e p =
 goes-single :
     (b : ℕ) (bytes : List ℕ) (o c : ℕ) (m : Bool)
     → inRun b ≡ false
-    → isBreak b ≡ false
+    → passedOver b false ≡ false
     → passedOver b m ≡ false
     → Goes (b ∷ bytes) o c m (nextPlace (b ∷ bytes) o c m)
-unfolding placesOf markAfter inRun isBreak passedOver
+unfolding placesOf markAfter inRun passedOver
 goes-single b bytes o c m e k p =
     let q = single-places (classOf b) m c o (runLength (b ∷ bytes)) e k p in
     rw (single-move b bytes o c m e k p)
@@ -306,7 +307,7 @@ goes-end o c true = record { steps = 0; reached = sym (add-zero o); within = ome
 goes-end o c false = record { steps = 0; reached = sym (add-zero o); within = omega arith; wide = omega arith; list = refl; inside = tt; falls = tt }
 
 -- Every move goes so.
-goes-first : (b : ℕ) (bytes : List ℕ) (o c : ℕ) (m : Bool) (over run brk : Bool) → passedOver b m ≡ over → inRun b ≡ run → isBreak b ≡ brk
+goes-first : (b : ℕ) (bytes : List ℕ) (o c : ℕ) (m : Bool) (over run brk : Bool) → passedOver b m ≡ over → inRun b ≡ run → passedOver b false ≡ brk
     → Goes bytes (o + 1) (columnAfter b c) m (nextPlace bytes (o + 1) (columnAfter b c) m) → Goes (b ∷ bytes) o c m (nextPlace (b ∷ bytes) o c m)
 goes-first b bytes o c m true run brk p e k g = goes-over b bytes o c m p g
 goes-first b bytes o c m false true brk p e k g = goes-run b bytes o c m e
@@ -315,7 +316,7 @@ goes-first b bytes o c m false false false p e k g = goes-single b bytes o c m e
 
 goes : (bytes : List ℕ) (o c : ℕ) (m : Bool) → Goes bytes o c m (nextPlace bytes o c m)
 goes [] o c m = goes-end o c m
-goes (b ∷ bytes) o c m = goes-first b bytes o c m (passedOver b m) (inRun b) (isBreak b) refl refl refl (goes bytes (o + 1) (columnAfter b c) m)
+goes (b ∷ bytes) o c m = goes-first b bytes o c m (passedOver b m) (inRun b) (passedOver b false) refl refl refl (goes bytes (o + 1) (columnAfter b c) m)
 
 -- The places of a text from a position on, and how much is left there.
 unfoldable pub placesFrom : List ℕ → Position → List Place

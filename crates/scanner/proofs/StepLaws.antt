@@ -1,6 +1,6 @@
 -- What a step and a whole scan answer, check by check.
-use Prim.Native.Nat.{ℕ, _*_, _/_, _≤_, _<_}
-use mathlib.Core.Path.{_≡_, refl, sym, ap, ap₂, _∙_}
+use Prim.Native.Nat.{ℕ, _+_, _-_, _*_, _/_, _^_, _≤_, _<_}
+use mathlib.Core.Path.{_≡_, refl, sym, ap, ap₂, subst, _∙_}
 use mathlib.Core.Bool.{Bool, true, false, not, _||_, or-true}
 use mathlib.Core.List.{List, _++_}
 use mathlib.Core.Option.{Option·map}
@@ -11,122 +11,188 @@ use lib.Dec.{ltb}
 use native.Mathlib.Omega.{arith}
 use borrow.Author.Tests.{lt-ltb, le-ltb, ltb-false}
 use Rattle.table.proofs.Every.{both-false}
-use Rattle.table.specs.Answer.{given, refused, refuseIf, afterwards}
-use Rattle.grammar_file.specs.File.{Contents, keywords, fieldsOf, fileAnswer}
+use Rattle.table.specs.Answer.{Answer, given, refused, refusedAt, refuseIf, andThen, afterwards}
+use Rattle.file_fields.specs.Offsets.{keywordsFrom}
+use Rattle.grammar_file.specs.File.{Contents, keywords, fieldsOf, fileAnswer, KeywordsStand, numbers as fileNumbers}
+use Rattle.grammar_file.specs.declared.FileRead.{FileRead}
+use Rattle.grammar_file.specs.declared.FileRead.the-variants.{Read, Refused as FileRefused}
 use Rattle.table.proofs.AnswerLaws.{first-refuses, first-passes}
 use Rattle.scanner.specs.Places.{places}
 use Rattle.scanner.specs.Tokens.{tokenOf, tokens, tokenWords, wordsOf}
 use Rattle.scanner.specs.Scan.{mostBytes, fails8, fails9, fails10, scanTokens, scanAnswer}
-use Rattle.scanner.specs.Steps.{Position, nextIn, stepFails8, stepFails9, stepAnswer, standing, numbers, positionOf}
-use Rattle.scanner.specs.InternalFind.{moveOf, HandsOut}
+use Rattle.places.specs.Moves.{Position, nextIn, nextWithin, moveOf}
+use Rattle.scanner.specs.Steps.{stepFails8, stepFails9, stepAnswer, standing, numbers, positionOf}
+use Rattle.places.specs.InternalFind.{Room}
+use Rattle.scanner.specs.InternalFind.{Ready, HandsOut, Measured}
+use Rattle.scanner.specs.InternalChecks.{firstAnswer, Passed, Checks, refuses, passed}
+use Rattle.scanner.specs.declared.Checked.{Checked}
+use Rattle.scanner.specs.declared.Checked.the-variants.{Keywords, Refused as NotChecked}
 use Rattle.scanner.specs.declared.Step.{Step}
 use Rattle.scanner.specs.declared.Handed.the-variants.{Refused}
-use Rattle.scanner.specs.declared.find.Found.{Found}
+use Rattle.scanner.specs.declared.Tally.{Tally}
+use Rattle.places.specs.declared.Found.{Found}
+use Rattle.places.proofs.FindLaws.{with-room}
+use Rattle.scanner.proofs.LoopLaws.{lies-inside}
 
 -- A report that number 8 passes is not over length.
 pub short-report : (text : List ℕ) → false ≡ fails8 text → length text ≤ mostBytes
 unfolding fails8
 short-report text e = ltb-false mostBytes (length text) (both-false (ltb mostBytes (length text)) _ (sym e) .0)
 
--- Number 8 of a step: the text, the offset, the column, or none of them.
-module _ (text : List ℕ) (p : Position) where
-  pub step-8-text : fails8 text ≡ true → stepFails8 text p ≡ true
-  unfolding stepFails8
-  step-8-text e = ap (λ (b : Bool). b || ltb (length text) (p .offset) || ltb 524280 (p .column)) e
+-- The checks that both begin with: what is answered behind them, and behind number 8 of a step.
+first-then :
+    {A : Type 0} (a : Answer Contents) (b : Bool) (next : Answer A)
+    → andThen (andThen a (refuseIf {A = Unit} b 8 (given tt))) next ≡ andThen a (refuseIf b 8 next)
+first-then (given x) true next = refl
+first-then (given x) false next = refl
+first-then (refused n) b next = refl
+first-then (refusedAt n node) b next = refl
 
-  pub step-8-offset : length text < p .offset → stepFails8 text p ≡ true
-  unfolding stepFails8
-  step-8-offset h =
-      ap (λ (b : Bool). fails8 text || b || ltb 524280 (p .column)) (lt-ltb (length text) (p .offset) h)
-      ∙ ap (λ (b : Bool). b || ltb 524280 (p .column)) (or-true (fails8 text))
+step-then :
+    {A : Type 0} (a : Answer Contents) (b x y : Bool) (next : Answer A)
+    → andThen (andThen a (refuseIf {A = Unit} b 8 (given tt))) (refuseIf (x || y) 8 next) ≡ andThen a (refuseIf (b || x || y) 8 next)
+step-then (given c) true x y next = refl
+step-then (given c) false x y next = refl
+step-then (refused n) b x y next = refl
+step-then (refusedAt n node) b x y next = refl
 
-  pub step-8-column : 524280 < p .column → stepFails8 text p ≡ true
-  unfolding stepFails8
-  step-8-column h = ap (λ (b : Bool). fails8 text || ltb (length text) (p .offset) || b) (lt-ltb 524280 (p .column) h) ∙ or-true (fails8 text || ltb (length text) (p .offset))
+-- What the file was read as, and what number 8 says of the report.
+module _ (file text : List ℕ) {r : FileRead} (e : fileNumbers r ≡ fileAnswer file) where
+  pub checks-file : {n : ℕ} → r ≡ FileRefused n → Checks file text (NotChecked n)
+  unfolding firstAnswer
+  checks-file told = refuses (first-refuses _ (ap fileNumbers (sym told) ∙ e))
 
-  pub step-passes8 : fails8 text ≡ false → p .offset ≤ length text → p .column ≤ 524280 → stepFails8 text p ≡ false
-  unfolding stepFails8
-  step-passes8 e a b = rw (e, le-ltb (length text) (p .offset) a, le-ltb 524280 (p .column) b) refl
+  module _ {n l k s m : ℕ} (told : r ≡ Read n l k s m) {b : Bool} (t : b ≡ fails8 text) where
+    behind : {v : Bool} → b ≡ v → refuseIf v 8 (given tt) ≡ firstAnswer file text
+    unfolding firstAnswer
+    behind w = ap (λ (v : Bool). refuseIf {A = Unit} v 8 (given tt)) (sym w ∙ t) ∙ first-passes _ (ap fileNumbers (sym told) ∙ e)
+
+    pub checks-8 : b ≡ true → Checks file text (NotChecked 8)
+    checks-8 w = refuses (behind w)
+
+    pub checks-on : KeywordsStand file r → b ≡ false → Checks file text (Keywords k)
+    checks-on s w =
+        let stand = subst (KeywordsStand file) told s in
+        passed (record { passes = behind w; stands = stand .0; few = stand .1; short = short-report text (sym w ∙ t) })
+
+-- What the first checks came to.
+module _ {file text : List ℕ} where
+  on-passed : {k : ℕ} → Checks file text (Keywords k) → Passed file text k
+  on-passed (passed p) = p
+
+  on-refused : {n : ℕ} → Checks file text (NotChecked n) → refused n ≡ firstAnswer file text
+  on-refused (refuses e) = e
+
+  pub passed-of : {o : Checked} {k : ℕ} → Checks file text o → o ≡ Keywords k → Passed file text k
+  passed-of h told = on-passed (subst (Checks file text) told h)
+
+  pub refused-of : {o : Checked} {n : ℕ} → Checks file text o → o ≡ NotChecked n → refused n ≡ firstAnswer file text
+  refused-of h told = on-refused (subst (Checks file text) told h)
+
+-- Number 8 of a step passes.
+pub step-passes8 : (text : List ℕ) (p : Position) → fails8 text ≡ false → p .offset ≤ length text → p .column ≤ 524280 → stepFails8 text p ≡ false
+unfolding stepFails8
+step-passes8 text p e a b = rw (e, le-ltb (length text) (p .offset) a, le-ltb 524280 (p .column) b) refl
 
 -- One step.
 module _ (file text : List ℕ) (p : Position) where
   abbrev Right : Step → Type 0
   Right s = (numbers (s .handed) ≡ stepAnswer file text p) × (positionOf s ≡ standing (numbers (s .handed)) text p)
 
+  abbrev Stays : Step → ℕ → Type 0
+  Stays s n = s ≡ record { handed = Refused n; at = p .offset; column = p .column; mark = p .mark }
+
   -- A refused step stays where it is.
-  stays : {s : Step} (n : ℕ) → s ≡ record { handed = Refused n; at = p .offset; column = p .column; mark = p .mark } → refused n ≡ stepAnswer file text p → Right s
+  stays : {s : Step} (n : ℕ) → Stays s n → refused n ≡ stepAnswer file text p → Right s
   stays n e h = rw e (h, refl)
 
-  pub step-file : {s : Step} (n : ℕ) → s ≡ record { handed = Refused n; at = p .offset; column = p .column; mark = p .mark } → refused n ≡ fileAnswer file → Right s
-  unfolding stepAnswer
-  step-file n e h = stays n e (first-refuses _ h)
+  pub step-first : {o : Checked} {n : ℕ} {s : Step} → Checks file text o → o ≡ NotChecked n → Stays s n → Right s
+  unfolding stepAnswer stepFails8 firstAnswer
+  step-first {n = n} h told e = stays n e (first-refuses _ (refused-of h told) ∙ step-then (fileAnswer file) (fails8 text) _ _ _)
 
-  module _ (x : Contents) (g : given x ≡ fileAnswer file) where
-    pub step-8 : {s : Step} → s ≡ record { handed = Refused 8; at = p .offset; column = p .column; mark = p .mark } → stepFails8 text p ≡ true → Right s
-    unfolding stepAnswer
-    step-8 e h =
-        stays 8 e
-        (ap
-        (λ (b : Bool).
-        refuseIf b 8
-        (refuseIf (stepFails9 (nextIn text p .found)) 9
-        (given (Option·map (tokenOf (keywords (fieldsOf file)) text) (nextIn text p .found))))) (sym h)
-        ∙ first-passes _ g)
+  module _ {k : ℕ} (h : Passed file text k) where
+    -- Behind the first checks: the offset and the column, then the place that was found.
+    step-by : (x y : Bool) → ltb (length text) (p .offset) ≡ x → ltb 524280 (p .column) ≡ y
+        → refuseIf (x || y) 8 (refuseIf (stepFails9 (nextIn text p .found)) 9 (given (Option·map (tokenOf (keywords (fieldsOf file)) text) (nextIn text p .found))))
+        ≡ stepAnswer file text p
+    unfolding stepAnswer stepFails8 firstAnswer
+    step-by x y a b = rw (← a, ← b) (first-passes _ (h .passes) ∙ step-then (fileAnswer file) (fails8 text) _ _ _)
 
-    module _ (h : stepFails8 text p ≡ false) (f : Found) (v : moveOf f ≡ nextIn text p) where
-      pub step-9 : {s : Step} → s ≡ record { handed = Refused 9; at = p .offset; column = p .column; mark = p .mark } → stepFails9 (moveOf f .found) ≡ true → Right s
-      unfolding stepAnswer
-      step-9 e w =
-          stays 9 e
-          (ap₂
-          (λ (a b : Bool).
-          refuseIf a 8
-          (refuseIf b 9
-          (given (Option·map (tokenOf (keywords (fieldsOf file)) text) (nextIn text p .found))))) (sym h)
-          (sym w ∙ ap (λ m. stepFails9 (m .found)) v)
-          ∙ first-passes _ g)
+    pub step-offset : {s : Step} → Stays s 8 → length text < p .offset → Right s
+    step-offset e w = stays 8 e (step-by true _ (lt-ltb (length text) (p .offset) w) refl)
 
-      pub step-on : {s : Step} (ks : List (List ℕ)) → keywords (fieldsOf file) ≡ ks → HandsOut ks text f s → stepFails9 (moveOf f .found) ≡ false → Right s
-      unfolding stepAnswer
-      step-on ks q o w =
-          let token = o .token ∙ ap₂ (λ k m. given (Option·map (tokenOf k text) (m .found))) (sym q) v in (
-            token
-                ∙ ap₂
-                (λ (a b : Bool).
-                refuseIf a 8
-                (refuseIf b 9
-                (given (Option·map (tokenOf (keywords (fieldsOf file)) text) (nextIn text p .found))))) (sym h)
-                (sym w ∙ ap (λ m. stepFails9 (m .found)) v)
-                ∙ first-passes _ g,
-            o .reached ∙ ap (λ m. m .reached) v ∙ ap (λ a. standing a text p) (sym token),
-          )
+    module _ (a : p .offset ≤ length text) where
+      pub step-column : {s : Step} → Stays s 8 → 524280 < p .column → Right s
+      step-column e w = stays 8 e (step-by false true (le-ltb (length text) (p .offset) a) (lt-ltb 524280 (p .column) w))
+
+      module _ (b : p .column ≤ 524280) where
+        step-room : Room text (p .offset) (p .column)
+        step-room = record { within = a; fits = omega (arith, h .short) }
+
+        module _ (f : Found) (z : moveOf f ≡ nextWithin text p) where
+          v : moveOf f ≡ nextIn text p
+          v = z ∙ with-room text p step-room
+
+          found : {w : Bool} → w ≡ stepFails9 (moveOf f .found)
+              → refuseIf w 9 (given (Option·map (tokenOf (keywords (fieldsOf file)) text) (nextIn text p .found))) ≡ stepAnswer file text p
+          found {w} q =
+              ap (λ (t : Bool). refuseIf t 9 (given (Option·map (tokenOf (keywords (fieldsOf file)) text) (nextIn text p .found))))
+              (q ∙ ap (λ m. stepFails9 (m .found)) v)
+              ∙ step-by false false (le-ltb (length text) (p .offset) a) (le-ltb 524280 (p .column) b)
+
+          pub step-9 : {s : Step} → Stays s 9 → true ≡ stepFails9 (moveOf f .found) → Right s
+          step-9 e w = stays 9 e (found w)
+
+          pub step-ready : Ready text k f
+          step-ready = record { few = h .few; short = h .short; inside = λ q. lies-inside text p step-room f z q }
+
+          pub step-on : {s : Step} → HandsOut (keywordsFrom file k) text f s → false ≡ stepFails9 (moveOf f .found) → Right s
+          step-on o w =
+              let token = o .token ∙ ap₂ (λ k m. given (Option·map (tokenOf k text) (m .found))) (sym (h .stands)) v in (
+                token ∙ found w,
+                o .reached ∙ ap (λ m. m .reached) v ∙ ap (λ a. standing a text p) (sym token),
+              )
 
 -- A whole scan.
 module _ (file text : List ℕ) (lent : ℕ) where
-  pub scan-file : (n : ℕ) → refused n ≡ fileAnswer file → refused n ≡ scanAnswer file text lent
-  unfolding scanAnswer
-  scan-file n h = first-refuses _ h
+  pub scan-first : {o : Checked} {n : ℕ} → Checks file text o → o ≡ NotChecked n → refused n ≡ scanAnswer file text lent
+  unfolding scanAnswer firstAnswer
+  scan-first h told = first-refuses _ (refused-of h told) ∙ first-then (fileAnswer file) (fails8 text) _
 
-  -- The further checks, by what each says.
-  pub scan-by : (x : Contents) → given x ≡ fileAnswer file → (a b c : Bool) → fails8 text ≡ a → fails9 text ≡ b → fails10 text lent ≡ c
-      → refuseIf a 8 (refuseIf b 9 (refuseIf c 10 (given (length (places text))))) ≡ scanAnswer file text lent
-  unfolding scanAnswer
-  scan-by x g a b c p q r = rw (← p, ← q, ← r) (first-passes _ g)
-
-  pub many-tokens : mostTokens < length (places text) → fails10 text lent ≡ true
+  many-tokens : mostTokens < length (places text) → fails10 text lent ≡ true
   unfolding fails10
   many-tokens h = ap (λ (b : Bool). b || ltb lent (length (places text) * 4)) (lt-ltb mostTokens (length (places text)) h)
 
-  pub few-words : lent / 4 < length (places text) → fails10 text lent ≡ true
+  few-words : lent / 4 < length (places text) → fails10 text lent ≡ true
   unfolding fails10
   few-words h =
       ap (λ (b : Bool). ltb mostTokens (length (places text)) || b)
       (lt-ltb lent (length (places text) * 4) (omega arith))
       ∙ or-true (ltb mostTokens (length (places text)))
 
-  pub enough-words : length (places text) ≤ mostTokens → length (places text) ≤ lent / 4 → fails10 text lent ≡ false
+  enough-words : length (places text) ≤ mostTokens → length (places text) ≤ lent / 4 → fails10 text lent ≡ false
   unfolding fails10
   enough-words h k = ap₂ _||_ (le-ltb mostTokens (length (places text)) h) (le-ltb lent (length (places text) * 4) (omega arith))
+
+  module _ {k : ℕ} (h : Passed file text k) {m : Tally} (d : Measured text m) where
+    -- The further checks, by what each says.
+    scan-by : (b c : Bool) → m .over ≡ b → fails10 text lent ≡ c → refuseIf b 9 (refuseIf c 10 (given (length (places text)))) ≡ scanAnswer file text lent
+    unfolding scanAnswer firstAnswer fails9
+    scan-by b c q r =
+        rw (← sym (d .over) ∙ q, ← r) (first-passes _ (h .passes) ∙ first-then (fileAnswer file) (fails8 text) _)
+
+    pub scan-9 : m .over ≡ true → refused 9 ≡ scanAnswer file text lent
+    scan-9 e = scan-by true _ e refl
+
+    module _ (e : m .over ≡ false) where
+      pub scan-many : mostTokens < m .count → refused 10 ≡ scanAnswer file text lent
+      scan-many w = scan-by false true e (many-tokens (rw (← d .count) w))
+
+      pub scan-short : lent / 4 < m .count → refused 10 ≡ scanAnswer file text lent
+      scan-short w = scan-by false true e (few-words (rw (← d .count) w))
+
+      pub scan-on : m .count ≤ mostTokens → m .count ≤ lent / 4 → given (m .count) ≡ scanAnswer file text lent
+      scan-on a b = ap given (d .count) ∙ scan-by false false e (enough-words (rw (← d .count) a) (rw (← d .count) b))
 
 -- The lent words after a scan.
 pub words-after : (file text : List ℕ) (ks : List (List ℕ)) → keywords (fieldsOf file) ≡ ks → (old : List ℕ) {out : List ℕ} (n : ℕ)

@@ -1,71 +1,24 @@
 -- What the scanner's private functions promise one another. No public promise rests on this file.
-use Prim.Native.Nat.{ℕ, _+_, _-_, _*_, _^_, _≤_, _<_}
+use Prim.Native.Nat.{ℕ, _+_, _≤_}
 use mathlib.Core.Path.{_≡_}
-use mathlib.Core.Bool.{Bool, true, false, cond, not}
+use mathlib.Core.Bool.{true}
 use mathlib.Core.List.{List}
-use mathlib.Core.Option.{some, none, Option·map}
-use lib.ListN.{length, getD, take, drop}
+use mathlib.Core.Option.{Option·map}
+use lib.ListN.{length}
 use Rattle.table.specs.Answer.{given}
-use Rattle.byte_class.specs.Bytes.{classOf}
-use Rattle.byte_class.specs.declared.Class.{Class}
-use Rattle.byte_class.specs.declared.Class.the-variants.{Break, Tab, Blank, Single, Digit, Run, Refused}
-use Rattle.scanner.specs.Columns.{columnOver}
-use Rattle.scanner.specs.Places.{runLength, places}
-use Rattle.scanner.specs.Tokens.{tokenOf}
+use Rattle.file_fields.specs.Offsets.{keywordsFrom}
+use Rattle.places.specs.Moves.{moveOf}
+use Rattle.places.specs.declared.Found.{Found}
+use Rattle.scanner.specs.Places.{places}
+use Rattle.scanner.specs.Tokens.{tokenOf, terminalAt}
 use Rattle.scanner.specs.Scan.{overColumn}
-use Rattle.scanner.specs.Steps.{position, Move, nextIn, positionOf, numbers}
+use Rattle.scanner.specs.Steps.{positionOf, numbers}
 use Rattle.scanner.specs.declared.Tally.{Tally}
 use Rattle.scanner.specs.declared.Step.{Step}
-use Rattle.scanner.specs.declared.find.Spot.{Spot}
-use Rattle.scanner.specs.declared.find.Found.{Found}
 
--- A byte that begins and ends no token.
-abbrev pub passedBy : Class → Bool → Bool
-passedBy Break m = not m
-passedBy Tab m = true
-passedBy Blank m = true
-passedBy Single m = false
-passedBy Digit m = false
-passedBy Run m = false
-passedBy Refused m = true
-
-unfoldable pub passedOver : ℕ → Bool → Bool
-passedOver byte m = passedBy (classOf byte) m
-
-abbrev pub breakClass : Class → Bool
-breakClass Break = true
-breakClass Tab = false
-breakClass Blank = false
-breakClass Single = false
-breakClass Digit = false
-breakClass Run = false
-breakClass Refused = false
-
-unfoldable pub isBreak : ℕ → Bool
-isBreak byte = breakClass (classOf byte)
-
--- An offset in a text, and a column that no byte behind it makes too large.
-pub record Room (text : List ℕ) (at column : ℕ) : Type 0 where
-  pub within : at ≤ length text
-  pub fits : column + 8 * (length text - at) < 2 ^ 32
-
-pub record Skipped (text : List ℕ) (first start : ℕ) (mark : Bool) (s : Spot) : Type 0 where
-  pub room : Room text (s .at) (s .column)
-  pub same : nextIn text (position first start mark) ≡ nextIn text (position (s .at) (s .column) mark)
-  pub stops : s .at < length text → passedOver (getD text (s .at) 0) mark ≡ false
-
-pub record RunEnd (text : List ℕ) (first start : ℕ) (s : Spot) : Type 0 where
-  pub ends : s .at ≡ first + runLength (drop first text)
-  pub within : s .at ≤ length text
-  pub column : s .column ≡ columnOver (take (runLength (drop first text)) (drop first text)) start
-
--- The move that was found.
-abbrev pub moveOf : Found → Move
-moveOf f =
-    record {
-      found = cond (f .any) (some (record { ends = f .ends; column = f .column; offset = f .offset; length = f .length })) none;
-      reached = position (f .at) (f .reached) (f .mark);
-    }
+-- The terminal of a place that was found, by the first keywords of a file.
+abbrev pub terminalOf : List ℕ → ℕ → List ℕ → Found → ℕ
+terminalOf file count text f = terminalAt (keywordsFrom file count) text (f .ends) (f .offset) (f .length)
 
 -- A place that was found in a report within the limits.
 pub record Ready (text : List ℕ) (keywords : ℕ) (f : Found) : Type 0 where

@@ -1,7 +1,7 @@
-pub mod Columns
 pub mod Places
 pub mod Tokens
 pub mod Scan
 pub mod Steps
 pub mod InternalFind
 pub mod InternalIndex
+pub mod InternalChecks

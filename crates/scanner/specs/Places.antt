@@ -7,32 +7,8 @@ use lib.ListN.{length, getD, drop}
 use Rattle.byte_class.specs.Bytes.{classOf}
 use Rattle.byte_class.specs.declared.Class.{Class}
 use Rattle.byte_class.specs.declared.Class.the-variants.{Break, Tab, Blank, Single, Digit, Run, Refused}
-use Rattle.scanner.specs.Columns.{columnAt}
-
--- A token's place: its column, offset and length, and whether it is a line's end.
-pub record Place : Type 0 where
-  pub ends : Bool
-  pub column : ℕ
-  pub offset : ℕ
-  pub length : ℕ
-
--- "other tokens are longest runs of the remaining bytes": a digit or a run byte.
-abbrev pub runClass : Class → Bool
-runClass Break = false
-runClass Tab = false
-runClass Blank = false
-runClass Single = false
-runClass Digit = true
-runClass Run = true
-runClass Refused = false
-
-unfoldable pub inRun : ℕ → Bool
-inRun byte = runClass (classOf byte)
-
--- How long the longest run at the front is.
-unfoldable pub runLength : List ℕ → ℕ
-runLength [] = 0
-runLength (b ∷ bytes) = cond (inRun b) (suc (runLength bytes)) 0
+use Rattle.places.specs.Columns.{columnAt}
+use Rattle.places.specs.Places.{Place, inRun, runLength}
 
 -- Whether the byte before an offset belongs to a run, so that no run begins there.
 unfoldable pub midRun : List ℕ → ℕ → Bool

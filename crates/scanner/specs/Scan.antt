@@ -11,7 +11,8 @@ use Rattle.byte_class.specs.Bytes.{classOf}
 use Rattle.grammar_file.specs.File.{keywords, fieldsOf, fileAnswer}
 use Rattle.byte_class.specs.declared.Class.{Class}
 use Rattle.byte_class.specs.declared.Class.the-variants.{Break, Tab, Blank, Single, Digit, Run, Refused as RefusedByte}
-use Rattle.scanner.specs.Places.{Place, places}
+use Rattle.places.specs.Places.{Place}
+use Rattle.scanner.specs.Places.{places}
 use Rattle.scanner.specs.Tokens.{Token, tokens}
 use Rattle.scanner.specs.declared.Scanned.{Scanned}
 use Rattle.scanner.specs.declared.Scanned.the-variants.{Tokens, Refused}

@@ -9,7 +9,8 @@ use Rattle.byte_class.specs.Bytes.{classOf}
 use Rattle.spellings.specs.Spellings.{sameBytes}
 use Rattle.byte_class.specs.declared.Class.{Class}
 use Rattle.byte_class.specs.declared.Class.the-variants.{Break, Tab, Blank, Single, Digit, Run, Refused}
-use Rattle.scanner.specs.Places.{Place, places}
+use Rattle.places.specs.Places.{Place}
+use Rattle.scanner.specs.Places.{places}
 
 abbrev pub digitClass : Class → Bool
 digitClass Break = false

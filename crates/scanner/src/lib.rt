@@ -1,6 +1,5 @@
 // The report scanner: from the bytes of a report to tokens with columns (numbers 1 to 5 and 8 to 10).
 mod classes;
-mod find;
 mod index;
 mod terminals;
 
@@ -13,19 +12,21 @@ ghost use lib.ListN.{length, take, drop};
 ghost use Rattle.table.specs.Answer.{afterwards};
 ghost use Rattle.file_fields.specs.Offsets.{keywordsFrom};
 ghost use Rattle.scanner.specs.Places.{places};
-ghost use Rattle.scanner.specs.Tokens.{tokens as tokensOf, terminalAt, wordsOf};
+ghost use Rattle.scanner.specs.Tokens.{tokens as tokensOf, wordsOf};
 ghost use Rattle.scanner.specs.Scan.{fails8, scanTokens, scanAnswer};
 ghost use Rattle.scanner.specs.Scan.{numbers as scanNumbers};
-ghost use Rattle.scanner.specs.Steps.{position, stepFails9, stepAnswer, standing, positionOf};
+ghost use Rattle.places.specs.Moves.{position, moveOf};
+ghost use Rattle.scanner.specs.Steps.{stepFails9, stepAnswer, standing, positionOf};
 ghost use Rattle.scanner.specs.Steps.{numbers as stepNumbers};
-ghost use Rattle.scanner.specs.InternalFind.{Measured, moveOf, Ready, HandsOut};
+ghost use Rattle.scanner.specs.InternalFind.{terminalOf, Measured, Ready, HandsOut};
 ghost use Rattle.scanner.specs.InternalIndex.{Indexed};
+ghost use Rattle.scanner.specs.InternalChecks.{Checks};
 use classes::is_refused;
-use find::Found;
-use find::find;
 use grammar_file::FileRead;
 use index::link;
 use index::starts;
+use places::Found;
+use places::find;
 use table::refusals;
 use terminals::indexed;
 use terminals::terminal;
@@ -66,6 +67,12 @@ pub struct Step {
     pub mark: bool,
 }
 
+// How many keywords a grammar file has, or the number of the first check that fails.
+enum Checked {
+    Keywords(usize),
+    Refused(u8),
+}
+
 // How many tokens a report has, and whether the column of one is over the last.
 struct Tally {
     count: usize,
@@ -83,19 +90,10 @@ pub fn scan(file: &[u8], report: &[u8], tokens: &mut [u32]) -> Scanned
         (now (tokens .entry))
         ⌝ }
 {
-    let read = grammar_file::check(file);
-    match read {
-        FileRead::Refused(n) => Scanned::Refused(n),
-        FileRead::Read {
-            nodes: _,
-            rules: _,
-            keywords,
-            start: _,
-            mode: _,
-        } => {
-            if refused(report) {
-                return Scanned::Refused(refusals::REPORT);
-            }
+    let first = first_checks(file, report);
+    match first {
+        Checked::Refused(n) => Scanned::Refused(n),
+        Checked::Keywords(keywords) => {
             let m = measure(report);
             if m.over {
                 return Scanned::Refused(refusals::COLUMN);
@@ -120,19 +118,10 @@ pub fn next_token(file: &[u8], report: &[u8], at: usize, column: u32, mark: bool
         ⌝ }
     ensures { λ r. ⌜ positionOf r ≡ standing (stepNumbers (r .handed)) (now (report .entry)) (position at column mark) ⌝ }
 {
-    let read = grammar_file::check(file);
-    match read {
-        FileRead::Refused(n) => stay(n, at, column, mark),
-        FileRead::Read {
-            nodes: _,
-            rules: _,
-            keywords,
-            start: _,
-            mode: _,
-        } => {
-            if refused(report) {
-                return stay(refusals::REPORT, at, column, mark);
-            }
+    let first = first_checks(file, report);
+    match first {
+        Checked::Refused(n) => stay(n, at, column, mark),
+        Checked::Keywords(keywords) => {
             if report.len() < at {
                 return stay(refusals::REPORT, at, column, mark);
             }
@@ -144,6 +133,28 @@ pub fn next_token(file: &[u8], report: &[u8], at: usize, column: u32, mark: bool
                 return stay(refusals::COLUMN, at, column, mark);
             }
             hand_out(file, keywords, report, f)
+        }
+    }
+}
+
+// 1 to 5 of a grammar file and 8 of a report.
+fn first_checks(file: &[u8], report: &[u8]) -> Checked
+    ensures { λ r. ⌜ Checks (now (file .entry)) (now (report .entry)) r ⌝ }
+{
+    let read = grammar_file::check(file);
+    match read {
+        FileRead::Refused(n) => Checked::Refused(n),
+        FileRead::Read {
+            nodes: _,
+            rules: _,
+            keywords,
+            start: _,
+            mode: _,
+        } => {
+            if refused(report) {
+                return Checked::Refused(refusals::REPORT);
+            }
+            Checked::Keywords(keywords)
         }
     }
 }
@@ -198,11 +209,7 @@ fn hand_out(file: &[u8], keywords: usize, report: &[u8], f: Found) -> Step
 fn terminal_at(file: &[u8], keywords: usize, report: &[u8], f: Found) -> u32
     requires { ⌜ Ready (now report) keywords f ⌝ }
     requires { ⌜ f .any ≡ true ⌝ }
-    ensures { λ r. ⌜
-        r
-        ≡ terminalAt (keywordsFrom (now (file .entry)) keywords) (now (report .entry)) (f .ends) (f .offset)
-        (f .length)
-        ⌝ }
+    ensures { λ r. ⌜ r ≡ terminalOf (now (file .entry)) keywords (now (report .entry)) f ⌝ }
 {
     if f.ends {
         return 2;
@@ -222,11 +229,7 @@ fn indexed_at(
 ) -> u32
     requires { ⌜ Indexed (now file) keywords (now offsets) (now firsts) (now nexts) ⌝ }
     requires { ⌜ f .offset + f .length ≤ length (now report) ⌝ }
-    ensures { λ r. ⌜
-        r
-        ≡ terminalAt (keywordsFrom (now (file .entry)) keywords) (now (report .entry)) (f .ends) (f .offset)
-        (f .length)
-        ⌝ }
+    ensures { λ r. ⌜ r ≡ terminalOf (now (file .entry)) keywords (now (report .entry)) f ⌝ }
 {
     if f.ends {
         return 2;

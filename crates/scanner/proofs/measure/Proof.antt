@@ -3,7 +3,7 @@ use Rattle.scanner.proofs.measure.Statement.{statement}
 use Rattle.scanner.proofs.measure.Tie as tie
 use native.Mathlib.Omega.{arith}
 use borrow.Author.Tests.{not-true, not-false}
-use Rattle.scanner.specs.Steps.{position}
+use Rattle.places.specs.Moves.{position}
 use Rattle.scanner.proofs.LoopLaws.{Counting, counting-start, counting-ends, counting-less, counting-next}
 use Rattle.scanner.proofs.PlaceLaws.{left}
 
@@ -15,9 +15,6 @@ abbrev μ-loop : tie.MeasureT-loop
 
 loop-holds : tie.Need-loop-holds Inv-loop μ-loop
 loop-holds c = counting-start (c .before .args .report .now) (c .before .pre)
-
-find-requires : tie.Need-find-requires Inv-loop μ-loop
-find-requires c κs = c .loop .inv .room
 
 returns : tie.Need-returns Inv-loop μ-loop
 returns c =
@@ -54,4 +51,4 @@ loop-again c =
 pub measure-spec : {M : Type 1} → statement M
 measure-spec =
     tie.close
-    (tie.spec Inv-loop μ-loop loop-holds find-requires returns (λ c κs. tt) add-count loop-less loop-again)
+    (tie.spec Inv-loop μ-loop loop-holds (λ c κs. tt) returns (λ c κs. tt) add-count loop-less loop-again)

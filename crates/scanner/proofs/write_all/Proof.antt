@@ -6,7 +6,7 @@ use native.Mathlib.Omega.{arith}
 use borrow.Author.Tests.{not-true, not-false}
 use lib.ListN.{length, length-set}
 use Rattle.file_fields.specs.Offsets.{keywordsFrom}
-use Rattle.scanner.specs.Steps.{position}
+use Rattle.places.specs.Moves.{position}
 use Rattle.scanner.proofs.LoopLaws.{Writing, writing-start, writing-ends, writing-room, writing-next, out-length, lies-inside, less-left}
 use Rattle.scanner.proofs.PlaceLaws.{left}
 
@@ -53,9 +53,6 @@ loop-holds c =
     let start = c .before .before .before .before .before .before in
     writing-start (keywordsFrom (start .args .file .now) (start .args .keywords)) (start .args .report .now)
     (start .args .tokens .now) (start .pre .1 .0)
-
-find-requires : tie.Need-find-requires Inv-loop μ-loop
-find-requires c κs = c .loop .inv .room
 
 same-length : tie.Need-same-length Inv-loop μ-loop
 same-length c =
@@ -149,6 +146,6 @@ loop-again c =
 pub write-all-spec : {M : Type 1} → statement M
 write-all-spec =
     tie.close
-    (tie.spec Inv-loop μ-loop loop-holds find-requires same-length returns indexed-at-requires mul-tokens
+    (tie.spec Inv-loop μ-loop loop-holds (λ c κs. tt) same-length returns indexed-at-requires mul-tokens
     slice-write-tokens add-tokens mul-tokens-2 slice-write-tokens-2 cast-tokens add-tokens-2 mul-tokens-3
     slice-write-tokens-3 cast-tokens-2 add-tokens-3 mul-tokens-4 slice-write-tokens-4 add-to loop-less loop-again)

@@ -1,14 +1,14 @@
--- `scanner::find::skip` meets its contract.
-use Rattle.scanner.proofs.find.skip.Statement.{statement}
-use Rattle.scanner.proofs.find.skip.Tie as tie
+-- `places::skip` meets its contract.
+use Rattle.places.proofs.skip.Statement.{statement}
+use Rattle.places.proofs.skip.Tie as tie
 use native.Mathlib.Omega.{arith}
 use borrow.Author.Tests.{not-true, not-false}
 use Prim.Native.Nat.{ℕ, _+_, _-_}
 use mathlib.Core.Path.{_≡_, refl, sym, ap, _∙_}
 use lib.ListN.{length, getD, drop}
-use Rattle.scanner.specs.InternalFind.{Room}
-use Rattle.scanner.specs.Steps.{position, nextIn}
-use Rattle.scanner.proofs.FindLaws.{at-byte, over-move, room-next}
+use Rattle.places.specs.InternalFind.{Room}
+use Rattle.places.specs.Moves.{position, nextIn}
+use Rattle.places.proofs.FindLaws.{at-byte, over-move, room-next}
 
 abbrev Inv-loop : tie.InvT-loop
 Inv-loop report first start mark at₀ column₀ at column = Room report at column × (nextIn report (position first start mark) ≡ nextIn report (position at column mark))

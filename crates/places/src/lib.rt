@@ -1,21 +1,25 @@
 // Where the next token of a report stands.
+mod classes;
+
 ghost use mathlib.Core.Path.{_≡_};
-ghost use mathlib.Core.Bool.{true, false};
-ghost use Rattle.scanner.specs.Steps.{position, nextIn};
-ghost use Rattle.scanner.specs.InternalFind.{Room, RunEnd, Skipped, moveOf};
-use crate::classes::column_after;
-use crate::classes::in_run;
-use crate::classes::is_break;
-use crate::classes::passes;
+ghost use mathlib.Core.Option.{none};
+ghost use Rattle.places.specs.Moves.{position, nextIn, nextWithin, moveOf};
+ghost use Rattle.places.specs.InternalFind.{Room, RunEnd, Skipped, endFound, spellingFound};
+use classes::column_after;
+use classes::in_run;
+use classes::passes;
+
+// The last column that 32 bits hold.
+const LAST: u32 = 4294967295;
 
 // An offset with its column.
-pub(crate) struct Spot {
-    pub at: usize,
-    pub column: u32,
+struct Spot {
+    at: usize,
+    column: u32,
 }
 
 // A token's place, if there is one, and the offset, column and mark behind it.
-pub(crate) struct Found {
+pub struct Found {
     pub any: bool,
     pub ends: bool,
     pub column: u32,
@@ -60,8 +64,39 @@ fn run_end(report: &[u8], first: usize, start: u32) -> Spot
     Spot { at, column }
 }
 
-// The next token's place from a position on.
-pub(crate) fn find(report: &[u8], at: usize, column: u32, mark: bool) -> Found
+// The next token's place from a position on; nothing, and the position itself, where the offset is past the report or its
+// columns have no room.
+pub fn find(report: &[u8], at: usize, column: u32, mark: bool) -> Found
+    ensures { λ r. ⌜ moveOf r ≡ nextWithin (now (report .entry)) (position at column mark) ⌝ }
+{
+    if report.len() < at {
+        return nothing(at, column, mark);
+    }
+    let room = (LAST - column) / 8;
+    if (room as usize) < report.len() - at {
+        return nothing(at, column, mark);
+    }
+    find_within(report, at, column, mark)
+}
+
+// Nothing at a position.
+fn nothing(at: usize, column: u32, mark: bool) -> Found
+    ensures { λ r. ⌜ moveOf r ≡ record { found = none; reached = position at column mark } ⌝ }
+{
+    Found {
+        any: false,
+        ends: false,
+        column,
+        offset: at,
+        length: 0,
+        at,
+        reached: column,
+        mark,
+    }
+}
+
+// The next token's place where there is room.
+fn find_within(report: &[u8], at: usize, column: u32, mark: bool) -> Found
     requires { ⌜ Room (now report) at column ⌝ }
     ensures { λ r. ⌜ moveOf r ≡ nextIn (now (report .entry)) (position at column mark) ⌝ }
 {
@@ -77,7 +112,8 @@ pub(crate) fn find(report: &[u8], at: usize, column: u32, mark: bool) -> Found
         let next = end.at;
         return spelling(place, offset, next - offset, next, end.column);
     }
-    if is_break(b) {
+    // Of the bytes that stand here only a break is passed over where the line has had no token.
+    if passes(b, false) {
         return line_end(true, place, offset, offset + 1, 0);
     }
     spelling(place, offset, 1, offset + 1, column_after(b, place))
@@ -85,19 +121,7 @@ pub(crate) fn find(report: &[u8], at: usize, column: u32, mark: bool) -> Found
 
 // The end of a line that has had a token, or nothing.
 fn line_end(any: bool, column: u32, offset: usize, at: usize, reached: u32) -> Found
-    ensures { λ r. ⌜
-        r
-        ≡ record {
-          any = any;
-          ends = true;
-          column = column;
-          offset = offset;
-          length = 0;
-          at = at;
-          reached = reached;
-          mark = false;
-        }
-        ⌝ }
+    ensures { λ r. ⌜ r ≡ endFound any column offset at reached ⌝ }
 {
     Found {
         any,
@@ -113,19 +137,7 @@ fn line_end(any: bool, column: u32, offset: usize, at: usize, reached: u32) -> F
 
 // A single byte or a run.
 fn spelling(column: u32, offset: usize, length: usize, at: usize, reached: u32) -> Found
-    ensures { λ r. ⌜
-        r
-        ≡ record {
-          any = true;
-          ends = false;
-          column = column;
-          offset = offset;
-          length = length;
-          at = at;
-          reached = reached;
-          mark = true;
-        }
-        ⌝ }
+    ensures { λ r. ⌜ r ≡ spellingFound column offset length at reached ⌝ }
 {
     Found {
         any: true,

@@ -1,6 +1,6 @@
--- `scanner::find::run_end` meets its contract.
-use Rattle.scanner.proofs.find.run_end.Statement.{statement}
-use Rattle.scanner.proofs.find.run_end.Tie as tie
+-- `places::run_end` meets its contract.
+use Rattle.places.proofs.run_end.Statement.{statement}
+use Rattle.places.proofs.run_end.Tie as tie
 use native.Mathlib.Omega.{arith}
 use borrow.Author.Tests.{not-true, not-false}
 use Prim.Native.Nat.{ℕ, suc, _+_, _-_, _≤_, _<_}
@@ -8,11 +8,10 @@ use mathlib.Core.Path.{_≡_, refl, sym, _∙_}
 use mathlib.Core.Bool.{true, false}
 use mathlib.Core.List.{List}
 use lib.ListN.{length, getD, take, drop, drop-of-length-le}
-use Rattle.scanner.specs.InternalFind.{Room, RunEnd}
-use Rattle.scanner.specs.Columns.{columnAfter, columnOver}
-use Rattle.scanner.specs.Places.{inRun, runLength}
-use Rattle.file_fields.proofs.FieldLaws.{from-one}
-use Rattle.scanner.proofs.FindLaws.{room-next, run-more, run-none, run-empty}
+use Rattle.places.specs.InternalFind.{Room, RunEnd}
+use Rattle.places.specs.Columns.{columnAfter, columnOver}
+use Rattle.places.specs.Places.{inRun, runLength}
+use Rattle.places.proofs.FindLaws.{from-one, room-next, run-more, run-none, run-empty}
 
 -- The run and its last column, from what is left of it.
 abbrev Running : List ℕ → ℕ → ℕ → ℕ → ℕ → Type 0

@@ -1,10 +1,10 @@
--- `scanner::find::find` meets its contract.
+-- `places::find_within` meets its contract.
 use borrow.Author.Needs.{needs}
-use Rattle.scanner.proofs.find.find.Statement.{statement}
-use Rattle.scanner.proofs.find.find.Tie as tie
+use Rattle.places.proofs.find_within.Statement.{statement}
+use Rattle.places.proofs.find_within.Tie as tie
 use native.Mathlib.Omega.{arith}
 use mathlib.Core.Path.{sym, _∙_}
-use Rattle.scanner.proofs.FindLaws.{found-end, found-run, found-break, found-single}
+use Rattle.places.proofs.FindLaws.{found-end, found-run, found-break, found-single}
 
 skip-requires : tie.Need-skip-requires
 skip-requires c κs = c .before .pre
@@ -47,7 +47,7 @@ returns-3 c =
     let start = c .before .before .before .before .before .before .before .before .before in
     found-break (start .args .report .now) (start .args .at) (start .args .column) (start .args .mark) (skip .result)
     (skip .ensures) (omega (arith, skip .ensures .room .within, if1 .left))
-    (sym (c .before .before .is-break .ensures) ∙ c .before .if3 .taken) (c .line-end2 .ensures)
+    (sym (c .before .before .passes .ensures) ∙ c .before .if3 .taken) (c .line-end2 .ensures)
 
 add-spelling : tie.Need-add-spelling
 add-spelling c =
@@ -61,7 +61,7 @@ column-after-requires c κs =
 
 returns-4 : tie.Need-returns-4
 returns-4 c =
-    let is-break = c .before .before .before .is-break in
+    let passes = c .before .before .before .passes in
     let if2 = c .before .before .before .before .if2 in
     let in-run = c .before .before .before .before .before .in-run in
     let if1 = c .before .before .before .before .before .before .before .if1 in
@@ -69,11 +69,11 @@ returns-4 c =
     let start = c .before .before .before .before .before .before .before .before .before .before in
     found-single (start .args .report .now) (start .args .at) (start .args .column) (start .args .mark) (skip .result)
     (skip .ensures) (omega (arith, skip .ensures .room .within, if1 .left)) (sym (in-run .ensures) ∙ if2 .left)
-    (sym (is-break .ensures) ∙ c .before .before .if3 .left) (c .before .column-after .ensures)
+    (sym (passes .ensures) ∙ c .before .before .if3 .left) (c .before .column-after .ensures)
     (c .spelling2 .ensures)
 
-pub find-spec : {M : Type 1} → statement M
-find-spec =
+pub find-within-spec : {M : Type 1} → statement M
+find-within-spec =
     tie.close
     (tie.spec skip-requires (λ c κs. search needs) returns shared-slice-read-b (λ c κs. search needs)
     run-end-requires sub-spelling (λ c κs. search needs) returns-2 (λ c κs. search needs) add-line-end

@@ -1,23 +1,50 @@
 -- Where the next token stands: bytes that are passed over, a run, a line's end and a single byte, by class; and the room
 -- for columns.
-use Prim.Native.Nat.{ℕ, suc, _+_, _-_, _≤_, _<_}
+use Prim.Native.Nat.{ℕ, suc, _+_, _-_, _*_, _/_, _≤_, _<_}
 use mathlib.Core.Path.{_≡_, refl, sym, ap, _∙_}
-use mathlib.Core.Bool.{Bool, true, false, true≢false, false≢true}
+use mathlib.Core.Bool.{Bool, true, false, or-true, true≢false, false≢true}
 use mathlib.Core.List.{List, [], _∷_}
-use mathlib.Core.Option.{some}
+use mathlib.Core.Option.{none}
 use lib.ListN.{length, getD, take, drop, drop-of-length-le}
+use lib.Seq.{drop-cons}
+use lib.Dec.{ltb}
+use native.Mathlib.Numerals.{add-one}
+use borrow.Author.Tests.{lt-ltb, le-ltb}
 use native.Mathlib.Nat.{le-of-eq}
 use native.Mathlib.Omega.{arith}
 use Rattle.byte_class.specs.Bytes.{classOf}
 use Rattle.byte_class.specs.declared.Class.{Class}
 use Rattle.byte_class.specs.declared.Class.the-variants.{Break, Tab, Blank, Single, Digit, Run, Refused}
-use Rattle.file_fields.proofs.FieldLaws.{from-one}
-use Rattle.scanner.specs.Columns.{columnBy, columnAfter, columnOver}
-use Rattle.scanner.specs.Places.{runClass, inRun, runLength}
-use Rattle.scanner.specs.Steps.{Position, position, Move, move, moveBy, nextPlace, nextIn}
-use Rattle.scanner.specs.InternalFind.{passedBy, passedOver, breakClass, isBreak, Room, Skipped, RunEnd, moveOf}
-use Rattle.scanner.specs.declared.find.Spot.{Spot}
-use Rattle.scanner.specs.declared.find.Found.{Found}
+use Rattle.places.specs.Columns.{columnBy, columnAfter, columnOver}
+use Rattle.places.specs.Places.{runClass, inRun, runLength}
+use Rattle.places.specs.Moves.{Position, position, Move, move, moveBy, nextPlace, nextIn, nextWithin, moveOf}
+use Rattle.places.specs.InternalFind.{passedBy, passedOver, Room, Skipped, RunEnd, endFound, spellingFound}
+use Rattle.places.specs.declared.Spot.{Spot}
+use Rattle.places.specs.declared.Found.{Found}
+
+-- The bytes from an offset on.
+pub from-one : (text : List ℕ) (i : ℕ) → i < length text → drop i text ≡ getD text i 0 ∷ drop (i + 1) text
+from-one text i h = rw (add-one, drop-cons text i 0)
+
+-- Where there is room for the columns, and where there is none.
+module _ (text : List ℕ) (p : Position) where
+  pub past-end : {m : Move} → m ≡ record { found = none; reached = p } → length text < p .offset → m ≡ nextWithin text p
+  unfolding nextWithin
+  past-end e h = e ∙ rw (lt-ltb (length text) (p .offset) h) refl
+
+  pub no-room :
+      {m : Move}
+      → m ≡ record { found = none; reached = p }
+      → (4294967295 - p .column) / 8 < length text - p .offset
+      → m ≡ nextWithin text p
+  unfolding nextWithin
+  no-room e h = e ∙ rw (lt-ltb 4294967295 (p .column + 8 * (length text - p .offset)) (omega arith), or-true) refl
+
+  pub with-room : Room text (p .offset) (p .column) → nextWithin text p ≡ nextIn text p
+  unfolding nextWithin
+  with-room r =
+      rw (le-ltb (length text) (p .offset) (r .within), le-ltb 4294967295 (p .column + 8 * (length text - p .offset)) (omega (arith, r .fits)))
+      refl
 
 -- A byte moves the column by 8 at most.
 column-by : (k : Class) (c : ℕ) → columnBy k c ≤ c + 8
@@ -58,20 +85,20 @@ module _ (o c next n after : ℕ) (rest : Move) where
   run-class Run m e = refl
   run-class Refused m e = absurd (false≢true e)
 
-  break-class : (k : Class) (m : Bool) → breakClass k ≡ true → passedBy k m ≡ false → moveBy k m o c next n after rest ≡ move true c o 0 (position (o + 1) 0 false)
+  break-class : (k : Class) (m : Bool) → passedBy k false ≡ true → passedBy k m ≡ false → moveBy k m o c next n after rest ≡ move true c o 0 (position (o + 1) 0 false)
   break-class Break true e p = refl
   break-class Break false e p = absurd (true≢false p)
-  break-class Tab m e p = absurd (false≢true e)
-  break-class Blank m e p = absurd (false≢true e)
+  break-class Tab m e p = absurd (true≢false p)
+  break-class Blank m e p = absurd (true≢false p)
   break-class Single m e p = absurd (false≢true e)
   break-class Digit m e p = absurd (false≢true e)
   break-class Run m e p = absurd (false≢true e)
-  break-class Refused m e p = absurd (false≢true e)
+  break-class Refused m e p = absurd (true≢false p)
 
   single-class :
       (k : Class) (m : Bool)
       → runClass k ≡ false
-      → breakClass k ≡ false
+      → passedBy k false ≡ false
       → passedBy k m ≡ false
       → moveBy k m o c next n after rest ≡ move false c o 1 (position (o + 1) next true)
   single-class Break m e b p = absurd (true≢false b)
@@ -105,16 +132,16 @@ module _ (b : ℕ) (bytes : List ℕ) (o c : ℕ) (m : Bool) where
   unfolding inRun nextPlace
   run-move e = run-class o c (columnAfter b c) size beyond behind (classOf b) m e
 
-  pub break-move : isBreak b ≡ true → passedOver b m ≡ false → nextPlace (b ∷ bytes) o c m ≡ move true c o 0 (position (o + 1) 0 false)
-  unfolding isBreak passedOver nextPlace
+  pub break-move : passedOver b false ≡ true → passedOver b m ≡ false → nextPlace (b ∷ bytes) o c m ≡ move true c o 0 (position (o + 1) 0 false)
+  unfolding passedOver nextPlace
   break-move e p = break-class o c (columnAfter b c) size beyond behind (classOf b) m e p
 
   pub single-move :
       inRun b ≡ false
-      → isBreak b ≡ false
+      → passedOver b false ≡ false
       → passedOver b m ≡ false
       → nextPlace (b ∷ bytes) o c m ≡ move false c o 1 (position (o + 1) (columnAfter b c) true)
-  unfolding inRun isBreak passedOver nextPlace
+  unfolding inRun passedOver nextPlace
   single-move e k p = single-class o c (columnAfter b c) size beyond behind (classOf b) m e k p
 
 -- From a position in a text whose byte is known.
@@ -154,35 +181,14 @@ module _ (text : List ℕ) (first start : ℕ) (m : Bool) (s : Spot) (k : Skippe
   pub found-end :
       s .at ≡ length text
       → {f : Found}
-      → f
-      ≡ record {
-        any = m;
-        ends = true;
-        column = s .column;
-        offset = s .at;
-        length = 0;
-        at = s .at;
-        reached = s .column;
-        mark = false;
-      }
+      → f ≡ endFound m (s .column) (s .at) (s .at) (s .column)
       → moveOf f ≡ nextIn text (position first start m)
   unfolding nextPlace
   found-end h e = ap moveOf e ∙ by-mark m ∙ sym (at-end text (s .at) (s .column) m (le-of-eq (sym h))) ∙ sym (k .same)
     where
       by-mark :
           (n : Bool)
-          → moveOf
-          (record {
-            any = n;
-            ends = true;
-            column = s .column;
-            offset = s .at;
-            length = 0;
-            at = s .at;
-            reached = s .column;
-            mark = false;
-          })
-          ≡ nextPlace [] (s .at) (s .column) n
+          → moveOf (endFound n (s .column) (s .at) (s .at) (s .column)) ≡ nextPlace [] (s .at) (s .column) n
       by-mark true = refl
       by-mark false = refl
 
@@ -197,7 +203,7 @@ module _ (text : List ℕ) (first start : ℕ) (m : Bool) (s : Spot) (k : Skippe
     back = sym (at-byte text (s .at) (s .column) m h) ∙ sym (k .same)
 
     pub found-run : inRun (getD text (s .at) 0) ≡ true → {e : Spot} → RunEnd text (s .at) (s .column) e → {f : Found}
-        → f ≡ record { any = true; ends = false; column = s .column; offset = s .at; length = e .at - s .at; at = e .at; reached = e .column; mark = true }
+        → f ≡ spellingFound (s .column) (s .at) (e .at - s .at) (e .at) (e .column)
         → moveOf f ≡ nextIn text (position first start m)
     found-run q {e} r g =
         let n : e .at - s .at ≡ runLength (drop (s .at) text) = omega (arith, r .ends) in
@@ -211,28 +217,18 @@ module _ (text : List ℕ) (first start : ℕ) (m : Bool) (s : Spot) (k : Skippe
         ∙ sym (run-move byte rest (s .at) (s .column) m q)
         ∙ back
 
-    pub found-break : isBreak (getD text (s .at) 0) ≡ true → {f : Found}
-        → f ≡ record { any = true; ends = true; column = s .column; offset = s .at; length = 0; at = s .at + 1; reached = 0; mark = false }
+    pub found-break : passedOver (getD text (s .at) 0) false ≡ true → {f : Found}
+        → f ≡ endFound true (s .column) (s .at) (s .at + 1) 0
         → moveOf f ≡ nextIn text (position first start m)
     found-break q g = ap moveOf g ∙ sym (break-move byte rest (s .at) (s .column) m q (k .stops h)) ∙ back
 
     pub found-single :
         inRun (getD text (s .at) 0) ≡ false
-        → isBreak (getD text (s .at) 0) ≡ false
+        → passedOver (getD text (s .at) 0) false ≡ false
         → {d : ℕ}
         → d ≡ columnAfter (getD text (s .at) 0) (s .column)
         → {f : Found}
-        → f
-        ≡ record {
-          any = true;
-          ends = false;
-          column = s .column;
-          offset = s .at;
-          length = 1;
-          at = s .at + 1;
-          reached = d;
-          mark = true;
-        }
+        → f ≡ spellingFound (s .column) (s .at) 1 (s .at + 1) d
         → moveOf f ≡ nextIn text (position first start m)
     found-single q b e g =
         ap moveOf g

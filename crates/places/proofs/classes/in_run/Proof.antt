@@ -1,0 +1,12 @@
+-- `places::classes::in_run` meets its contract.
+use Rattle.places.proofs.ClassLaws.{classes}
+use Rattle.places.proofs.classes.in_run.Statement.{statement}
+use Rattle.places.proofs.classes.in_run.Tie as tie
+
+pub in-run-spec : {M : Type 1} → statement M
+in-run-spec =
+    tie.close
+    (tie.spec (λ c κs. tt) (λ c. search classes) (λ c. search classes) (λ c. search classes)
+    (λ c. search classes) (λ c. search classes) (λ c. search classes) (λ c. search classes)
+    (λ c. search classes) (λ c. search classes) (λ c. search classes) (λ c. search classes)
+    (λ c. search classes) (λ c. search classes) (λ c. search classes))

@@ -1,0 +1,4 @@
+pub mod Columns
+pub mod Places
+pub mod Moves
+pub mod InternalFind
