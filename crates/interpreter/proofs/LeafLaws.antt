@@ -5,8 +5,8 @@ use mathlib.Core.Bool.{Bool, true, false, _&&_}
 use mathlib.Core.List.{List}
 use lib.ListN.{length, getD}
 use native.Mathlib.Omega.{arith}
-use borrow.Author.Tests.{le-ltb, lt-ltb, le-leb, eq-eqb, ne-eqb}
-use Rattle.columns.specs.Intervals.{to, innerEnds, lowerEnd, meetEnds, isUpTo, lies, fits, afterToken}
+use borrow.Author.Tests.{le-ltb, lt-ltb, eq-eqb, ne-eqb}
+use Rattle.columns.specs.Intervals.{to, innerEnds, lowerEnd, meetEnds, fits, afterToken}
 use Rattle.columns.specs.declared.Upper.{Upper}
 use Rattle.columns.specs.declared.Interval.{Interval}
 use Rattle.columns.specs.declared.State.{State}
@@ -26,10 +26,6 @@ meet-second a b u h e = let q : max (a .lower) (b .lower) ≡ b .lower = omega a
 
 pub meet-first : (a b : Interval) (u : Upper) → b .lower < a .lower → u ≡ lowerEnd (a .upper) (b .upper) → to (a .lower) u ≡ meetEnds a b
 meet-first a b u h e = let q : max (a .lower) (b .lower) ≡ a .lower = omega arith in rw (e, q) refl
-
--- The lower end lies in the interval exactly if it does not pass the upper one.
-pub own-end : (c : Interval) → isUpTo (c .lower) (c .upper) ≡ lies (c .lower) c
-own-end c = rw (le-leb (c .lower) (c .lower) (omega arith)) refl
 
 -- The state of a first child.
 pub child-indent : (q r : ℕ) (s : State) (c : Interval) → q ≡ 7 → c ≡ innerEnds r (s .interval) → withInterval s c ≡ childState q r s

@@ -1,14 +1,13 @@
 // The interpreter: the outcome of a grammar on tokens from a start (numbers 3, 4, 5, 7, 11 and 12).
 mod intervals;
-mod limits;
 mod states;
 mod walk;
 
 use columns::Outcome;
 use columns::Start;
 use columns::State;
-use limits::start_wrong;
-use limits::tokens_wrong;
+use run_limits::start_wrong;
+use run_limits::tokens_wrong;
 use table::refusals;
 use walk::expression;
 use well_formed::Verdict;

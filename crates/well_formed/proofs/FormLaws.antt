@@ -1,4 +1,4 @@
--- The rules of a node from the facts of its first child and of b, and three facts as one function.
+-- The rules of a node from the facts of its first child and of b.
 use Prim.Native.Nat.{ℕ, zero, suc}
 use mathlib.Core.Path.{_≡_, refl, ap₂, fun-ext, _∙_}
 use mathlib.Core.Bool.{Bool}
@@ -6,14 +6,8 @@ use mathlib.Core.List.{List, [], _∷_}
 use Rattle.table.specs.Form.{form, decode, kindOf, aOf, bOf, relationOf}
 use Rattle.well_formed.specs.Facts.{Fact, nothing, something, fails}
 use Rattle.well_formed.specs.Rounds.{gives, passes}
-use Rattle.well_formed.specs.InternalPasses.{firstChild, two, factOf}
-use Rattle.well_formed.specs.declared.facts.Facts.{Facts}
-
--- Two truth values for each fact that agree on each.
-pub by-fact : (r : Facts) (g : Fact → Bool) → r .nothing ≡ g nothing → r .something ≡ g something → r .fails ≡ g fails → (x : Fact) → factOf r x ≡ g x
-by-fact r g p q s nothing = p
-by-fact r g p q s something = q
-by-fact r g p q s fails = s
+use Rattle.form_facts.specs.OneForm.{two}
+use Rattle.well_formed.specs.InternalPasses.{firstChild}
 
 module _ (rules : List ℕ) where
   decoded-gives : (known : Fact → ℕ → Bool) (k a b r : ℕ) (x : Fact)

@@ -14,8 +14,9 @@ use Rattle.table.proofs.Every.{both-false}
 use Rattle.table.proofs.Inside.{inside-table}
 use Rattle.well_formed.specs.Facts.{Fact, nothing, something, fails, May}
 use Rattle.well_formed.specs.Rounds.{gives, passes}
-use Rattle.well_formed.specs.InternalPasses.{learnt, factOf, three, known, Cell, cell, TrueFact, FactBelow, factStep, knownCells, FactsPass, WellPass}
-use Rattle.well_formed.specs.declared.facts.Facts.{Facts}
+use Rattle.well_formed.specs.InternalPasses.{learnt, three, known, Cell, cell, TrueFact, FactBelow, factStep, knownCells, FactsPass, WellPass}
+use Rattle.form_facts.specs.OneForm.{factOf}
+use Rattle.form_facts.specs.declared.Facts.{Facts}
 use Rattle.well_formed.proofs.RoundLaws.{gives-true, passes-true}
 use Rattle.well_formed.proofs.PassLaws.{looked, looked-also}
 use Rattle.well_formed.proofs.CellLaws.{node-change, nothing-change, something-change, fails-change}

@@ -4,10 +4,7 @@ use Prim.Native.Nat.{ℕ}
 use mathlib.Core.List.{List}
 use Rattle.table.specs.Form.{Form, empty, terminal, rule, sequence, choice, not, repeat, indent, position}
 use Rattle.table.specs.Form.{align, form, standsFor}
-
--- "may succeed reading nothing, may succeed reading something, may fail"
-pub data Fact : Type 0 where
-  nothing something fails : Fact
+pub use Rattle.form_facts.specs.Rules.{Fact, nothing, something, fails}
 
 -- The facts that are a success.
 pub data Success : Fact → Type 0 where

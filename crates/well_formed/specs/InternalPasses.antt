@@ -1,5 +1,5 @@
 -- What the check's own functions tell one another: passes over the table that set cells. No public promise rests on this file.
-use Prim.Native.Nat.{ℕ, zero, suc, _<_, _≤_}
+use Prim.Native.Nat.{ℕ, _<_, _≤_}
 use mathlib.Core.Path.{_≡_}
 use mathlib.Core.Bool.{Bool, true, false, cond}
 use mathlib.Core.List.{List}
@@ -11,7 +11,6 @@ use Rattle.table.specs.Form.{form, nodeCount, standsFor}
 use Rattle.well_formed.specs.Facts.{Fact, nothing, something, fails, May}
 use Rattle.well_formed.specs.WellFormed.{WellFormed}
 use Rattle.well_formed.specs.Rounds.{gives, passes}
-use Rattle.well_formed.specs.declared.facts.Facts.{Facts}
 
 -- Cells whose n-th is set if b holds.
 unfoldable pub learnt : List Bool → ℕ → Bool → List Bool
@@ -20,17 +19,6 @@ learnt cells n b = cond b (set cells n true) cells
 -- The node that a form asks first: its rule's node, or a.
 abbrev pub firstChild : List ℕ → ℕ → ℕ → ℕ
 firstChild rules kind a = cond (eqb kind 2) (standsFor rules a) a
-
--- The first of two for 0, the second for any other number.
-abbrev pub two : Bool → Bool → ℕ → Bool
-two a b zero = a
-two a b (suc n) = b
-
--- Whether a fact is among those of a `Facts`.
-abbrev pub factOf : Facts → Fact → Bool
-factOf f nothing = f .nothing
-factOf f something = f .something
-factOf f fails = f .fails
 
 -- The cells of each fact, out of three lists.
 abbrev pub three : List Bool → List Bool → List Bool → Fact → List Bool

@@ -1,59 +1,16 @@
--- The facts and well-formedness decided in rounds: what one use of the rules gives from what is known of each node.
+-- The facts and well-formedness decided in rounds, each one use of the rules at every node.
 use Prim.Native.Nat.{ℕ, zero, suc}
-use mathlib.Core.Bool.{Bool, true, false, _&&_, _||_, not as isFalse}
+use mathlib.Core.Bool.{Bool, false}
 use mathlib.Core.List.{List}
-use Rattle.table.specs.Form.{Form, empty, terminal, rule, sequence, choice, not, repeat, indent, position}
-use Rattle.table.specs.Form.{align, other, form, standsFor}
-use Rattle.well_formed.specs.Facts.{Fact, nothing, something, fails}
-
--- Whether a node is known to succeed.
-abbrev pub succeeds : (Fact → ℕ → Bool) → ℕ → Bool
-succeeds known n = known nothing n || known something n
-
--- What a form gives by its rules, from what is known of its children.
-unfoldable pub gives : List ℕ → (Fact → ℕ → Bool) → Form → Fact → Bool
-gives rules known empty nothing = true
-gives rules known empty something = false
-gives rules known empty fails = false
-gives rules known (terminal t) nothing = false
-gives rules known (terminal t) something = true
-gives rules known (terminal t) fails = true
-gives rules known (rule r) x = known x (standsFor rules r)
-gives rules known (sequence a b) nothing = known nothing a && known nothing b
-gives rules known (sequence a b) something = known something a && succeeds known b || succeeds known a && known something b
-gives rules known (sequence a b) fails = known fails a || succeeds known a && known fails b
-gives rules known (choice a b) nothing = known nothing a || known fails a && known nothing b
-gives rules known (choice a b) something = known something a || known fails a && known something b
-gives rules known (choice a b) fails = known fails a && known fails b
-gives rules known (not a) nothing = known fails a
-gives rules known (not a) something = false
-gives rules known (not a) fails = succeeds known a
-gives rules known (repeat a) nothing = known fails a
-gives rules known (repeat a) something = known something a
-gives rules known (repeat a) fails = false
-gives rules known (indent a r) x = known x a
-gives rules known (position a r) x = known x a
-gives rules known (align a) x = known x a
-gives rules known other x = false
+use Rattle.table.specs.Form.{form}
+use Rattle.well_formed.specs.Facts.{Fact}
+pub use Rattle.form_facts.specs.Rules.{succeeds}
+unfoldable pub use Rattle.form_facts.specs.Rules.{gives, passes}
 
 -- The facts of each node that k rounds find.
 unfoldable pub knownAfter : List ℕ → List ℕ → ℕ → Fact → ℕ → Bool
 knownAfter nodes rules zero x n = false
 knownAfter nodes rules (suc k) x n = gives rules (knownAfter nodes rules k) (form nodes n) x
-
--- Whether a form is well formed, from which nodes are known to be and which may succeed reading nothing.
-unfoldable pub passes : List ℕ → (ℕ → Bool) → (ℕ → Bool) → Form → Bool
-passes rules may well empty = true
-passes rules may well (terminal t) = true
-passes rules may well (rule r) = well (standsFor rules r)
-passes rules may well (sequence a b) = well a && (isFalse (may a) || well b)
-passes rules may well (choice a b) = well a && well b
-passes rules may well (not a) = well a
-passes rules may well (repeat a) = well a && isFalse (may a)
-passes rules may well (indent a r) = well a
-passes rules may well (position a r) = well a
-passes rules may well (align a) = well a
-passes rules may well other = false
 
 -- The nodes that k rounds find well formed.
 unfoldable pub wellAfter : List ℕ → List ℕ → (ℕ → Bool) → ℕ → ℕ → Bool

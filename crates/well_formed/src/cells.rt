@@ -41,13 +41,6 @@ pub(crate) fn first_child(rules: &[u16], kind: u16, a: u16) -> usize
     }
 }
 
-// Whether two tests both hold.
-pub(crate) fn both(a: bool, b: bool) -> bool
-    ensures { λ r. ⌜ r ≡ (a && b) ⌝ }
-{
-    if a { b } else { false }
-}
-
 // Whether one of two tests holds.
 pub(crate) fn either(a: bool, b: bool) -> bool
     ensures { λ r. ⌜ r ≡ (a || b) ⌝ }

@@ -1,18 +1,16 @@
 // The nodes that are well formed, found in passes over the table.
-use crate::cells::both;
 use crate::cells::either;
 use crate::cells::first_child;
 use crate::cells::has;
 use crate::cells::learn;
-use table::kinds;
+use form_facts::well_by_form;
 ghost use mathlib.Core.Path.{_≡_};
 ghost use mathlib.Core.Bool.{false};
-ghost use mathlib.Core.List.{[], _∷_};
 ghost use Prim.Native.Nat.{ℕ, _<_};
 ghost use lib.ListN.{getD};
-ghost use Rattle.table.specs.Form.{form, decode, nodeCount};
+ghost use Rattle.table.specs.Form.{form, nodeCount};
 ghost use Rattle.well_formed.specs.Rounds.{passes as passes-by};
-ghost use Rattle.well_formed.specs.InternalPasses.{two, WellReady, WellPass, WellFinished};
+ghost use Rattle.well_formed.specs.InternalPasses.{WellReady, WellPass, WellFinished};
 
 // Every well-formed node: passes until one finds none. Which nodes may succeed reading nothing is known.
 pub(crate) fn find(nodes: &[u16], rules: &[u16], nothing: &[bool], well: &mut [bool])
@@ -58,29 +56,10 @@ fn passes(nodes: &[u16], rules: &[u16], nothing: &[bool], well: &[bool], n: usiz
     let at = n * 4;
     let kind = nodes[at];
     let child = first_child(rules, kind, nodes[at + 1]);
-    by_form(
+    well_by_form(
         kind,
         has(well, child),
         has(nothing, child),
         has(well, nodes[at + 2] as usize),
     )
-}
-
-// The rules of well-formedness: whether a is well formed, whether it may succeed reading nothing, whether b is well formed.
-fn by_form(kind: u16, a: bool, nothing: bool, b: bool) -> bool
-    ensures { λ r. ⌜ r ≡ passes-by (0 ∷ []) (λ (n : ℕ). nothing) (two a b) (decode kind 0 1 0) ⌝ }
-{
-    match kind {
-        kinds::EMPTY => true,
-        kinds::TERMINAL => true,
-        kinds::RULE => a,
-        kinds::SEQUENCE => both(a, either(!nothing, b)),
-        kinds::CHOICE => both(a, b),
-        kinds::NOT => a,
-        kinds::REPEAT => both(a, !nothing),
-        kinds::INDENT => a,
-        kinds::POSITION => a,
-        kinds::ALIGN => a,
-        _ => false,
-    }
 }

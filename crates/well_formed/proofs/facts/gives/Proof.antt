@@ -5,7 +5,8 @@ use mathlib.Core.Path.{ap, _∙_}
 use native.Mathlib.Omega.{arith}
 use Prim.Native.Nat.{_*_, _+_}
 use Rattle.well_formed.proofs.FormLaws.{node-gives}
-use Rattle.well_formed.specs.InternalPasses.{known, three, factOf}
+use Rattle.well_formed.specs.InternalPasses.{known, three}
+use Rattle.form_facts.specs.OneForm.{factOf}
 
 cast-facts-at : tie.Need-cast-facts-at
 cast-facts-at c =
@@ -18,7 +19,7 @@ returns c =
     let first-child = c .before .before .before .before .first-child in
     let start = c .before .before .before .before .before .before .before .before .before .before .before .before in
     λ x.
-    c .by-form .ensures x
+    c .facts-by-form .ensures x
     ∙ node-gives (start .args .nodes .now) (start .args .rules .now) (start .args .n)
     (known (three (start .args .nothing .now) (start .args .something .now) (start .args .fails .now)))
     (factOf (facts-at .result)) (factOf (c .before .facts-at2 .result))

@@ -19,7 +19,7 @@ returns c =
     let has = c .before .before .before .before .has in
     let first-child = c .before .before .before .before .before .first-child in
     let start = c .before .before .before .before .before .before .before .before .before .before .before .before in
-    c .by-form .ensures
+    c .well-by-form .ensures
     ∙ node-passes (start .args .nodes .now) (start .args .rules .now) (start .args .n)
     (λ m. getD (start .args .nothing .now) m false) (λ m. getD (start .args .well .now) m false) (has .result)
     (has2 .result) (c .before .has3 .result)

@@ -1,10 +1,10 @@
--- `well_formed::facts::by_form` meets its contract.
+-- `form_facts::facts_by_form` meets its contract.
 use borrow.Author.Needs.{needs}
-use Rattle.well_formed.proofs.facts.by_form.Statement.{statement}
-use Rattle.well_formed.proofs.facts.by_form.Tie as tie
+use Rattle.form_facts.proofs.facts_by_form.Statement.{statement}
+use Rattle.form_facts.proofs.facts_by_form.Tie as tie
 use mathlib.Core.Path.{refl, _∙_}
-use Rattle.well_formed.specs.Rounds.{gives}
-use Rattle.well_formed.proofs.FormLaws.{by-fact}
+use Rattle.form_facts.specs.Rules.{gives}
+use Rattle.form_facts.proofs.FactLaws.{by-fact}
 use Rattle.table.proofs.NodeKinds.{over-nine}
 
 returns : tie.Need-returns
@@ -14,16 +14,6 @@ returns c = rw (c .before .match .keys1) (by-fact _ _ (c .facts-of .ensures .0) 
 returns-2 : tie.Need-returns-2
 unfolding gives
 returns-2 c = rw (c .before .match .keys2) (by-fact _ _ (c .facts-of2 .ensures .0) (c .facts-of2 .ensures .1 .0) (c .facts-of2 .ensures .1 .1))
-
-returns-3 : tie.Need-returns-3
-unfolding gives
-returns-3 c = rw (c .match .keys3) (λ x. refl)
-
-returns-4 : tie.Need-returns-4
-returns-4 c = rw (c .before .match .keys4) (c .sequence .ensures)
-
-returns-5 : tie.Need-returns-5
-returns-5 c = rw (c .before .match .keys5) (c .choice .ensures)
 
 returns-6 : tie.Need-returns-6
 unfolding gives
@@ -36,25 +26,17 @@ returns-7 : tie.Need-returns-7
 unfolding gives
 returns-7 c = rw (c .before .match .keys7) (by-fact _ _ (c .facts-of4 .ensures .0) (c .facts-of4 .ensures .1 .0) (c .facts-of4 .ensures .1 .1))
 
-returns-8 : tie.Need-returns-8
-unfolding gives
-returns-8 c = rw (c .match .keys8) (λ x. refl)
-
-returns-9 : tie.Need-returns-9
-unfolding gives
-returns-9 c = rw (c .match .keys9) (λ x. refl)
-
-returns-10 : tie.Need-returns-10
-unfolding gives
-returns-10 c = rw (c .match .keys10) (λ x. refl)
-
 returns-11 : tie.Need-returns-11
 unfolding gives
 returns-11 c = rw (over-nine _ (c .before .match .rest) .1) (by-fact _ _ (c .facts-of5 .ensures .0) (c .facts-of5 .ensures .1 .0) (c .facts-of5 .ensures .1 .1))
 
-pub by-form-spec : {M : Type 1} → statement M
-by-form-spec =
+pub facts-by-form-spec : {M : Type 1} → statement M
+unfolding gives
+facts-by-form-spec =
     tie.close
     (tie.spec (λ c κs. search needs) (λ c κs. search needs) (λ c κs. search needs) (λ c κs. search needs)
     (λ c κs. search needs) (λ c κs. search needs) (λ c κs. search needs) (λ c κs. search needs) returns
-    returns-2 returns-3 returns-4 returns-5 returns-6 returns-7 returns-8 returns-9 returns-10 returns-11)
+    returns-2 (λ c. rw (c .match .keys3) (λ x. refl)) (λ c. rw (c .before .match .keys4) (c .sequence .ensures))
+    (λ c. rw (c .before .match .keys5) (c .choice .ensures)) returns-6 returns-7
+    (λ c. rw (c .match .keys8) (λ x. refl)) (λ c. rw (c .match .keys9) (λ x. refl))
+    (λ c. rw (c .match .keys10) (λ x. refl)) returns-11)
