@@ -30,13 +30,9 @@ pub(crate) fn in_run(b: u8) -> bool
 {
     let class = class_of(b);
     match class {
-        Class::Break => false,
-        Class::Tab => false,
-        Class::Blank => false,
-        Class::Single => false,
         Class::Digit => true,
         Class::Run => true,
-        Class::Refused => false,
+        _ => false,
     }
 }
 

@@ -11,13 +11,8 @@ pub(crate) fn is_digit(b: u8) -> bool
 {
     let class = class_of(b);
     match class {
-        Class::Break => false,
-        Class::Tab => false,
-        Class::Blank => false,
-        Class::Single => false,
         Class::Digit => true,
-        Class::Run => false,
-        Class::Refused => false,
+        _ => false,
     }
 }
 
@@ -26,12 +21,7 @@ pub(crate) fn is_refused(b: u8) -> bool
 {
     let class = class_of(b);
     match class {
-        Class::Break => false,
-        Class::Tab => false,
-        Class::Blank => false,
-        Class::Single => false,
-        Class::Digit => false,
-        Class::Run => false,
         Class::Refused => true,
+        _ => false,
     }
 }

@@ -6,19 +6,18 @@ mod terminals;
 ghost use mathlib.Core.Path.{_≡_};
 ghost use mathlib.Core.Bool.{true, _||_};
 ghost use lib.Dec.{ltb};
-ghost use mathlib.Core.List.{_++_};
 ghost use Prim.Native.Nat.{_+_, _*_, _≤_};
 ghost use lib.ListN.{length, take, drop};
 ghost use Rattle.table.specs.Answer.{afterwards};
 ghost use Rattle.file_fields.specs.Offsets.{keywordsFrom};
 ghost use Rattle.scanner.specs.Places.{places};
-ghost use Rattle.scanner.specs.Tokens.{tokens as tokensOf, wordsOf};
+ghost use Rattle.scanner.specs.Tokens.{wordsOf};
 ghost use Rattle.scanner.specs.Scan.{fails8, scanTokens, scanAnswer};
 ghost use Rattle.scanner.specs.Scan.{numbers as scanNumbers};
 ghost use Rattle.places.specs.Moves.{position, moveOf};
 ghost use Rattle.scanner.specs.Steps.{stepFails9, stepAnswer, standing, positionOf};
 ghost use Rattle.scanner.specs.Steps.{numbers as stepNumbers};
-ghost use Rattle.scanner.specs.InternalFind.{terminalOf, Measured, Ready, HandsOut};
+ghost use Rattle.scanner.specs.InternalFind.{terminalOf, written, Measured, Ready, HandsOut};
 ghost use Rattle.scanner.specs.InternalIndex.{Indexed};
 ghost use Rattle.scanner.specs.InternalChecks.{Checks};
 use classes::is_refused;
@@ -299,11 +298,7 @@ fn write(file: &[u8], keywords: usize, report: &[u8], tokens: &mut [u32])
     requires { ⌜ keywords ≤ 253 ⌝ }
     requires { ⌜ length (now report) ≤ 65535 ⌝ }
     requires { ⌜ length (places (now report)) * 4 ≤ length (now tokens) ⌝ }
-    ensures { λ _. ⌜
-        now (tokens .exit)
-        ≡ wordsOf (tokensOf (keywordsFrom (now (file .entry)) keywords) (now (report .entry)))
-        ++ drop (length (places (now (report .entry))) * 4) (now (tokens .entry))
-        ⌝ }
+    ensures { λ _. ⌜ now (tokens .exit) ≡ written (now (file .entry)) keywords (now (report .entry)) (now (tokens .entry)) ⌝ }
 {
     let mut offsets = [0usize; 253];
     let mut firsts = [255u8; 4096];
@@ -326,11 +321,7 @@ fn write_all(
     requires { ⌜ Indexed (now file) keywords (now offsets) (now firsts) (now nexts) ⌝ }
     requires { ⌜ length (now report) ≤ 65535 ⌝ }
     requires { ⌜ length (places (now report)) * 4 ≤ length (now tokens) ⌝ }
-    ensures { λ _. ⌜
-        now (tokens .exit)
-        ≡ wordsOf (tokensOf (keywordsFrom (now (file .entry)) keywords) (now (report .entry)))
-        ++ drop (length (places (now (report .entry))) * 4) (now (tokens .entry))
-        ⌝ }
+    ensures { λ _. ⌜ now (tokens .exit) ≡ written (now (file .entry)) keywords (now (report .entry)) (now (tokens .entry)) ⌝ }
 {
     let mut to = 0;
     let mut at = 0;

@@ -9,15 +9,9 @@ returns : tie.Need-returns
 unfolding terminalAt
 returns c = rw (c .if1 .taken) refl
 
-bytes-at-requires : tie.Need-bytes-at-requires
-bytes-at-requires c κs = search needs
-
-indexed-requires : tie.Need-indexed-requires
-indexed-requires c κs = search needs
-
 returns-2 : tie.Need-returns-2
 unfolding terminalAt
 returns-2 c = c .indexed .ensures ∙ rw (c .before .before .if1 .left, c .before .bytes-at .ensures) refl
 
 pub indexed-at-spec : {M : Type 1} → statement M
-indexed-at-spec = tie.close (tie.spec returns bytes-at-requires indexed-requires returns-2)
+indexed-at-spec = tie.close (tie.spec returns (λ c κs. search needs) (λ c κs. search needs) returns-2)

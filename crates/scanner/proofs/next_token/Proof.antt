@@ -3,43 +3,42 @@ use borrow.Author.Needs.{needs}
 use Rattle.scanner.proofs.next_token.Statement.{statement}
 use Rattle.scanner.proofs.next_token.Tie as tie
 use mathlib.Core.Path.{sym, _∙_}
-use Rattle.places.specs.Moves.{position}
+use Rattle.places.specs.Moves.{Position, position}
+use Rattle.scanner.specs.InternalChecks.{Passed}
 use Rattle.scanner.proofs.StepLaws.{passed-of, step-first, step-offset, step-column, step-9, step-ready, step-on}
 
+-- Where the first checks passed: the position that the step begins at, and what they give.
+abbrev from : tie.After-first2 → Position
+from c = let args = c .before .before .before .before .before .args in position (args .at) (args .column) (args .mark)
+
+passed :
+    (c : tie.After-first2)
+    → Passed (c .before .before .before .before .before .args .file .now) (c .before .before .before .before .before .args .report .now)
+    (c .first2 .given .0 .0)
+passed c = passed-of (c .before .before .first-checks .ensures) (c .first2 .given .1)
+
 returns : tie.Need-returns
-returns c =
-    let first = c .before .before .before in
-    let h = passed-of (first .before .before .first-checks .ensures) (first .first2 .given .1) in
-    let args = first .before .before .before .before .before .args in
-    step-offset _ _ (position (args .at) (args .column) (args .mark)) h (c .stay2 .ensures) (c .before .if1 .taken)
+returns c = let first = c .before .before .before in step-offset _ _ (from first) (passed first) (c .stay2 .ensures) (c .before .if1 .taken)
 
 returns-2 : tie.Need-returns-2
 returns-2 c =
     let first = c .before .before .before .before in
-    let h = passed-of (first .before .before .first-checks .ensures) (first .first2 .given .1) in
-    let args = first .before .before .before .before .before .args in
-    step-column _ _ (position (args .at) (args .column) (args .mark)) h (c .before .before .if1 .left) (c .stay3 .ensures)
-    (c .before .if2 .taken)
+    step-column _ _ (from first) (passed first) (c .before .before .if1 .left) (c .stay3 .ensures) (c .before .if2 .taken)
 
 returns-3 : tie.Need-returns-3
 returns-3 c =
     let find = c .before .before .before .find in
     let tests = c .before .before .before .before in
     let first = tests .before .before .before in
-    let h = passed-of (first .before .before .first-checks .ensures) (first .first2 .given .1) in
-    let args = first .before .before .before .before .before .args in
-    step-9 _ _ (position (args .at) (args .column) (args .mark)) h (tests .before .if1 .left) (tests .if2 .left)
-    (find .result) (find .ensures) (c .stay4 .ensures) (sym (c .before .if3 .taken) ∙ c .before .before .too-wide .ensures)
+    step-9 _ _ (from first) (passed first) (tests .before .if1 .left) (tests .if2 .left) (find .result) (find .ensures)
+    (c .stay4 .ensures) (sym (c .before .if3 .taken) ∙ c .before .before .too-wide .ensures)
 
 hand-out-requires : tie.Need-hand-out-requires
 hand-out-requires c κs =
-    let find = c .before .before .find in
     let tests = c .before .before .before in
     let first = tests .before .before .before in
-    let h = passed-of (first .before .before .first-checks .ensures) (first .first2 .given .1) in
-    let args = first .before .before .before .before .before .args in
-    step-ready _ _ (position (args .at) (args .column) (args .mark)) h (tests .before .if1 .left) (tests .if2 .left)
-    (find .result) (find .ensures)
+    step-ready _ _ (from first) (passed first) (tests .before .if1 .left) (tests .if2 .left) (c .before .before .find .result)
+    (c .before .before .find .ensures)
 
 returns-4 : tie.Need-returns-4
 returns-4 c =
@@ -53,11 +52,8 @@ returns-5 c =
     let find = c .before .before .before .find in
     let tests = c .before .before .before .before in
     let first = tests .before .before .before in
-    let h = passed-of (first .before .before .first-checks .ensures) (first .first2 .given .1) in
-    let args = first .before .before .before .before .before .args in
-    step-on _ _ (position (args .at) (args .column) (args .mark)) h (tests .before .if1 .left) (tests .if2 .left)
-    (find .result) (find .ensures) (c .hand-out .ensures)
-    (sym (c .before .if3 .left) ∙ c .before .before .too-wide .ensures)
+    step-on _ _ (from first) (passed first) (tests .before .if1 .left) (tests .if2 .left) (find .result) (find .ensures)
+    (c .hand-out .ensures) (sym (c .before .if3 .left) ∙ c .before .before .too-wide .ensures)
 
 pub next-token-spec : {M : Type 1} → statement M
 next-token-spec =

@@ -6,34 +6,36 @@ use native.Mathlib.Omega.{arith}
 use mathlib.Core.Path.{refl}
 use lib.ListN.{length}
 use Rattle.file_fields.specs.Offsets.{keywordsFrom}
+use Rattle.scanner.specs.InternalChecks.{Passed}
 use Rattle.scanner.proofs.StepLaws.{passed-of, scan-first, scan-9, scan-many, scan-short, scan-on, words-after}
 
+-- What the first checks give where they passed.
+passed :
+    (c : tie.After-first2)
+    → Passed (c .before .before .before .before .before .before .args .file .now) (c .before .before .before .before .before .before .args .report .now)
+    (c .first2 .given .0 .0)
+passed c = passed-of (c .before .before .first-checks .ensures) (c .first2 .given .1)
+
 measure-requires : tie.Need-measure-requires
-measure-requires c κs = passed-of (c .before .before .before .first-checks .ensures) (c .before .first2 .given .1) .short
+measure-requires c κs = passed (c .before) .short
 
 returns : tie.Need-returns
-returns c =
-    let first = c .before .before .before in
-    let h = passed-of (first .before .before .first-checks .ensures) (first .first2 .given .1) in
-    (scan-9 _ _ _ h (c .before .measure .ensures) (c .if1 .taken), refl)
+returns c = (scan-9 _ _ _ (passed (c .before .before .before)) (c .before .measure .ensures) (c .if1 .taken), refl)
 
 returns-2 : tie.Need-returns-2
 returns-2 c =
-    let first = c .before .before .before .before in
-    let h = passed-of (first .before .before .first-checks .ensures) (first .first2 .given .1) in
+    let h = passed (c .before .before .before .before) in
     (scan-many _ _ _ h (c .before .before .measure .ensures) (c .before .if1 .left) (c .if2 .taken), refl)
 
 returns-3 : tie.Need-returns-3
 returns-3 c =
-    let first = c .before .before .before .before .before in
-    let h = passed-of (first .before .before .first-checks .ensures) (first .first2 .given .1) in
+    let h = passed (c .before .before .before .before .before) in
     (scan-short _ _ _ h (c .before .before .before .measure .ensures) (c .before .before .if1 .left) (c .if3 .taken), refl)
 
 write-requires : tie.Need-write-requires
 write-requires c κs =
     let measure = c .before .before .before .before .measure in
-    let first = c .before .before .before .before .before .before in
-    let h = passed-of (first .before .before .first-checks .ensures) (first .first2 .given .1) in
+    let h = passed (c .before .before .before .before .before .before) in
     (h .few, (h .short, omega (arith, measure .ensures .count, c .before .if3 .left)))
 
 returns-4 : tie.Need-returns-4
@@ -44,7 +46,7 @@ returns-5 c =
     let tests = c .before .before .before .before in
     let measure = tests .before .before .before .measure in
     let first = tests .before .before .before .before .before in
-    let h = passed-of (first .before .before .first-checks .ensures) (first .first2 .given .1) in
+    let h = passed first in
     let entry = first .before .before .before .before .before .before in (
       scan-on _ _ _ h (measure .ensures) (tests .before .before .if1 .left) (tests .before .if2 .left) (tests .if3 .left),
       words-after (entry .args .file .now) (entry .args .report .now)
