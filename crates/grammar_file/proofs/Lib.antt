@@ -1,5 +1,4 @@
 pub mod OrderLaws
 pub mod ShapeLaws
-pub mod TableLaws
 pub mod PartLaws
 pub mod ReadLaws

@@ -26,7 +26,7 @@ use Rattle.grammar_file.specs.InternalShape.{Parts}
 use Rattle.grammar_file.specs.declared.shape.Shape.{Shape}
 use Rattle.grammar_file.specs.declared.FileRead.the-variants.{Read}
 use Rattle.file_fields.proofs.Offsets.{length-spellings}
-use Rattle.grammar_file.proofs.TableLaws.{length-rules, count-nodes}
+use Rattle.file_tables.proofs.TableLaws.{length-rules, count-nodes}
 
 module _ (file : List ℕ) (s : Shape) (p : Parts file s) where
   pub keywords-are : keywords (fieldsOf file) ≡ spellingsFrom file 4 (s .keywords) 0

@@ -1,26 +1,28 @@
 -- The answers, lookups and lent words of an inspected file.
-use Prim.Native.Nat.{ℕ, _*_, _/_, _≤_, _<_}
+use Prim.Native.Nat.{ℕ, _≤_, _<_}
 use mathlib.Core.Path.{_≡_, sym, ap, ap₂, subst, _∙_}
-use mathlib.Core.Bool.{Bool, _||_, or-true}
+use mathlib.Core.Bool.{Bool, true, false, _||_}
 use mathlib.Core.List.{List, [], _++_, map}
 use lib.ListN.{length, getD, drop, List·getD-eq-default}
 use lib.Dec.{ltb}
 use native.Mathlib.Nat.{le-trans, le-of-eq}
-use native.Mathlib.Omega.{arith}
-use borrow.Author.Tests.{le-ltb, lt-ltb}
 use Rattle.table.specs.Answer.{Answer, given, refused, refuseIf, afterwards}
 use Rattle.table.proofs.AnswerLaws.{first-refuses, first-passes}
 use Rattle.grammar_file.specs.File.{Contents, keywords, ruleNames, ruleNode, ruleList, wordsOf, nodeTable}
 use Rattle.grammar_file.specs.File.{fieldsOf, fails6, contents, fileAnswer, readAnswer, partOf, keywordBytes}
 use Rattle.grammar_file.specs.File.{nameBytes}
+use Rattle.file_tables.specs.Tables.{tooShort, written}
 use Rattle.file_fields.specs.Offsets.{valueAt, offsetOf, fieldsFrom}
 use Rattle.grammar_file.specs.InternalShape.{Parts, Inspects}
 use Rattle.grammar_file.specs.declared.shape.Shape.{Shape}
 use Rattle.grammar_file.specs.declared.Inspected.{Inspected}
 use Rattle.grammar_file.specs.declared.Inspected.the-variants.{Whole, Refused}
 use Rattle.file_fields.proofs.Offsets.{length-spellings, spelling-from}
-use Rattle.grammar_file.proofs.TableLaws.{length-nodes}
-use Rattle.grammar_file.proofs.PartLaws.{keywords-are, names-are, rules-are, nodes-are, keyword-count, rule-count}
+use Rattle.grammar_file.proofs.PartLaws.{keywords-are, names-are, rules-are, nodes-are, keyword-count}
+
+-- What a slice holds, where it is known whether one was too short.
+pub kept : {x y : Bool} → x ≡ y → (words old : List ℕ) {out : List ℕ} → out ≡ written x words old → out ≡ written y words old
+kept t words old q = q ∙ ap (λ (b : Bool). written b words old) t
 
 module _ (file : List ℕ) {r : Inspected} (i : Inspects file r) where
   -- A file that one of 1 to 5 refuses.
@@ -85,48 +87,34 @@ module _ (file : List ℕ) {r : Inspected} (i : Inspects file r) where
         names-length : length (ruleNames (fieldsOf file)) ≡ s .rules .count
         names-length = ap length (names-are file s parts) ∙ length-spellings file (s .rules .at) (s .rules .count) 2
 
-    table-length : length (nodeTable (fieldsOf file)) ≡ s .nodes .count * 4
-    table-length = ap length (nodes-are file s parts) ∙ length-nodes file (s .nodes .at) (s .nodes .count)
+    -- Number 6: too little room for the nodes or the rules, and enough for both.
+    module _ (n m : ℕ) {x : Bool}
+        (d : x ≡ tooShort (wordsOf (fieldsFrom file (s .nodes .at) (s .nodes .count))) (map ruleNode (fieldsFrom file (s .rules .at) (s .rules .count))) n m) where
+      room : refuseIf x 6 (given (contents (fieldsOf file))) ≡ readAnswer file n m
+      unfolding tooShort fails6 readAnswer
+      room =
+          ap (λ (b : Bool). refuseIf b 6 (given (contents (fieldsOf file))))
+          (d ∙ ap₂ (λ (k l : List ℕ). ltb n (length k) || ltb m (length l)) (sym (nodes-are file s parts)) (sym (rules-are file s parts)))
+          ∙ first-passes _ passes
 
-    -- Number 6: too little room for the nodes, for the rules, and enough for both.
-    pub short-nodes : (n m : ℕ) → n / 4 < s .nodes .count → refused 6 ≡ readAnswer file n m
-    unfolding readAnswer fails6
-    short-nodes n m h =
-        ap
-        (λ (b : Bool).
-        refuseIf (b || ltb m (length (ruleList (fieldsOf file)))) 6 (given (contents (fieldsOf file))))
-        (sym (lt-ltb n (length (nodeTable (fieldsOf file))) (omega (arith, table-length))))
-        ∙ first-passes _ passes
+      pub short : x ≡ true → refused 6 ≡ readAnswer file n m
+      short t = sym (ap (λ (b : Bool). refuseIf b 6 (given (contents (fieldsOf file)))) t) ∙ room
 
-    pub short-rules : (n m : ℕ) → m < s .rules .count → refused 6 ≡ readAnswer file n m
-    unfolding readAnswer fails6
-    short-rules n m h =
-        ap (λ (b : Bool). refuseIf b 6 (given (contents (fieldsOf file))))
-        (sym
-        (ap (λ (b : Bool). ltb n (length (nodeTable (fieldsOf file))) || b)
-        (lt-ltb m (length (ruleList (fieldsOf file))) (omega (arith, rule-count file s parts)))
-        ∙ or-true (ltb n (length (nodeTable (fieldsOf file))))))
-        ∙ first-passes _ passes
-
-    pub enough : (n m : ℕ) → s .nodes .count ≤ n / 4 → s .rules .count ≤ m → given (contents (fieldsOf file)) ≡ readAnswer file n m
-    unfolding readAnswer fails6
-    enough n m a b =
-        ap₂ (λ (c d : Bool). refuseIf (c || d) 6 (given (contents (fieldsOf file))))
-        (sym (le-ltb n (length (nodeTable (fieldsOf file))) (omega (arith, table-length))))
-        (sym (le-ltb m (length (ruleList (fieldsOf file))) (omega (arith, rule-count file s parts))))
-        ∙ first-passes _ passes
+      pub enough : x ≡ false → given (contents (fieldsOf file)) ≡ readAnswer file n m
+      enough t = sym (ap (λ (b : Bool). refuseIf b 6 (given (contents (fieldsOf file)))) t) ∙ room
 
     -- The lent words after a read.
-    pub nodes-after : {a : Answer Contents} → a ≡ given (contents (fieldsOf file)) → (old : List ℕ) {out : List ℕ}
-        → out ≡ wordsOf (fieldsFrom file (s .nodes .at) (s .nodes .count)) ++ drop (s .nodes .count * 4) old → out ≡ afterwards a (nodeTable (fieldsOf file)) old
-    nodes-after h old q =
-        q
-        ∙ ap₂ (λ (l : List ℕ) (k : ℕ). l ++ drop k old) (sym (nodes-are file s parts)) (sym table-length)
-        ∙ ap (λ (b : Answer Contents). afterwards b (nodeTable (fieldsOf file)) old) (sym h)
+    after : {a : Answer Contents} → a ≡ given (contents (fieldsOf file)) → {x : Bool} → x ≡ false → (words table : List ℕ) → table ≡ words
+        → (old : List ℕ) {out : List ℕ} → out ≡ written x words old → out ≡ afterwards a table old
+    after h t words table d old q =
+        kept t words old q
+        ∙ ap (λ (l : List ℕ). l ++ drop (length l) old) (sym d)
+        ∙ ap (λ (b : Answer Contents). afterwards b table old) (sym h)
 
-    pub rules-after : {a : Answer Contents} → a ≡ given (contents (fieldsOf file)) → (old : List ℕ) {out : List ℕ}
-        → out ≡ map ruleNode (fieldsFrom file (s .rules .at) (s .rules .count)) ++ drop (s .rules .count) old → out ≡ afterwards a (ruleList (fieldsOf file)) old
-    rules-after h old q =
-        q
-        ∙ ap₂ (λ (l : List ℕ) (k : ℕ). l ++ drop k old) (sym (rules-are file s parts)) (sym (rule-count file s parts))
-        ∙ ap (λ (b : Answer Contents). afterwards b (ruleList (fieldsOf file)) old) (sym h)
+    pub nodes-after : {a : Answer Contents} → a ≡ given (contents (fieldsOf file)) → {x : Bool} → x ≡ false → (old : List ℕ) {out : List ℕ}
+        → out ≡ written x (wordsOf (fieldsFrom file (s .nodes .at) (s .nodes .count))) old → out ≡ afterwards a (nodeTable (fieldsOf file)) old
+    nodes-after h t = after h t _ (nodeTable (fieldsOf file)) (nodes-are file s parts)
+
+    pub rules-after : {a : Answer Contents} → a ≡ given (contents (fieldsOf file)) → {x : Bool} → x ≡ false → (old : List ℕ) {out : List ℕ}
+        → out ≡ written x (map ruleNode (fieldsFrom file (s .rules .at) (s .rules .count))) old → out ≡ afterwards a (ruleList (fieldsOf file)) old
+    rules-after h t = after h t _ (ruleList (fieldsOf file)) (rules-are file s parts)

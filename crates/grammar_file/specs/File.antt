@@ -8,13 +8,13 @@ use lib.ListN.{length, getD, drop}
 use lib.Dec.{ltb, eqb}
 use Rattle.table.specs.Answer.{Answer, given, refused, refusedAt, refuseIf, andThen}
 use Rattle.table.specs.Every.{every}
-use Rattle.table.specs.Words.{eachWords}
 use Rattle.table.specs.Limits.{relationCount}
 use Rattle.table.specs.Form.{nodeCount}
 use Rattle.table.specs.Checks.{fails3, fails4, fails5}
 use Rattle.file_fields.specs.Fields.{Field, twoBytes, fields, inOrder, tagged, rightLength}
 use Rattle.file_fields.specs.Offsets.{keywordsFrom}
 use Rattle.spellings.specs.Spellings.{singleAlone, rightSpellings}
+pub use Rattle.file_tables.specs.Tables.{ruleNode, fourWords, wordsOf}
 use Rattle.grammar_file.specs.declared.FileRead.{FileRead}
 use Rattle.grammar_file.specs.declared.FileRead.the-variants.{Read, Refused}
 
@@ -38,29 +38,12 @@ rightValues (f ∷ fs) = rightValue f && rightValues fs
 unfoldable pub keywords : List Field → List (List ℕ)
 keywords fs = map (λ f. f .value) (tagged 2 fs)
 
--- "tag 3, a rule: two-byte node number, then its name"
-abbrev pub ruleNode : Field → ℕ
-ruleNode f = twoBytes (getD (f .value) 0 0) (getD (f .value) 1 0)
-
 -- The rule list: the node of each rule.
 unfoldable pub ruleList : List Field → List ℕ
 ruleList fs = map ruleNode (tagged 3 fs)
 
 unfoldable pub ruleNames : List Field → List (List ℕ)
 ruleNames fs = map (λ f. drop 2 (f .value)) (tagged 3 fs)
-
--- "tag 4, a node: kind (one byte), a (two), b (two), relation (one)": its four words.
-abbrev pub fourWords : Field → List ℕ
-fourWords f =
-    getD (f .value) 0 0
-    ∷ twoBytes (getD (f .value) 1 0) (getD (f .value) 2 0)
-    ∷ twoBytes (getD (f .value) 3 0) (getD (f .value) 4 0)
-    ∷ getD (f .value) 5 0
-    ∷ []
-
--- The words of node fields, one field behind the other.
-abbrev pub wordsOf : List Field → List ℕ
-wordsOf fs = eachWords fourWords fs
 
 -- The table.
 unfoldable pub nodeTable : List Field → List ℕ

@@ -1,6 +1,5 @@
 // The grammar file reader: from the bytes of a grammar file to its table, its rules and its start (numbers 1 to 6).
 mod shape;
-mod tables;
 
 ghost use mathlib.Core.Path.{_≡_};
 ghost use lib.ListN.{length};
@@ -12,16 +11,15 @@ use file_fields::byte_in;
 use file_fields::offset_of;
 use file_fields::spelling_at;
 use file_fields::value_at;
+use file_tables::check_tables;
+use file_tables::first_number;
+use file_tables::write_tables;
 use shape::Shape;
 use shape::shape_of;
 use spellings::right_spellings;
 use spellings::singles_alone;
 use table::Checked;
 use table::refusals;
-use tables::check_tables;
-use tables::number_in;
-use tables::write_nodes;
-use tables::write_rules;
 
 // What a file was read as: the counts of nodes, rules and keywords and the start, or the number of the first check
 // that fails.
@@ -63,18 +61,11 @@ pub fn read(file: &[u8], nodes: &mut [u16], rules: &mut [u16]) -> FileRead
     match found {
         Inspected::Refused(n) => FileRead::Refused(n),
         Inspected::Whole(s) => {
-            let node_group = s.nodes;
-            let rule_group = s.rules;
-            let node_count = node_group.count;
-            let rule_count = rule_group.count;
-            if nodes.len() / 4 < node_count {
+            let n = s.nodes;
+            let r = s.rules;
+            if write_tables(file, n.at, n.count, r.at, r.count, nodes, rules) {
                 return FileRead::Refused(refusals::ROOM);
             }
-            if rules.len() < rule_count {
-                return FileRead::Refused(refusals::ROOM);
-            }
-            write_nodes(file, node_group.at, node_count, nodes);
-            write_rules(file, rule_group.at, rule_count, rules);
             counts(file, s)
         }
     }
@@ -148,7 +139,7 @@ fn inspect(file: &[u8]) -> Inspected
         Checked::Passes => {}
     }
     let value = value_at(file, s.start);
-    if number_in(value, 0) as usize >= nodes.count {
+    if first_number(value) as usize >= nodes.count {
         return Inspected::Refused(refusals::RULE);
     }
     if byte_in(value, 2) >= table::RELATIONS {
@@ -185,7 +176,7 @@ fn counts(file: &[u8], s: Shape) -> FileRead
         nodes: nodes.count,
         rules: rules.count,
         keywords: s.keywords,
-        start: number_in(value, 0),
+        start: first_number(value),
         mode: byte_in(value, 2),
     }
 }

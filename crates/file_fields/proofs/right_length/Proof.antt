@@ -20,29 +20,9 @@ no-tag (suc (suc (suc (suc zero)))) n h = absurd (h .0 .1 refl)
 no-tag (suc (suc (suc (suc (suc zero))))) n h = absurd (h .1 refl)
 no-tag (suc (suc (suc (suc (suc (suc t)))))) n h = refl
 
-returns : tie.Need-returns
-unfolding rightLength
-returns c = rw (c .match .keys1) refl
-
-returns-2 : tie.Need-returns-2
-unfolding rightLength
-returns-2 c = rw (c .match .keys2) refl
-
-returns-3 : tie.Need-returns-3
-unfolding rightLength
-returns-3 c = rw (c .match .keys3) refl
-
-returns-4 : tie.Need-returns-4
-unfolding rightLength
-returns-4 c = rw (c .match .keys4) refl
-
-returns-5 : tie.Need-returns-5
-unfolding rightLength
-returns-5 c = rw (c .match .keys5) refl
-
-returns-6 : tie.Need-returns-6
-unfolding NoTag
-returns-6 c = sym (no-tag _ _ (c .match .rest))
-
 pub right-length-spec : {M : Type 1} → statement M
-right-length-spec = tie.close (tie.spec returns returns-2 returns-3 returns-4 returns-5 returns-6)
+unfolding rightLength NoTag
+right-length-spec =
+    tie.close
+    (tie.spec (λ c. rw (c .match .keys1) refl) (λ c. rw (c .match .keys2) refl) (λ c. rw (c .match .keys3) refl)
+    (λ c. rw (c .match .keys4) refl) (λ c. rw (c .match .keys5) refl) (λ c. sym (no-tag _ _ (c .match .rest))))

@@ -7,8 +7,8 @@ use Rattle.grammar_file.proofs.PartLaws.{counted, keywords-stand}
 value-at-requires : tie.Need-value-at-requires
 value-at-requires c κs = search needs
 
-number-in-requires : tie.Need-number-in-requires
-number-in-requires c κs = search needs
+first-number-requires : tie.Need-first-number-requires
+first-number-requires c κs = search needs
 
 byte-in-requires : tie.Need-byte-in-requires
 byte-in-requires c κs = search needs
@@ -17,9 +17,9 @@ returns : tie.Need-returns
 returns c =
     let start = c .before .before .before .before .before .before in (
       counted (start .args .file .now) (start .args .s) (start .pre) (c .before .before .value-at .ensures)
-          (c .before .number-in .ensures) (c .byte-in .ensures .0),
+          (c .before .first-number .ensures) (c .byte-in .ensures .0),
       keywords-stand (start .args .file .now) (start .args .s) (start .pre),
     )
 
 pub counts-spec : {M : Type 1} → statement M
-counts-spec = tie.close (tie.spec value-at-requires number-in-requires byte-in-requires returns)
+counts-spec = tie.close (tie.spec value-at-requires first-number-requires byte-in-requires returns)

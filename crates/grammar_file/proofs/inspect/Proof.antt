@@ -53,12 +53,12 @@ returns-4 c =
     (sym (names-wrong .ensures) ∙ if2 .left) (ap checkedNumbers (sym (enum-told .given .1)) ∙ check-tables .ensures)
     false _
     (start-test (start .args .file .now) (shape-of .result) (shape-of .ensures .right (not-false _ (if1 .left)))
-    (value-at .ensures) (c .before .before .number-in .ensures)
+    (value-at .ensures) (c .before .before .first-number .ensures)
     ∙ le-ltb _ _ (c .if3 .taken)) refl
 
 returns-5 : tie.Need-returns-5
 returns-5 c =
-    let number-in = c .before .before .before .before .number-in in
+    let first-number = c .before .before .before .before .first-number in
     let value-at = c .before .before .before .before .before .value-at in
     let enum-told = c .before .before .before .before .before .before .enum-told in
     let check-tables = c .before .before .before .before .before .before .before .before .check-tables in
@@ -71,7 +71,7 @@ returns-5 c =
     (sym (names-wrong .ensures) ∙ if2 .left) (ap checkedNumbers (sym (enum-told .given .1)) ∙ check-tables .ensures)
     true false
     (start-test (start .args .file .now) (shape-of .result) (shape-of .ensures .right (not-false _ (if1 .left)))
-    (value-at .ensures) (number-in .ensures)
+    (value-at .ensures) (first-number .ensures)
     ∙ lt-ltb _ _ (c .before .before .if3 .left))
     (mode-test (start .args .file .now) (shape-of .result) (shape-of .ensures .right (not-false _ (if1 .left)))
     (value-at .ensures) (c .before .byte-in .ensures .0)
@@ -79,7 +79,7 @@ returns-5 c =
 
 returns-6 : tie.Need-returns-6
 returns-6 c =
-    let number-in = c .before .before .before .before .number-in in
+    let first-number = c .before .before .before .before .first-number in
     let value-at = c .before .before .before .before .before .value-at in
     let enum-told = c .before .before .before .before .before .before .enum-told in
     let check-tables = c .before .before .before .before .before .before .before .before .check-tables in
@@ -93,7 +93,7 @@ returns-6 c =
           (sym (names-wrong .ensures) ∙ if2 .left)
           (ap checkedNumbers (sym (enum-told .given .1)) ∙ check-tables .ensures) true true
           (start-test (start .args .file .now) (shape-of .result)
-          (shape-of .ensures .right (not-false _ (if1 .left))) (value-at .ensures) (number-in .ensures)
+          (shape-of .ensures .right (not-false _ (if1 .left))) (value-at .ensures) (first-number .ensures)
           ∙ lt-ltb _ _ (c .before .before .if3 .left))
           (mode-test (start .args .file .now) (shape-of .result) (shape-of .ensures .right (not-false _ (if1 .left)))
           (value-at .ensures) (c .before .byte-in .ensures .0)

@@ -4,40 +4,33 @@ use Rattle.grammar_file.proofs.read.Statement.{statement}
 use Rattle.grammar_file.proofs.read.Tie as tie
 use mathlib.Core.Path.{refl, _∙_}
 use lib.ListN.{length}
-use Rattle.grammar_file.specs.File.{readAnswer}
-use Rattle.grammar_file.proofs.ReadLaws.{read-refuses, parts, short-nodes, short-rules, enough, nodes-after, rules-after}
+use Rattle.grammar_file.proofs.ReadLaws.{read-refuses, parts, short, enough, kept, nodes-after, rules-after}
 
 returns : tie.Need-returns
 returns c =
-    let found2 = c .before .before .before .before .found2 in
-    let inspect = c .before .before .before .before .before .before .inspect in
-    let start = c .before .before .before .before .before .before .before .before .before .before in (
-      short-nodes (start .args .file .now) (inspect .ensures) (found2 .given .0 .0) (found2 .given .1)
-          (length (start .args .nodes .now)) (length (start .args .rules .now)) (c .if1 .taken),
-      (refl, refl),
-    )
-
-returns-2 : tie.Need-returns-2
-returns-2 c =
-    let found2 = c .before .before .before .before .before .found2 in
-    let inspect = c .before .before .before .before .before .before .before .inspect in
-    let start = c .before .before .before .before .before .before .before .before .before .before .before in (
-      short-rules (start .args .file .now) (inspect .ensures) (found2 .given .0 .0) (found2 .given .1)
-          (length (start .args .nodes .now)) (length (start .args .rules .now)) (c .if2 .taken),
-      (refl, refl),
+    let after-write = c .before .before .before .before .before in
+    let after-found = after-write .before .before .before .before .before .before in
+    let after-inspect = after-found .before .before in
+    let start = after-inspect .before .before .before .before in (
+      short (start .args .file .now) (after-inspect .inspect .ensures) (after-found .found2 .given .0 .0)
+          (after-found .found2 .given .1) (length (start .args .nodes .now)) (length (start .args .rules .now))
+          (after-write .write-tables .ensures .0) (c .if1 .taken),
+      (
+        kept (c .if1 .taken) _ (start .args .nodes .now) (after-write .write-tables .ensures .1 .0),
+        kept (c .if1 .taken) _ (start .args .rules .now) (after-write .write-tables .ensures .1 .1),
+      ),
     )
 
 counts-requires : tie.Need-counts-requires
 counts-requires c κs =
-    let found2 = c .before .before .before .before .before .before .before .before .before .before .before .before .before .found2 in
-    let inspect = c .before .before .before .before .before .before .before .before .before .before .before .before .before .before .before .inspect in
-    let start =
-    c .before .before .before .before .before .before .before .before .before .before .before .before .before
-    .before .before .before .before .before .before in
-    parts (start .args .file .now) (inspect .ensures) (found2 .given .0 .0) (found2 .given .1)
+    let after-write = c .before .before .before .before .before in
+    let after-found = after-write .before .before .before .before .before .before in
+    let after-inspect = after-found .before .before in
+    let start = after-inspect .before .before .before .before in
+    parts (start .args .file .now) (after-inspect .inspect .ensures) (after-found .found2 .given .0 .0) (after-found .found2 .given .1)
 
-returns-3 : tie.Need-returns-3
-returns-3 c =
+returns-2 : tie.Need-returns-2
+returns-2 c =
     let inspect = c .before .before .before .inspect in
     let start = c .before .before .before .before .before .before .before in (
       read-refuses (start .args .file .now) (inspect .ensures) (c .before .found .given .0 .0)
@@ -45,31 +38,29 @@ returns-3 c =
       (refl, refl),
     )
 
-returns-4 : tie.Need-returns-4
-returns-4 c =
-    let write-rules = c .before .before .before .write-rules in
-    let write-nodes = c .before .before .before .before .before .before .before .write-nodes in
-    let if2 = c .before .before .before .before .before .before .before .before .before .if2 in
-    let if1 = c .before .before .before .before .before .before .before .before .before .before .if1 in
-    let found2 = c .before .before .before .before .before .before .before .before .before .before .before .before .before .before .found2 in
-    let inspect = c .before .before .before .before .before .before .before .before .before .before .before .before .before .before .before .before .inspect in
-    let start =
-    c .before .before .before .before .before .before .before .before .before .before .before .before .before
-    .before .before .before .before .before .before .before in (
+returns-3 : tie.Need-returns-3
+returns-3 c =
+    let after-write = c .before .before .before .before .before .before in
+    let after-found = after-write .before .before .before .before .before .before in
+    let after-inspect = after-found .before .before in
+    let start = after-inspect .before .before .before .before in (
       c .counts .ensures .0
-          ∙ enough (start .args .file .now) (inspect .ensures) (found2 .given .0 .0) (found2 .given .1)
-          (length (start .args .nodes .now)) (length (start .args .rules .now)) (if1 .left) (if2 .left),
+          ∙ enough (start .args .file .now) (after-inspect .inspect .ensures) (after-found .found2 .given .0 .0)
+          (after-found .found2 .given .1) (length (start .args .nodes .now)) (length (start .args .rules .now))
+          (after-write .write-tables .ensures .0) (c .before .if1 .left),
       (
-        nodes-after (start .args .file .now) (inspect .ensures) (found2 .given .0 .0) (found2 .given .1)
-            (c .counts .ensures .0) (start .args .nodes .now) (write-nodes .ensures),
-        rules-after (start .args .file .now) (inspect .ensures) (found2 .given .0 .0) (found2 .given .1)
-            (c .counts .ensures .0) (start .args .rules .now) (write-rules .ensures),
+        nodes-after (start .args .file .now) (after-inspect .inspect .ensures) (after-found .found2 .given .0 .0)
+            (after-found .found2 .given .1) (c .counts .ensures .0) (c .before .if1 .left) (start .args .nodes .now)
+            (after-write .write-tables .ensures .1 .0),
+        rules-after (start .args .file .now) (after-inspect .inspect .ensures) (after-found .found2 .given .0 .0)
+            (after-found .found2 .given .1) (c .counts .ensures .0) (c .before .if1 .left) (start .args .rules .now)
+            (after-write .write-tables .ensures .1 .1),
       ),
     )
 
 pub read-spec : {M : Type 1} → statement M
 read-spec =
     tie.close
-    (tie.spec (λ c κs. search needs) (λ c. search needs) (λ c. search needs) returns returns-2
-    (λ c κs. search needs) (λ c κs. search needs) counts-requires returns-3 (λ c. search needs)
-    (λ c. search needs) returns-4)
+    (tie.spec (λ c κs. search needs) (λ c. search needs) (λ c. search needs) (λ c κs. search needs)
+    (λ c. search needs) (λ c. search needs) returns counts-requires returns-2 (λ c. search needs)
+    (λ c. search needs) returns-3)

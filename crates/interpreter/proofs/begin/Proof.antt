@@ -35,42 +35,33 @@ expression-requires c κs =
 
 sub-read : tie.Need-sub-read
 sub-read c =
-    let expression = c .before .before .before .expression in
-    let if2 = c .before .before .before .before .before .if2 in
-    let start-wrong = c .before .before .before .before .before .before .start-wrong in
-    let if1 = c .before .before .before .before .before .before .before .if1 in
-    let tokens-wrong = c .before .before .before .before .before .before .before .before .tokens-wrong in
-    let start = c .before .before .before .before .before .before .before .before .before .before .before .before in
+    let else2 = c .before .before .before .before .before in
+    let else1 = else2 .before .before in
+    let start = else1 .before .before .before .before .before in
     omega (
       arith,
-      success-onward (start .args .nodes .now) (start .args .rules .now) (start .args .tokens .now)
-          (start .args .start) (start .pre) (sym (tokens-wrong .ensures) ∙ if1 .left)
-          (sym (start-wrong .ensures) ∙ if2 .left) (c .before .x .given .0 .0) (c .before .x .given .1)
-          (expression .ensures),
+      success-onward (start .args .nodes .now) (start .args .rules .now) (start .args .tokens .now) (start .args .start)
+          (start .pre) (sym (else1 .before .tokens-wrong .ensures) ∙ else1 .if1 .left) (sym (else2 .before .start-wrong .ensures) ∙ else2 .if2 .left)
+          (c .before .x .given .0 .0) (c .before .x .given .1) (c .before .before .before .expression .ensures),
     )
 
 returns-3 : tie.Need-returns-3
 returns-3 c =
-    let if2 = c .before .before .before .before .if2 in
-    let start-wrong = c .before .before .before .before .before .start-wrong in
-    let if1 = c .before .before .before .before .before .before .if1 in
-    let tokens-wrong = c .before .before .before .before .before .before .before .tokens-wrong in
-    let start = c .before .before .before .before .before .before .before .before .before .before .before in
+    let else2 = c .before .before .before .before in
+    let else1 = else2 .before .before in
+    let start = else1 .before .before .before .before .before in
     answer-failure (start .args .nodes .now) (start .args .rules .now) (start .args .tokens .now) (start .args .start)
-    (start .pre) (sym (tokens-wrong .ensures) ∙ if1 .left) (sym (start-wrong .ensures) ∙ if2 .left)
+    (start .pre) (sym (else1 .before .tokens-wrong .ensures) ∙ else1 .if1 .left) (sym (else2 .before .start-wrong .ensures) ∙ else2 .if2 .left)
     (c .enum-told .given .1) (c .before .before .expression .ensures)
 
 returns-4 : tie.Need-returns-4
 returns-4 c =
-    let expression = c .before .before .before .expression in
-    let if2 = c .before .before .before .before .before .if2 in
-    let start-wrong = c .before .before .before .before .before .before .start-wrong in
-    let if1 = c .before .before .before .before .before .before .before .if1 in
-    let tokens-wrong = c .before .before .before .before .before .before .before .before .tokens-wrong in
-    let start = c .before .before .before .before .before .before .before .before .before .before .before .before in
+    let else2 = c .before .before .before .before .before in
+    let else1 = else2 .before .before in
+    let start = else1 .before .before .before .before .before in
     answer-success (start .args .nodes .now) (start .args .rules .now) (start .args .tokens .now) (start .args .start)
-    (start .pre) (sym (tokens-wrong .ensures) ∙ if1 .left) (sym (start-wrong .ensures) ∙ if2 .left)
-    (c .before .x .given .0 .0) (c .before .x .given .1) (expression .ensures)
+    (start .pre) (sym (else1 .before .tokens-wrong .ensures) ∙ else1 .if1 .left) (sym (else2 .before .start-wrong .ensures) ∙ else2 .if2 .left)
+    (c .before .x .given .0 .0) (c .before .x .given .1) (c .before .before .before .expression .ensures)
 
 pub begin-spec : {M : Type 1} → statement M
 begin-spec =

@@ -12,26 +12,15 @@ begin-requires c κs = sym (c .before .before .check .ensures .0) ∙ ap verdict
 returns : tie.Need-returns
 returns c =
     let check = c .before .before .before .check in
-    let start = c .before .before .before .before .before .before .before in (
-      check-refuses (start .args .nodes .now) (start .args .rules .now) (start .args .tokens .now)
-          (start .args .start) (sym (ap verdict-numbers (c .before .number .given .1)) ∙ check .ensures .0),
-      tt,
-    )
+    (check-refuses _ _ _ _ (sym (ap verdict-numbers (c .before .number .given .1)) ∙ check .ensures .0), tt)
 
 returns-2 : tie.Need-returns-2
 returns-2 c =
     let check = c .before .before .before .check in
-    let start = c .before .before .before .before .before .before .before in (
-      check-names (start .args .nodes .now) (start .args .rules .now) (start .args .tokens .now)
-          (start .args .start) (sym (ap verdict-numbers (c .before .node .given .1)) ∙ check .ensures .0),
-      tt,
-    )
-
-returns-3 : tie.Need-returns-3
-returns-3 c = c .begin .ensures
+    (check-names _ _ _ _ (sym (ap verdict-numbers (c .before .node .given .1)) ∙ check .ensures .0), tt)
 
 pub run-spec : {M : Type 1} → statement M
 run-spec =
     tie.close
     (tie.spec (λ c κs. tt) (λ c. search needs) (λ c. search needs) (λ c. search needs) begin-requires returns
-    returns-2 returns-3)
+    returns-2 (λ c. c .begin .ensures))

@@ -16,24 +16,22 @@ returns-2 c = rw (sym (c .before .before .before .counts-wrong .ensures) ∙ c .
 returns-3 : tie.Need-returns-3
 unfolding tableAnswer
 returns-3 c =
-    let node-wrong = c .before .before .before .node-wrong in
-    let if1 = c .before .before .before .before .if1 in
-    let counts-wrong = c .before .before .before .before .before .counts-wrong in
+    let else2 = c .before .before in
+    let else1 = else2 .before .before in
     rw (
-      sym (counts-wrong .ensures) ∙ if1 .left,
-      sym (node-wrong .ensures) ∙ c .before .before .if2 .left,
+      sym (else1 .before .counts-wrong .ensures) ∙ else1 .if1 .left,
+      sym (else2 .before .node-wrong .ensures) ∙ else2 .if2 .left,
       sym (c .before .rule-wrong .ensures) ∙ c .if3 .taken,
     ) refl
 
 returns-4 : tie.Need-returns-4
 unfolding tableAnswer
 returns-4 c =
-    let node-wrong = c .before .before .before .node-wrong in
-    let if1 = c .before .before .before .before .if1 in
-    let counts-wrong = c .before .before .before .before .before .counts-wrong in
+    let else2 = c .before .before in
+    let else1 = else2 .before .before in
     rw (
-      sym (counts-wrong .ensures) ∙ if1 .left,
-      sym (node-wrong .ensures) ∙ c .before .before .if2 .left,
+      sym (else1 .before .counts-wrong .ensures) ∙ else1 .if1 .left,
+      sym (else2 .before .node-wrong .ensures) ∙ else2 .if2 .left,
       sym (c .before .rule-wrong .ensures) ∙ c .if3 .left,
     ) refl
 

@@ -1,11 +1,11 @@
 -- The words of a table and its rules, written field by field.
-use Prim.Native.Nat.{ℕ, _+_, _*_, _%_, _<_}
+use Prim.Native.Nat.{ℕ, _+_, _*_, _/_, _%_, _≤_, _<_}
 use mathlib.Core.Path.{_≡_, refl, sym, ap, ap₂, _∙_}
 use mathlib.Core.List.{List, [], _∷_, _++_, map, map-append}
 use native.Mathlib.Omega.{arith}
-use borrow.Author.Tests.{lt-leb, lt-ltb}
-use mathlib.Core.Bool.{not, _&&_, _||_, and-false, or-true}
-use lib.Dec.{leb, eqb}
+use borrow.Author.Tests.{lt-leb, lt-ltb, le-ltb}
+use mathlib.Core.Bool.{true, false, not, _&&_, _||_, and-false, or-true}
+use lib.Dec.{leb, ltb, eqb}
 use lib.Seq.{take-at}
 use Rattle.table.specs.Words.{eachWords}
 use Rattle.table.proofs.Words.{words-append, length-words}
@@ -13,11 +13,12 @@ use Rattle.table.specs.Answer.{refused}
 use Rattle.table.specs.Limits.{mostNodes, mostRules}
 use Rattle.table.specs.Form.{nodeCount}
 use Rattle.table.specs.Checks.{fails3, tableAnswer}
-use lib.ListN.{length, take, drop, set, length-map}
-use Rattle.grammar_file.specs.File.{ruleNode, fourWords, wordsOf}
-use Rattle.file_fields.specs.Offsets.{fieldAt, offsetOf, fieldsFrom}
+use lib.ListN.{length, take, drop, set, getD, length-map}
+use Rattle.file_tables.specs.Tables.{ruleNode, fourWords, wordsOf, tooShort}
+use Rattle.file_fields.specs.Fields.{twoBytes}
+use Rattle.file_fields.specs.Offsets.{fieldAt, nextAt, offsetOf, fieldsFrom}
 use Rattle.file_fields.proofs.Lists.{write-next, four-more}
-use Rattle.file_fields.proofs.Offsets.{length-from, from-next}
+use Rattle.file_fields.proofs.Offsets.{length-from, from-next, offset-next}
 
 module _ (file : List ℕ) (first : ℕ) where
   pub length-nodes : (k : ℕ) → length (wordsOf (fieldsFrom file first k)) ≡ k * 4
@@ -51,6 +52,26 @@ node-next file first k old out a b c d e h p =
     ∙ sym (words-append fourWords (fieldsFrom file first k) (fieldAt file (offsetOf file first k) ∷ []))
     ∙ ap wordsOf (sym (from-next file first k))) n
 
+-- Four words that were read from a value are those of the field with this value.
+pub four-same :
+    {v w : List ℕ} {a b c d : ℕ}
+    → a ≡ getD v 0 0
+    → b ≡ twoBytes (getD v 1 0) (getD v 2 0)
+    → c ≡ twoBytes (getD v 3 0) (getD v 4 0)
+    → d ≡ getD v 5 0
+    → v ≡ w
+    → (a ∷ b ∷ c ∷ d ∷ [])
+    ≡ (getD w 0 0 ∷ twoBytes (getD w 1 0) (getD w 2 0) ∷ twoBytes (getD w 3 0) (getD w 4 0) ∷ getD w 5 0 ∷ [])
+four-same p q r s e = rw (p, q, r, s, e) refl
+
+-- The offset of the next field.
+pub offset-stepped :
+    (file : List ℕ) (first k : ℕ) {at next : ℕ}
+    → next ≡ nextAt file at
+    → at ≡ offsetOf file first k
+    → next ≡ offsetOf file first (k + 1)
+offset-stepped file first k n e = n ∙ ap (nextAt file) e ∙ sym (offset-next file first k)
+
 -- What was written stands in front.
 module _ (file : List ℕ) (first k : ℕ) where
   pub nodes-front : (rest : List ℕ) {out : List ℕ} → out ≡ wordsOf (fieldsFrom file first k) ++ rest → take (k * 4) out ≡ wordsOf (fieldsFrom file first k)
@@ -62,6 +83,38 @@ module _ (file : List ℕ) (first k : ℕ) where
   -- A table of k node fields has k nodes.
   pub count-nodes : nodeCount (wordsOf (fieldsFrom file first k)) ≡ k
   count-nodes = omega (arith, length-nodes file first k)
+
+-- Slices that are too short for the nodes, for the rules, and long enough for both.
+module _ (file : List ℕ) (nodes-at node-count rules-at rule-count nodes-lent rules-lent : ℕ) where
+  abbrev nodes : List ℕ
+  nodes = wordsOf (fieldsFrom file nodes-at node-count)
+
+  abbrev rules : List ℕ
+  rules = map ruleNode (fieldsFrom file rules-at rule-count)
+
+  pub short-nodes : nodes-lent / 4 < node-count → true ≡ tooShort nodes rules nodes-lent rules-lent
+  unfolding tooShort
+  short-nodes h = rw (lt-ltb nodes-lent (length nodes) (omega (arith, length-nodes file nodes-at node-count))) refl
+
+  pub short-rules : rules-lent < rule-count → true ≡ tooShort nodes rules nodes-lent rules-lent
+  unfolding tooShort
+  short-rules h =
+      rw (lt-ltb rules-lent (length rules) (omega (arith, length-rules file rules-at rule-count)))
+      (sym (or-true (ltb nodes-lent (length nodes))))
+
+  pub enough : node-count ≤ nodes-lent / 4 → rule-count ≤ rules-lent → false ≡ tooShort nodes rules nodes-lent rules-lent
+  unfolding tooShort
+  enough h k =
+      rw (
+        le-ltb nodes-lent (length nodes) (omega (arith, length-nodes file nodes-at node-count)),
+        le-ltb rules-lent (length rules) (omega (arith, length-rules file rules-at rule-count)),
+      ) refl
+
+  pub nodes-written : (old : List ℕ) {out : List ℕ} → out ≡ nodes ++ drop (node-count * 4) old → out ≡ nodes ++ drop (length nodes) old
+  nodes-written old q = q ∙ ap (λ (k : ℕ). nodes ++ drop k old) (sym (length-nodes file nodes-at node-count))
+
+  pub rules-written : (old : List ℕ) {out : List ℕ} → out ≡ rules ++ drop rule-count old → out ≡ rules ++ drop (length rules) old
+  rules-written old q = q ∙ ap (λ (k : ℕ). rules ++ drop k old) (sym (length-rules file rules-at rule-count))
 
 -- More nodes or rules than the limits are number 3.
 pub many-nodes : (nodes rules : List ℕ) → mostNodes < nodeCount nodes → tableAnswer nodes rules ≡ refused 3

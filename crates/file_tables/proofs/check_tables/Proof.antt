@@ -1,14 +1,14 @@
--- `grammar_file::tables::check_tables` meets its contract.
+-- `file_tables::check_tables` meets its contract.
 use borrow.Author.Needs.{needs}
-use Rattle.grammar_file.proofs.tables.check_tables.Statement.{statement}
-use Rattle.grammar_file.proofs.tables.check_tables.Tie as tie
+use Rattle.file_tables.proofs.check_tables.Statement.{statement}
+use Rattle.file_tables.proofs.check_tables.Tie as tie
 use mathlib.Core.Path.{sym, ap, ap₂, _∙_}
 use mathlib.Core.List.{map}
 use lib.ListN.{length}
 use Rattle.table.specs.Checks.{tableAnswer}
-use Rattle.grammar_file.specs.File.{ruleNode, wordsOf}
+use Rattle.file_tables.specs.Tables.{ruleNode, wordsOf}
 use Rattle.file_fields.specs.Offsets.{fieldsFrom}
-use Rattle.grammar_file.proofs.TableLaws.{length-nodes, length-rules, nodes-front, rules-front, count-nodes, many-nodes, many-rules}
+use Rattle.file_tables.proofs.TableLaws.{length-nodes, length-rules, nodes-front, rules-front, count-nodes, many-nodes, many-rules}
 
 returns : tie.Need-returns
 returns c =
