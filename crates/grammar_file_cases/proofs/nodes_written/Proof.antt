@@ -1,31 +1,26 @@
+-- `grammar_file_cases::nodes_written` meets its contract.
+use Prim.Native.Nat.{_*_}
+use mathlib.Core.Path.{sym, ap, _∙_}
 use borrow.Author.Needs.{needs}
+use Rattle.grammar_file_cases.specs.Written.{nodesWritten}
 use Rattle.grammar_file_cases.proofs.nodes_written.Statement.{statement}
 use Rattle.grammar_file_cases.proofs.nodes_written.Tie as tie
-use Rattle.grammar_file_cases.proofs.nodes_written.Reads as reads
-use Rattle.grammar_file_cases.proofs.nodes_written.Lts as lts
-use Rattle.stored_cases.proofs.least.Reads as least-reads
 
--- src/main.rt:177:13
 enum-known-answer : tie.Need-enum-known-answer
 enum-known-answer c = search needs
 
--- src/main.rt:182:14
 least-requires : tie.Need-least-requires
 least-requires c κs = search needs
 
--- src/main.rt:182:14
 mul-result : tie.Need-mul-result
 mul-result c = search needs
 
--- src/main.rt:183:27
 enum-known-answer-2 : tie.Need-enum-known-answer-2
 enum-known-answer-2 c = search needs
 
--- src/main.rt:172:1
 returns : tie.Need-returns
-returns c = ?
+returns c = ap (λ k. k * 4) (c .least .ensures) ∙ sym (ap nodesWritten (c .before .before .answer .given .1))
 
--- src/main.rt:172:1
 returns-2 : tie.Need-returns-2
 returns-2 c = search needs
 

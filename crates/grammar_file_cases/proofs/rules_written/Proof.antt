@@ -1,22 +1,19 @@
+-- `grammar_file_cases::rules_written` meets its contract.
+use mathlib.Core.Path.{sym, ap}
 use borrow.Author.Needs.{needs}
+use Rattle.grammar_file_cases.specs.Written.{rulesWritten}
 use Rattle.grammar_file_cases.proofs.rules_written.Statement.{statement}
 use Rattle.grammar_file_cases.proofs.rules_written.Tie as tie
-use Rattle.grammar_file_cases.proofs.rules_written.Reads as reads
-use Rattle.grammar_file_cases.proofs.rules_written.Lts as lts
 
--- src/main.rt:193:13
 enum-known-answer : tie.Need-enum-known-answer
 enum-known-answer c = search needs
 
--- src/main.rt:199:27
 enum-known-answer-2 : tie.Need-enum-known-answer-2
 enum-known-answer-2 c = search needs
 
--- src/main.rt:188:1
 returns : tie.Need-returns
-returns c = ?
+returns c = sym (ap rulesWritten (c .before .answer .given .1))
 
--- src/main.rt:188:1
 returns-2 : tie.Need-returns-2
 returns-2 c = search needs
 
