@@ -1,6 +1,6 @@
 """Expressions as trees, how they are written, and how a table is laid out from them.
 
-How they are written: a to z are terminals, a the first one said, else 1; `number`, `word` and `end` are terminals 0
+How they are written: a to z are terminals, a the first one said, else 1; `number`, `word` and `eol` are terminals 0
 to 2, as the scanner has them; capitals, also with a prime, are rules; `empty` is empty; p q, p / q, !p and p* as in
 001; p^R is an indent, p_R a position and [p] an align, where R is =, >, >= or any.
 """
@@ -18,7 +18,7 @@ def t(number):
     return ("terminal", number)
 
 
-PLAIN = {"empty": EPS, "number": t(0), "word": t(1), "end": t(2)}
+PLAIN = {"empty": EPS, "number": t(0), "word": t(1), "eol": t(2)}
 
 
 def r(name):
@@ -106,7 +106,7 @@ class Table:
 class Written:
     """A written expression, read word by word."""
 
-    WORDS = re.compile(r"\s*(empty|number|word|end|any|>=|[=>/!*^_()\[\]]|[a-z]|[A-Z]'?)")
+    WORDS = re.compile(r"\s*(empty|number|word|eol|any|>=|[=>/!*^_()\[\]]|[a-z]|[A-Z]'?)")
 
     def __init__(self, text, first):
         self.first = first

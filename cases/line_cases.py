@@ -26,7 +26,7 @@ MODES = (("equal", EQUAL), ("greater", GREATER), ("at least", AT_LEAST), ("any",
 SIGNS = (("equal", "="), ("greater", ">"), ("at least", ">="), ("any", "any"))
 
 # "3 + k where the spelling equals keyword k ..; else 0 for a number .. else 1"; a line's end is 2.
-NUMBER, WORD, END = term(0), term(1), term(2)
+NUMBER, WORD, EOL = term(0), term(1), term(2)
 A, B = term(3), term(4)
 # Tokens by themselves can stand side by side: ` :,` is a at column 1 and b at column 2.
 KEYS = (b":", b",", b";")
@@ -87,18 +87,18 @@ EMPTY_ANSWER = success(0, 0, "inf")
 
 # "With keywords `loss` and `:` .. it prints `success 4 0 1 clear`".
 LOSS = (b"loss", b":")
-LOSS_NODES = [term(3), term(4), NUMBER, END, seq(2, 3), seq(1, 4), seq(0, 5)]
+LOSS_NODES = [term(3), term(4), NUMBER, EOL, seq(2, 3), seq(1, 4), seq(0, 5)]
 EXAMPLE = b"  loss: 0.03"
 
 
 def loss_file(mode):
     """The grammar of that example, in this mode."""
-    return grammar("a b number end", mode, LOSS)
+    return grammar("a b number eol", mode, LOSS)
 
 
 case("example", loss_file(GREATER), EXAMPLE, success(4, 0, 1))
 # The same, the sequence's pairs bracketed from the left: "Sequence: a, then b from where a ended."
-case("example bracketed from the left", grammar("((a b) number) end", GREATER, LOSS, leaves="a b number end"), EXAMPLE,
+case("example bracketed from the left", grammar("((a b) number) eol", GREATER, LOSS, leaves="a b number eol"), EXAMPLE,
      success(4, 0, 1))
 # loss2 :6 number8 end12. Equal: loss makes 2 to 2, and 6 isn't "l to h".
 case("example mode equal", loss_file(EQUAL), EXAMPLE, FAILURE)
@@ -137,8 +137,8 @@ case("example over two lines", loss_file(GREATER), b"  loss:\n  0.03", FAILURE)
 case("example cut off", loss_file(GREATER), b"  loss:", FAILURE)
 case("example with no text", loss_file(GREATER), b"", FAILURE)
 # Keyword numbers are places among the keywords: with the two exchanged, loss is terminal 4.
-case("example with keywords exchanged", grammar("a b number end", GREATER, LOSS[::-1]), EXAMPLE, FAILURE)
-case("example with no keywords", grammar("a b number end", GREATER, ()), EXAMPLE, FAILURE)
+case("example with keywords exchanged", grammar("a b number eol", GREATER, LOSS[::-1]), EXAMPLE, FAILURE)
+case("example with no keywords", grammar("a b number eol", GREATER, ()), EXAMPLE, FAILURE)
 # A start at another node: the number and the end only, on a number at column 3.
 case("example started at the number", grammar(LOSS_NODES, EQUAL, LOSS, first=2), b"   0.03", success(1, 3, 3))
 
@@ -154,8 +154,8 @@ case("empty on the example", NOTHING, EXAMPLE, EMPTY_ANSWER)
 # Only "A line with a token ends in a token of terminal 2".
 for name, text in (("no text", b""), ("a break", b"\n"), ("breaks", b"\n\n\n"), ("blanks", b"  \t \r"),
                    ("blanks and breaks", b" \n\t\r\n ")):
-    case(f"line end on {name}", grammar("end", ANY), text, FAILURE)
-    case(f"no token at all on {name}", grammar("!(end / word)", ANY), text, EMPTY_ANSWER)
+    case(f"line end on {name}", grammar("eol", ANY), text, FAILURE)
+    case(f"no token at all on {name}", grammar("!(eol / word)", ANY), text, EMPTY_ANSWER)
 # "A rule is its node", "Position changes the mode for its child", "Align sets the flag inside; after success
 # ..", and for indent greater "Without end less 1 is without end": over empty the state is as before.
 case("empty under a rule", grammar("X", EQUAL, rules="X = empty"), b"", EMPTY_ANSWER)
@@ -198,19 +198,19 @@ case("a2 b3 mode any", grammar("a b", ANY), b"  :,", success(2, 0, "inf"))
 case("sequence without b", grammar("a b", ANY), b":", FAILURE)
 case("sequence without a", grammar("a b", ANY), b",", FAILURE)
 case("sequence exchanged", grammar("a b", ANY), b",:", FAILURE)
-# Word, end, word: each line's word and the first one's end, all in the mode.
+# Word, eol, word: each line's word and the first one's end, all in the mode.
 # x4 end5 y2: at least 0 to 4, 0 to 4, then met with 0 to 2; greater 0 to 3, then met with
 # 0 to 1; equal: 5 isn't 4.
-case("lower second line mode at least", grammar("word end word", AT_LEAST), b"    x\n  y", success(3, 0, 2))
-case("lower second line mode greater", grammar("word end word", GREATER), b"    x\n  y", success(3, 0, 1))
-case("lower second line mode equal", grammar("word end word", EQUAL), b"    x\n  y", FAILURE)
-case("lower second line mode any", grammar("word end word", ANY), b"    x\n  y", success(3, 0, "inf"))
+case("lower second line mode at least", grammar("word eol word", AT_LEAST), b"    x\n  y", success(3, 0, 2))
+case("lower second line mode greater", grammar("word eol word", GREATER), b"    x\n  y", success(3, 0, 1))
+case("lower second line mode equal", grammar("word eol word", EQUAL), b"    x\n  y", FAILURE)
+case("lower second line mode any", grammar("word eol word", ANY), b"    x\n  y", success(3, 0, "inf"))
 # y0: greater fails, at least gives 0 to 0.
-case("second line at 0 mode greater", grammar("word end word", GREATER), b"    x\ny", FAILURE)
-case("second line at 0 mode at least", grammar("word end word", AT_LEAST), b"    x\ny", success(3, 0, 0))
+case("second line at 0 mode greater", grammar("word eol word", GREATER), b"    x\ny", FAILURE)
+case("second line at 0 mode at least", grammar("word eol word", AT_LEAST), b"    x\ny", success(3, 0, 0))
 # With the end in mode any: x2 makes 2 to 2 and the second word must be there too.
-case("second line equal", grammar("word end_any word", EQUAL), b"  x\n  y", success(3, 2, 2))
-case("second line not equal", grammar("word end_any word", EQUAL), b"  x\n   y", FAILURE)
+case("second line equal", grammar("word eol_any word", EQUAL), b"  x\n  y", success(3, 2, 2))
+case("second line not equal", grammar("word eol_any word", EQUAL), b"  x\n   y", FAILURE)
 
 
 # --- Choice, not, repeat ------------------------------------------------------------------------------------
@@ -246,8 +246,8 @@ case("repeat of none by the column", grammar("a*", GREATER), b":::", EMPTY_ANSWE
 # The repeat leaves no a.
 case("repeat then a", grammar("a* a", ANY), b":::", FAILURE)
 case("repeat then b", grammar("a* b", ANY, leaves="a b"), b":::,", success(4, 0, "inf"))
-# Rounds of a b end, at least: a4 makes 0 to 4; the second round's a2 would make 0 to 2, but its b fails.
-case("repeat drops its last round", grammar("(a b end)*", AT_LEAST), b"    :,\n  :;", success(3, 0, 4))
+# Rounds of a b eol, at least: a4 makes 0 to 4; the second round's a2 would make 0 to 2, but its b fails.
+case("repeat drops its last round", grammar("(a b eol)*", AT_LEAST), b"    :,\n  :;", success(3, 0, 4))
 # (a* b)*: a a b, then a b.
 case("repeat of a repeat and b", grammar("(a* b)*", ANY, leaves="a b"), b"::,:,", success(5, 0, "inf"))
 
@@ -291,20 +291,20 @@ case("sequence of indents", grammar("a^> b^>", EQUAL, leaves="a b"), b" :,", suc
 # Case f: "a, then (b under greater, or empty) .. a1 b2 reads 2, 1 to 1".
 case("case f on one line", grammar("a (b^> / empty)", EQUAL), b" :,", success(2, 1, 1))
 # "a3 b2 reads 1, 3 to 3": b2 stands on the next line, so the line's end is read too, in mode any.
-CASE_F = grammar("a end_any (b^> / empty)", EQUAL, leaves="a b end")
+CASE_F = grammar("a eol_any (b^> / empty)", EQUAL, leaves="a b eol")
 case("case f with b lower", CASE_F, b"   :\n  ,", success(2, 3, 3))
 case("case f with b higher", CASE_F, b" :\n  ,", success(3, 1, 1))
 case("case f with b at the same column", CASE_F, b" :\n ,", success(2, 1, 1))
 # Case g: "a, then b under any .. a3 b0: 2 read, 3 to 3", and the line's end between them.
-case("case g", grammar("a end_any b^any", EQUAL, leaves="a b end"), b"   :\n,", success(3, 3, 3))
+case("case g", grammar("a eol_any b^any", EQUAL, leaves="a b eol"), b"   :\n,", success(3, 3, 3))
 # At least: b must be at 3 or above.
-CASE_AT_LEAST = grammar("a end_any b^>=", EQUAL, leaves="a b end")
+CASE_AT_LEAST = grammar("a eol_any b^>=", EQUAL, leaves="a b eol")
 case("indent at least and b lower", CASE_AT_LEAST, b"   :\n  ,", FAILURE)
 case("indent at least and b equal", CASE_AT_LEAST, b"   :\n   ,", success(3, 3, 3))
 case("indent at least and b higher", CASE_AT_LEAST, b"   :\n    ,", success(3, 3, 3))
 # The upper end goes down by the second indent: a6 gives 0 to 5, b3 on the next line 0 to 2.
 case("second indent lowers the upper end",
-     grammar([A, B, END, position(2, ANY), indent(0), indent(1), seq(3, 5), seq(4, 6)], EQUAL),
+     grammar([A, B, EOL, position(2, ANY), indent(0), indent(1), seq(3, 5), seq(4, 6)], EQUAL),
      b"      :\n   ,", success(3, 0, 2))
 
 
@@ -356,7 +356,7 @@ case("align of a then b mode greater", grammar("[a] b", GREATER, leaves="a b"), 
 case("align of a then b mode equal", grammar("[a] b", EQUAL, leaves="a b"), b"     :,", FAILURE)
 # Two aligns: the second token must lie in i to i.
 case("two aligns on a line", grammar("[a] [b]", ANY, leaves="a b"), b":,", FAILURE)
-TWO_ALIGNS = grammar("[a] end [b]", GREATER, leaves="a b end")
+TWO_ALIGNS = grammar("[a] eol [b]", GREATER, leaves="a b eol")
 case("two aligns at the same column", TWO_ALIGNS, b"  :\n  ,", success(3, 2, 2))
 case("two aligns with b lower", TWO_ALIGNS, b"  :\n ,", FAILURE)
 case("two aligns with b higher", TWO_ALIGNS, b"  :\n   ,", FAILURE)
@@ -482,7 +482,7 @@ case("repeat of not not (not empty, a)", grammar("(!!(!empty a))*", ANY), b":", 
 
 STEPS = (b"step", b":", b"loss")
 STEP_NODES = [
-    term(3), NUMBER, term(4), END, term(5),
+    term(3), NUMBER, term(4), EOL, term(5),
     seq(2, 3), seq(1, 5), seq(0, 6),  # 7: step number : end
     seq(1, 3), seq(2, 8), seq(4, 9), align(10),  # 11: loss : number end, aligned
     repeat(11), seq(11, 12), indent(13),  # 14: one or more such lines under greater
@@ -547,7 +547,7 @@ case("single bytes inside words", grammar("word*", ANY, ()), b"a:b,c(d)e[f]g=h;i
 # "other tokens are longest runs of the remaining bytes": 94 from 33 to 126 less nine, and 128 from 128 on.
 RUN = bytes(b for b in range(33, 256) if b != 127 and b not in NINE)
 # The line's end "at the column and offset of the break or the end", in mode equal.
-END_COLUMN = [WORD, END, position(0, ANY), seq(2, 1)]
+END_COLUMN = [WORD, EOL, position(0, ANY), seq(2, 1)]
 case("one run of all other bytes", grammar(END_COLUMN, EQUAL, ()), RUN, success(2, 213, 213))
 case("keyword at the front of a run", grammar("a", ANY, LOSS), b"lossy", FAILURE)
 case("keyword at the end of a run", grammar("a", ANY, LOSS), b"-loss", FAILURE)
@@ -574,16 +574,16 @@ for name, text, column in (
     case(f"column behind {name} mode at least", grammar("word", AT_LEAST, ()), text + b"w", success(1, 0, column))
 case("column behind a token and a tab", grammar("a_any word", EQUAL, leaves="a word"), b" :\tw", success(2, 8, 8))
 # One line end for each line with a token, none for the others: x end y end.
-case("line ends", grammar("(word end)*", ANY), b"\nx\n\n \t\n  y  \n\n", success(4, 0, "inf"))
+case("line ends", grammar("(word eol)*", ANY), b"\nx\n\n \t\n  y  \n\n", success(4, 0, "inf"))
 case("no line end between two words", grammar("word*", ANY), b"x y z\n", success(3, 0, "inf"))
-case("column on a second line", grammar("(word end)_any word", EQUAL), b"abc\n  d", success(3, 2, 2))
-case("column below lines without a token", grammar("(word end)_any word", EQUAL), b"abc\n\n \t\n    d", success(3, 4, 4))
+case("column on a second line", grammar("(word eol)_any word", EQUAL), b"abc\n  d", success(3, 2, 2))
+case("column below lines without a token", grammar("(word eol)_any word", EQUAL), b"abc\n\n \t\n    d", success(3, 4, 4))
 
 
 # --- Numbers of several digits in the line ------------------------------------------------------------------
 
 # n single bytes and the line's end.
-COUNT = grammar("(a / end)*", ANY)
+COUNT = grammar("(a / eol)*", ANY)
 for n in (8, 9, 98, 99, 998, 999, 4094, 4095):
     case(f"{n:,} tokens and a line end", COUNT, b":" * n, success(n + 1, 0, "inf"))
 # A word at column c: 0 to c - 1 in mode greater, c to c in mode equal.
@@ -608,9 +608,9 @@ for name, mode, ends in (("equal", EQUAL, (65534, 65534)), ("greater", GREATER, 
 for name, mode, ends in (("equal", EQUAL, (65535, 65535)), ("greater", GREATER, (0, 65534)),
                          ("at least", AT_LEAST, (0, 65535)), ("any", ANY, (0, "inf"))):
     case(f"column 65,535 mode {name}", grammar(END_COLUMN, mode), HIGH, success(2, *ends))
-case("column 65,535 under align", grammar("word_any [end]", ANY, leaves="word end"), HIGH, success(2, 65535, 65535))
+case("column 65,535 under align", grammar("word_any [eol]", ANY, leaves="word eol"), HIGH, success(2, 65535, 65535))
 case("column 65,535 under indent greater",
-     grammar("(word_any end)^>", EQUAL, leaves="word end"), HIGH, success(2, 0, 65534))
+     grammar("(word_any eol)^>", EQUAL, leaves="word eol"), HIGH, success(2, 0, 65534))
 # 65,528 and seven bytes more.
 case("a run up to column 65,535", grammar(END_COLUMN, EQUAL), b"\t" * 8191 + b"w" * 7, success(2, 65535, 65535))
 # `w` at 0 and the line's end at 65,535: 8,191 tabs and 7 blanks.
@@ -622,32 +622,32 @@ FAR2 = FAR + b"\n" + FAR
 
 def second(expression):
     """The first line, its word in mode any and its end in mode equal, then the expression."""
-    return grammar(f"(word_any end) {expression}", EQUAL, leaves="word end")
+    return grammar(f"(word_any eol) {expression}", EQUAL, leaves="word eol")
 
 
 # Under greater 65,536 on: the word matches in mode any, the end at 65,535 not in mode equal.
-case("second line under greater", second("(word_any end)^>"), FAR2, FAILURE)
+case("second line under greater", second("(word_any eol)^>"), FAR2, FAILURE)
 # Under at least and equal 65,535 on or only; under any 0 on. The end makes 65,535 to 65,535.
 for name, sign in (("equal", "="), ("at least", ">="), ("any", "any")):
-    case(f"second line under {name}", second(f"(word_any end)^{sign}"), FAR2, success(4, 65535, 65535))
+    case(f"second line under {name}", second(f"(word_any eol)^{sign}"), FAR2, success(4, 65535, 65535))
 # 65,536 on, all in mode any: both match; out "0 on, without end" met with 65,535 to 65,535.
-case("second line under greater in mode any", second("(word_any end)_any^>"), FAR2, success(4, 65535, 65535))
-case("second line under greater twice in mode any", second("(word_any end)_any^>^>"), FAR2, success(4, 65535, 65535))
+case("second line under greater in mode any", second("(word_any eol)_any^>"), FAR2, success(4, 65535, 65535))
+case("second line under greater twice in mode any", second("(word_any eol)_any^>^>"), FAR2, success(4, 65535, 65535))
 # 506 indents: from 66,041 on.
 case("second line under 506 indents in mode any",
      grammar([*over([*END_COLUMN, position(3, ANY)], indent, 511), seq(3, 510)], EQUAL), FAR2, success(4, 65535, 65535))
 # The end at 65,535 isn't at least 65,536, nor greater.
 for name, sign in (("at least", ">="), ("greater", ">")):
-    case(f"second line under greater in mode {name}", second(f"(word_any end_{sign})^>"), FAR2, FAILURE)
+    case(f"second line under greater in mode {name}", second(f"(word_any eol_{sign})^>"), FAR2, FAILURE)
 # The aligned word must lie in 65,536 on.
 case("second line aligned under greater", second("[word_any]^>"), FAR2, FAILURE)
 # The word in mode any, then not the end in mode equal.
-case("second line under greater and no end", second("(word_any !end)^>"), FAR2, success(3, 65535, 65535))
+case("second line under greater and no end", second("(word_any !eol)^>"), FAR2, success(3, 65535, 65535))
 case("empty under greater behind 65,535", second("empty^>"), FAR2, success(2, 65535, 65535))
 # The second end in mode greater without an indent: "l+1 on" is 65,536 on.
-case("second line in mode greater", second("(word_any end)_>"), FAR2, FAILURE)
+case("second line in mode greater", second("(word_any eol)_>"), FAR2, FAILURE)
 # The same in mode at least: 65,535 is in "l on".
-case("second line end in mode at least", second("word_any end_>="), FAR2, success(4, 65535, 65535))
+case("second line end in mode at least", second("word_any eol_>="), FAR2, success(4, 65535, 65535))
 
 
 # --- Refused by 1: the file's fields ------------------------------------------------------------------------
@@ -977,8 +977,8 @@ case("65,534 blanks and a word", grammar(END_COLUMN, AT_LEAST), b" " * 65534 + b
 case("65,535 blanks and a word", grammar(END_COLUMN, AT_LEAST), b" " * 65535 + b"w", refused(8))
 # A number of 65,535 digits.
 case("a number of 65,535 digits", grammar("number", AT_LEAST), b"7" * 65535, success(1, 0, 0))
-case("a word before 65,534 breaks", grammar("word end", AT_LEAST), b"w" + b"\n" * 65534, success(2, 0, 0))
-case("65,534 breaks and a word", grammar("word end", AT_LEAST), b"\n" * 65534 + b"w", success(2, 0, 0))
+case("a word before 65,534 breaks", grammar("word eol", AT_LEAST), b"w" + b"\n" * 65534, success(2, 0, 0))
+case("65,534 breaks and a word", grammar("word eol", AT_LEAST), b"\n" * 65534 + b"w", success(2, 0, 0))
 case("65,534 blanks and a byte 0", NOTHING, b" " * 65534 + b"\x00", refused(8))
 case("a text of 65,536 zeros", NOTHING, bytes(65536), refused(8))
 case("a text of 131,072 blanks", NOTHING, b" " * 131072, refused(8))
@@ -1014,7 +1014,7 @@ case("column too high where the grammar fails", grammar("a", ANY), b"word" + b"\
 # --- Refused by 10: tokens ----------------------------------------------------------------------------------
 
 # "4,096 tokens are read, 4,097 refused."
-BOTH = grammar("(word / end)*", ANY)
+BOTH = grammar("(word / eol)*", ANY)
 case("4,096 single bytes", COUNT, b":" * 4096, refused(10))
 case("4,096 single bytes, read by nothing", NOTHING, b":" * 4096, refused(10))
 case("4,095 single bytes, read by nothing", NOTHING, b":" * 4095, EMPTY_ANSWER)
@@ -1028,10 +1028,10 @@ case("2,047 lines and two words", BOTH, b"a\n" * 2047 + b"a a", refused(10))
 case("2,049 lines", BOTH, b"a\n" * 2049, refused(10))
 # Blanks and breaks behind the 4,096th token are no tokens.
 case("2,048 lines and blanks", BOTH, b"a\n" * 2048 + b" \n\t\n ", success(4096, 0, "inf"))
-case("2,048 lines mode at least", grammar("(word / end)*", AT_LEAST), b"a\n" * 2048, success(4096, 0, 0))
+case("2,048 lines mode at least", grammar("(word / eol)*", AT_LEAST), b"a\n" * 2048, success(4096, 0, 0))
 # Each word at 3, the ends in mode any.
-case("2,048 lines at column 3", grammar("(word end_any)*", EQUAL), b"   a\n" * 2048, success(4096, 3, 3))
-case("2,048 aligned lines at column 3", grammar("[word end]*", GREATER), b"   a\n" * 2048, success(4096, 3, 3))
+case("2,048 lines at column 3", grammar("(word eol_any)*", EQUAL), b"   a\n" * 2048, success(4096, 3, 3))
+case("2,048 aligned lines at column 3", grammar("[word eol]*", GREATER), b"   a\n" * 2048, success(4096, 3, 3))
 case("4,095 words", BOTH, b"w " * 4095, success(4096, 0, "inf"))
 case("4,096 words", BOTH, b"w " * 4096, refused(10))
 case("4,096 numbers", NOTHING, b"7 " * 4096, refused(10))
@@ -1040,8 +1040,8 @@ case("65,535 single bytes", COUNT, b":" * 65535, refused(10))
 case("32,767 lines", BOTH, b"a\n" * 32767, refused(10))
 case("too many tokens where the grammar fails", grammar("a", ANY), b"w " * 4096, refused(10))
 # All of 4,096 tokens read, then one more is asked for: "A terminal also fails at the token count".
-case("4,096 tokens and one more wanted", grammar("(word / end)* end", ANY), b"a\n" * 2048, FAILURE)
-case("4,096 tokens and no more wanted", grammar("(word / end)* !(word / end)", ANY), b"a\n" * 2048, success(4096, 0, "inf"))
+case("4,096 tokens and one more wanted", grammar("(word / eol)* eol", ANY), b"a\n" * 2048, FAILURE)
+case("4,096 tokens and no more wanted", grammar("(word / eol)* !(word / eol)", ANY), b"a\n" * 2048, success(4096, 0, "inf"))
 
 
 # --- Several at once ----------------------------------------------------------------------------------------
