@@ -98,8 +98,8 @@ fn show_part(found: &[u8]) {
 
 // Lends x node words and y rule words for a table.
 fn lend(payload: &[u8], x: usize, y: usize) {
-    let mut nodes = [0u16; 2100];
-    let mut rules = [0u16; 200];
+    let mut nodes = stored_cases::room_for_nodes();
+    let mut rules = stored_cases::room_for_rules();
     let n = least(x, 2100);
     let r = least(y, 200);
     show_table(payload, &mut nodes[0..n], &mut rules[0..r]);
@@ -125,8 +125,8 @@ fn show_table(payload: &[u8], nodes: &mut [u16], rules: &mut [u16]) {
 
 // Lends x node words and y rule words for a read, then checks the same file.
 fn lend_read(file: &[u8], x: usize, y: usize, words: bool) {
-    let mut nodes = [0u16; 2100];
-    let mut rules = [0u16; 200];
+    let mut nodes = stored_cases::room_for_nodes();
+    let mut rules = stored_cases::room_for_rules();
     let n = least(x, 2100);
     let r = least(y, 200);
     show_read(file, &mut nodes[0..n], &mut rules[0..r], words);

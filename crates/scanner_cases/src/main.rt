@@ -122,8 +122,8 @@ fn column(kind: usize, y: u32) -> u32 {
 
 // Makes a call that is lent x words.
 fn lend(file: &[u8], report: &[u8], x: usize, all: bool) {
-    let mut tokens = [0u32; 16400];
-    let n = least(x, 16400);
+    let mut tokens = stored_cases::room_for_tokens();
+    let n = least(x, 16500);
     show_lent(file, report, &mut tokens[0..n], all);
 }
 

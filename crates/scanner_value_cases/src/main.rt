@@ -33,12 +33,11 @@ fn steps(file: &[u8], report: &[u8], count: usize) {
     let mut n = 0;
     while n < count {
         show(scanner_value::nth(file, report, n));
-        io::write_all(1, b"\n");
         n += 1;
     }
 }
 
-// Prints the token handed out, `none` or the number of a refusal.
+// Prints the token handed out, `none` or the number of a refusal, and ends the line.
 fn show(handed: Handed) {
     match handed {
         Handed::Token {
@@ -58,4 +57,5 @@ fn show(handed: Handed) {
             stored_cases::show(b"refused", &numbers);
         }
     }
+    io::write_all(1, b"\n");
 }

@@ -24,7 +24,8 @@ drop-clipped (suc n) [] = simp unary-clauses
 drop-clipped (suc n) (x ∷ xs) = simp unary-clauses (drop-clipped n xs)
 
 -- A part that ends where the bytes do.
-pub part-clipped : (xs : List ℕ) (at n : ℕ) {from count : ℕ} → from ≡ min at (length xs) → count ≡ min n (length xs - from) → take (from + count - from) (drop from xs) ≡ take n (drop at xs)
+pub part-clipped : (xs : List ℕ) (at n : ℕ) {from count : ℕ} → from ≡ min at (length xs) → count ≡ min n (length xs - from)
+    → take (from + count - from) (drop from xs) ≡ take n (drop at xs)
 part-clipped xs at n {from} {count} e f =
     let q : from + count - from ≡ count = omega arith in
     let d : drop from xs ≡ drop at xs = ap (λ k. drop k xs) e ∙ drop-clipped at xs in
@@ -135,7 +136,8 @@ module _ (before : List ℕ) (from last distance : ℕ) where
         long = length-set now i (getD now (i - distance) 0) ∙ w .long;
       }
 
-  pub repeating-all : {now : List ℕ} {i : ℕ} → Repeating now i → last ≤ i → distance ≤ from → (end : ℕ) → last ≡ min end (length before) → now ≡ repeated before from end distance
+  pub repeating-all : {now : List ℕ} {i : ℕ} → Repeating now i → last ≤ i → distance ≤ from → (end : ℕ) → last ≡ min end (length before)
+      → now ≡ repeated before from end distance
   unfolding repeats repeated
   repeating-all {now} {i} w l d end e =
       let z : last - i ≡ 0 = omega arith in

@@ -42,6 +42,25 @@ pub fn room_for_part() -> [u8; 140000]
     [0; 140000]
 }
 
+// Node words, rule words and words of tokens to lend, more of each than are allowed.
+pub fn room_for_nodes() -> [u16; 2100]
+    ensures { λ r. ⌜ 2100 ≡ length r ⌝ }
+{
+    [0; 2100]
+}
+
+pub fn room_for_rules() -> [u16; 200]
+    ensures { λ r. ⌜ 200 ≡ length r ⌝ }
+{
+    [0; 200]
+}
+
+pub fn room_for_tokens() -> [u32; 16500]
+    ensures { λ r. ⌜ 16500 ≡ length r ⌝ }
+{
+    [0; 16500]
+}
+
 // The n bytes from an index on, or as many as there are.
 pub fn part(bytes: &[u8], at: usize, n: usize) -> &[u8]
     ensures { λ r. ⌜ now r ≡ take n (drop at (now (bytes .entry))) ⌝ }
@@ -137,12 +156,12 @@ pub fn mark_16(words: &mut [u16], value: u16)
 }
 
 // The same for words of tokens.
-pub fn mark_32(words: &mut [u32], value: u32)
-    ensures { λ _. ⌜ now (words .exit) ≡ tabulate (λ _. value) (length (now (words .entry))) ⌝ }
+pub fn mark_32(tokens: &mut [u32], value: u32)
+    ensures { λ _. ⌜ now (tokens .exit) ≡ tabulate (λ _. value) (length (now (tokens .entry))) ⌝ }
 {
     let mut i = 0;
-    while i < words.len() {
-        words[i] = value;
+    while i < tokens.len() {
+        tokens[i] = value;
         i += 1;
     }
 }
@@ -258,13 +277,13 @@ pub fn show(text: &[u8], numbers: &[u64]) -> usize
 pub fn show_16(words: &[u16]) -> usize
     ensures { λ r. ⌜ r ≡ length (now (words .entry)) ⌝ }
 {
-    let mut i = 0;
-    while i < words.len() {
+    let mut shown = 0;
+    while shown < words.len() {
         io::write_all(1, b" ");
-        io::print_decimal(1, wide_16(words[i]));
-        i += 1;
+        io::print_decimal(1, wide_16(words[shown]));
+        shown += 1;
     }
-    i
+    shown
 }
 
 fn wide_16(word: u16) -> u64 {

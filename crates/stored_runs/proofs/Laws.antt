@@ -8,8 +8,7 @@ use mathlib.Core.Bool.{true}
 use Rattle.columns.specs.declared.Upper.{Upper}
 use Rattle.columns.specs.declared.Upper.the-variants.{At}
 use Rattle.columns.specs.declared.Start.{Start}
-use Rattle.clauses.specs.RunAnswer.{runAnswer}
-use Rattle.stored_runs.specs.Runs.{upperOf, flagOf, firstPairs}
+use Rattle.stored_runs.specs.Runs.{upperOf, flagOf, answerOf}
 
 pub flag-set : (n : ℕ) → (n ≡ 0 → ⊥) → true ≡ flagOf n
 flag-set zero h = absurd (h refl)
@@ -24,5 +23,6 @@ pub lent : (words : List ℕ) (x asked n : ℕ) → n ≡ length words → x ≡
 lent words x asked n e f = length-take (x - 0) words ∙ omega arith
 
 -- A run of as many words.
-pub alike : (nodes rules tokens : List ℕ) (start : Start) {x x' y y' : ℕ} → x ≡ x' → y ≡ y' → runAnswer (firstPairs x nodes) (firstPairs y rules) tokens start ≡ runAnswer (firstPairs x' nodes) (firstPairs y' rules) tokens start
+pub alike : (nodes rules tokens : List ℕ) (start : Start) {x x' y y' : ℕ} → x ≡ x' → y ≡ y'
+    → answerOf x y nodes rules tokens start ≡ answerOf x' y' nodes rules tokens start
 alike nodes rules tokens start e f = rw (e, f)

@@ -10,6 +10,9 @@ use Rattle.columns.specs.declared.Upper.{Upper}
 use Rattle.columns.specs.declared.Upper.the-variants.{At, Endless}
 use Rattle.interpreter.specs.declared.Ran.{Ran}
 use Rattle.interpreter.specs.declared.Ran.the-variants.{Success, Failure, Refused, IllFormed}
+use Rattle.table.specs.Answer.{Answer}
+use Rattle.clauses.specs.Clauses.{Outcome}
+use Rattle.clauses.specs.RunAnswer.{runAnswer}
 use Rattle.stored_cases.specs.Numbers.{pairAt, quadAt, tabulate}
 
 -- 0 is without end; any other number says that the end is a column.
@@ -46,6 +49,14 @@ pairs n bytes = firstPairs (min (length bytes / 2) n) bytes
 
 abbrev pub quads : ℕ → List ℕ → List ℕ
 quads n bytes = firstQuads (min (length bytes / 4) n) bytes
+
+-- The answer for x node words and y rule words of stored bytes.
+abbrev pub answerOf : ℕ → ℕ → List ℕ → List ℕ → List ℕ → Start → Answer (Outcome Interval)
+answerOf x y nodes rules tokens start = runAnswer (firstPairs x nodes) (firstPairs y rules) tokens start
+
+-- The answer for all the words of stored bytes, of at most 2,100 node words and 200 rule words.
+abbrev pub storedAnswer : List ℕ → List ℕ → List ℕ → Start → Answer (Outcome Interval)
+storedAnswer nodes rules tokens start = runAnswer (pairs 2100 nodes) (pairs 200 rules) tokens start
 
 -- How many numbers a success has: the tokens read, the lower end, and the upper end where it is a column.
 abbrev pub shownUpper : Upper → ℕ

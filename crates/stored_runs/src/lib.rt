@@ -14,8 +14,8 @@ ghost use mathlib.Core.Path.{_≡_};
 ghost use lib.ListN.{length};
 ghost use Rattle.interpreter.specs.Numbers.{numbers};
 ghost use Rattle.interpreter.specs.declared.Ran.the-variants.{Success};
-ghost use Rattle.clauses.specs.RunAnswer.{runAnswer};
-ghost use Rattle.stored_runs.specs.Runs.{startOf, upperOf, flagOf, firstPairs, firstQuads, pairs, quads, shownCount, shownUpper};
+ghost use Rattle.stored_runs.specs.Runs.{startOf, upperOf, flagOf, answerOf, storedAnswer, firstQuads, quads};
+ghost use Rattle.stored_runs.specs.Runs.{shownCount, shownUpper};
 
 // The start of 18 bytes: the flag (0 is clear) and whether the upper end is a column (0 is without end) in one byte each;
 // the node and the mode in two each; the place, the lower end and the upper end in four each.
@@ -56,31 +56,13 @@ fn is_set(flag: usize) -> bool
     if flag == 0 { false } else { true }
 }
 
-// Words to lend. Only their number is said.
-fn node_room() -> [u16; 2100]
-    ensures { λ r. ⌜ 2100 ≡ length r ⌝ }
-{
-    [0; 2100]
-}
-
-fn rule_room() -> [u16; 200]
-    ensures { λ r. ⌜ 200 ≡ length r ⌝ }
-{
-    [0; 200]
-}
-
-fn token_room() -> [u32; 16500]
-    ensures { λ r. ⌜ 16500 ≡ length r ⌝ }
-{
-    [0; 16500]
-}
-
 // Runs a stored table, of at most 2,100 node words and 200 rule words of two bytes.
 pub fn run(nodes: &[u8], rules: &[u8], tokens: &[u32], start: Start) -> Ran
-    ensures { λ r. ⌜ numbers (start .place) r ≡ runAnswer (pairs 2100 (now (nodes .entry))) (pairs 200 (now (rules .entry))) (now (tokens .entry)) start ⌝ }
+    ensures { λ r. ⌜ numbers (start .place) r
+        ≡ storedAnswer (now (nodes .entry)) (now (rules .entry)) (now (tokens .entry)) start ⌝ }
 {
-    let mut node_words = node_room();
-    let mut rule_words = rule_room();
+    let mut node_words = stored_cases::room_for_nodes();
+    let mut rule_words = stored_cases::room_for_rules();
     let x = least(nodes.len() / 2, 2100);
     let y = least(rules.len() / 2, 200);
     run_in(
@@ -102,7 +84,9 @@ fn run_in(
     first: &mut [u16],
     second: &mut [u16],
 ) -> Ran
-    ensures { λ r. ⌜ numbers (start .place) r ≡ runAnswer (firstPairs (length (now (first .entry))) (now (nodes .entry))) (firstPairs (length (now (second .entry))) (now (rules .entry))) (now (tokens .entry)) start ⌝ }
+    ensures { λ r. ⌜ numbers (start .place) r
+        ≡ answerOf (length (now (first .entry))) (length (now (second .entry)))
+        (now (nodes .entry)) (now (rules .entry)) (now (tokens .entry)) start ⌝ }
 {
     load_16(nodes, first);
     load_16(rules, second);
@@ -111,16 +95,19 @@ fn run_in(
 
 // The same over stored tokens, of at most 16,500 words of four bytes.
 pub fn run_stored(nodes: &[u8], rules: &[u8], tokens: &[u8], start: Start) -> Ran
-    ensures { λ r. ⌜ numbers (start .place) r ≡ runAnswer (pairs 2100 (now (nodes .entry))) (pairs 200 (now (rules .entry))) (quads 16500 (now (tokens .entry))) start ⌝ }
+    ensures { λ r. ⌜ numbers (start .place) r
+        ≡ storedAnswer (now (nodes .entry)) (now (rules .entry)) (quads 16500 (now (tokens .entry))) start ⌝ }
 {
-    let mut token_words = token_room();
+    let mut token_words = stored_cases::room_for_tokens();
     let z = least(tokens.len() / 4, 16500);
     run_over(nodes, rules, tokens, start, &mut token_words[0..z])
 }
 
 // Runs a stored table over stored tokens in the words lent for them.
 fn run_over(nodes: &[u8], rules: &[u8], tokens: &[u8], start: Start, words: &mut [u32]) -> Ran
-    ensures { λ r. ⌜ numbers (start .place) r ≡ runAnswer (pairs 2100 (now (nodes .entry))) (pairs 200 (now (rules .entry))) (firstQuads (length (now (words .entry))) (now (tokens .entry))) start ⌝ }
+    ensures { λ r. ⌜ numbers (start .place) r
+        ≡ storedAnswer
+        (now (nodes .entry)) (now (rules .entry)) (firstQuads (length (now (words .entry))) (now (tokens .entry))) start ⌝ }
 {
     load_32(tokens, words);
     run(nodes, rules, words, start)

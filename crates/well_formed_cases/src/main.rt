@@ -59,8 +59,8 @@ fn call(nodes: &[u8], rules: &[u8], again: usize) {
 
 // The answer for a stored table, of at most 2,100 node words and 200 rule words. They are loaded anew each time.
 fn answer(nodes: &[u8], rules: &[u8]) -> Verdict {
-    let mut node_words = [0u16; 2100];
-    let mut rule_words = [0u16; 200];
+    let mut node_words = stored_cases::room_for_nodes();
+    let mut rule_words = stored_cases::room_for_rules();
     let x = stored_cases::least(nodes.len() / 2, 2100);
     let y = stored_cases::least(rules.len() / 2, 200);
     check(nodes, rules, &mut node_words[0..x], &mut rule_words[0..y])

@@ -17,11 +17,11 @@ abbrev μ-loop : tie.MeasureT-loop
 loop-holds : tie.Need-loop-holds Inv-loop μ-loop
 loop-holds c = written-none _ _
 
-mul-words : tie.Need-mul-words Inv-loop μ-loop
-mul-words c = search needs
+mul-tokens : tie.Need-mul-tokens Inv-loop μ-loop
+mul-tokens c = search needs
 
-slice-write-words : tie.Need-slice-write-words Inv-loop μ-loop
-slice-write-words c = search needs
+slice-write-tokens : tie.Need-slice-write-tokens Inv-loop μ-loop
+slice-write-tokens c = search needs
 
 add-i : tie.Need-add-i Inv-loop μ-loop
 add-i c = search needs
@@ -45,8 +45,8 @@ mark-32-spec =
     Inv-loop
     μ-loop
     loop-holds
-    mul-words
-    slice-write-words
+    mul-tokens
+    slice-write-tokens
     add-i
     loop-less
     loop-again

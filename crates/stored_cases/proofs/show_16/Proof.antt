@@ -6,10 +6,10 @@ use Rattle.stored_cases.proofs.show_16.Statement.{statement}
 use Rattle.stored_cases.proofs.show_16.Tie as tie
 
 abbrev Inv-loop : tie.InvT-loop
-Inv-loop words i₀ t3 i = i ≤ length words
+Inv-loop words shown₀ t3 shown = shown ≤ length words
 
 abbrev μ-loop : tie.MeasureT-loop
-μ-loop words i₀ t3 i = length words - i
+μ-loop words shown₀ t3 shown = length words - shown
 
 loop-holds : tie.Need-loop-holds Inv-loop μ-loop
 loop-holds c = search needs
@@ -32,8 +32,8 @@ wide-16-requires c κs = search needs
 print-decimal-requires : tie.Need-print-decimal-requires Inv-loop μ-loop
 print-decimal-requires c κs = search needs
 
-add-i : tie.Need-add-i Inv-loop μ-loop
-add-i c = search needs
+add-shown : tie.Need-add-shown Inv-loop μ-loop
+add-shown c = search needs
 
 loop-less : tie.Need-loop-less Inv-loop μ-loop
 loop-less c = search needs
@@ -57,7 +57,7 @@ show-16-spec =
     shared-slice-read-wide-16
     wide-16-requires
     print-decimal-requires
-    add-i
+    add-shown
     loop-less
     loop-again
     returns)

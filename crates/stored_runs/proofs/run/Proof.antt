@@ -6,11 +6,11 @@ use Rattle.stored_runs.proofs.Laws.{lent}
 use Rattle.stored_runs.proofs.run.Statement.{statement}
 use Rattle.stored_runs.proofs.run.Tie as tie
 
-node-room-requires : tie.Need-node-room-requires
-node-room-requires c κs = search needs
+room-for-nodes-requires : tie.Need-room-for-nodes-requires
+room-for-nodes-requires c κs = search needs
 
-rule-room-requires : tie.Need-rule-room-requires
-rule-room-requires c κs = search needs
+room-for-rules-requires : tie.Need-room-for-rules-requires
+room-for-rules-requires c κs = search needs
 
 least-requires : tie.Need-least-requires
 least-requires c κs = search needs
@@ -40,14 +40,20 @@ run-in-requires : tie.Need-run-in-requires
 run-in-requires c κs = search needs
 
 returns : tie.Need-returns
-returns c = c .before .before .run-in .ensures ∙ alike _ _ _ _ (lent _ _ _ 2100 (c .before .before .before .before .before .before .before .before .node-room .ensures) (c .before .before .before .before .before .before .least .ensures)) (lent _ _ _ 200 (c .before .before .before .before .before .before .before .rule-room .ensures) (c .before .before .before .before .before .least2 .ensures))
+returns c =
+    let rooms = c .before .before .before .before .before .before .before in
+    let sizes = c .before .before .before .before .before in
+    c .before .before .run-in .ensures
+    ∙ alike _ _ _ _
+    (lent _ _ _ 2100 (rooms .before .room-for-nodes .ensures) (sizes .before .least .ensures))
+    (lent _ _ _ 200 (rooms .room-for-rules .ensures) (sizes .least2 .ensures))
 
 pub run-spec : {M : Type 1} → statement M
 run-spec =
     tie.close
     (tie.spec
-    node-room-requires
-    rule-room-requires
+    room-for-nodes-requires
+    room-for-rules-requires
     least-requires
     least-requires-2
     sub-run-in

@@ -4,8 +4,8 @@ use Rattle.stored_runs.proofs.Laws.{lent}
 use Rattle.stored_runs.proofs.run_stored.Statement.{statement}
 use Rattle.stored_runs.proofs.run_stored.Tie as tie
 
-token-room-requires : tie.Need-token-room-requires
-token-room-requires c κs = search needs
+room-for-tokens-requires : tie.Need-room-for-tokens-requires
+room-for-tokens-requires c κs = search needs
 
 least-requires : tie.Need-least-requires
 least-requires c κs = search needs
@@ -23,13 +23,13 @@ run-over-requires : tie.Need-run-over-requires
 run-over-requires c κs = search needs
 
 returns : tie.Need-returns
-returns c = cc (lent _ _ _ 16500 (c .before .before .before .before .token-room .ensures) (c .before .before .before .least .ensures))
+returns c = cc (lent _ _ _ 16500 (c .before .before .before .before .room-for-tokens .ensures) (c .before .before .before .least .ensures))
 
 pub run-stored-spec : {M : Type 1} → statement M
 run-stored-spec =
     tie.close
     (tie.spec
-    token-room-requires
+    room-for-tokens-requires
     least-requires
     sub-run-over
     part-token-words-start
