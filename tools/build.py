@@ -20,7 +20,7 @@ A grammar in words, where `#` begins a comment:
     a b                       a, then b
     a / b                     a, or if a fails b; binds least
     "loss"  number  word  eol a keyword, a number, any other word, the end of a line
-    token  line  end          any one token; the rest of a line; nothing is left, at whatever column
+    token  line  end          any one token; the rest of a line; no token stays unread, at whatever column
     empty  NAME  (a)          nothing, a rule, an expression
 
 A grammar that the reader would refuse is told so with its place, and then nothing is written. A FILE that is there
