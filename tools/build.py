@@ -55,7 +55,7 @@ IN_EXPRESSIONS = ("align", "indent", "position", "empty", *TERMINALS, *BUILT_IN)
 RESERVED = (*STATEMENTS, *IN_EXPRESSIONS, *RELATIONS)
 
 # What other notations write, and what it is called here.
-ELSEWHERE = {"not": "the sign !", "or": "the sign /", "eof": "the reserved word end", "newline": "the reserved word eol"}
+ELSEWHERE = {"not": "the sign `!`", "or": "the sign `/`", "eof": "the reserved word end", "newline": "the reserved word eol"}
 
 # Enough for a table's 512 nodes one in the other, each in brackets.
 DEEPEST = 6000
@@ -372,7 +372,8 @@ def unknown_keyword(source, spelling, place):
     spellings = [word.text[1:-1] for word in source.keywords]
     missing, parts = f'"{spelling}" is not among the keywords', parts_of(spelling)
     if wrong_spelling(spelling):
-        return Fault(place, f"{missing} and cannot be: it {wrong_spelling(spelling)}")
+        quote = "" if spelling else ', and no keyword holds a "'
+        return Fault(place, f"{missing} and cannot be: it {wrong_spelling(spelling)}{quote}")
     if len(parts) > 1:
         return Fault(place, f"{missing} and cannot be: it {holds_single(parts)}; write {quoted(parts)}")
     like = near(spelling, [other for other in spellings if not wrong_spelling(other) and len(parts_of(other)) == 1])

@@ -116,8 +116,8 @@ class Messages(unittest.TestCase):
             ("eof", "the reserved word end"),
             ("Tokens", "the reserved word token"),
             ("idnent", "the reserved word indent"),
-            ("not", "the sign !"),
-            ("or", "the sign /"),
+            ("not", "the sign `!`"),
+            ("or", "the sign `/`"),
             ("Lines", "lines"),
             ("line-s", "lines"),
         ):
@@ -138,7 +138,7 @@ class Messages(unittest.TestCase):
         single = "holds ':', which is a token by itself; write"
         self.says(HEAD + 'report = "loss:"', f'x:4:10: "loss:" {cannot} {single} "loss" ":"')
         self.says(HEAD + 'report = "a:b:"', f'x:4:10: "a:b:" {cannot} {single} "a" ":" "b" ":"')
-        self.says(HEAD + 'report = ""', f'x:4:10: "" {cannot} is empty')
+        self.says(HEAD + 'report = ""', f'x:4:10: "" {cannot} is empty, and no keyword holds a "')
         self.says(HEAD + 'report = "a b"', f'x:4:10: "a b" {cannot} holds a blank or a control character')
         self.says('keywords "loss:"\nstart r\nmode any\nr = "loss"',
                   f'x:1:10: the keyword "loss:" {single} "loss" ":" (the reader would answer: refused 2)',
