@@ -20,14 +20,16 @@ A grammar in words, where `#` begins a comment:
     a b                       a, then b
     a / b                     a, or if a fails b; binds least
     "loss"  number  word  eol a keyword, a number, any other word, the end of a line
-    token  line  end          any one token; the rest of a line; nothing is left, at whatever column
+    token  line  end          any one token; the rest of a line; no token stays unread, at whatever column
     empty  NAME  (a)          nothing, a rule, an expression
 
-A grammar that the reader would refuse is told so with its place, and then nothing is written.
+A grammar that the reader would refuse is told so with its place, and then nothing is written. A FILE that is there
+already is written over only if it is a grammar file, or empty.
 """
 
 import argparse
 import difflib
+import errno
 import re
 import sys
 from pathlib import Path
@@ -44,11 +46,16 @@ EOL, FIRST_KEYWORD = 2, 3
 # The limits of a grammar file.
 MOST_BYTES, MOST_KEYWORDS, MOST_SPELLING, MOST_NODES, MOST_RULES = 65535, 253, 32, 512, 128
 SINGLES = ":,()[]=;%"
+FIRST_FIELD = b"\x01\x00\x01\x01"
 
 # The words of the notation.
 STATEMENTS = ("keywords", "start", "mode")
 BUILT_IN = ("token", "line", "end")
-RESERVED = (*STATEMENTS, "align", "indent", "position", "empty", *TERMINALS, *BUILT_IN, *RELATIONS)
+IN_EXPRESSIONS = ("align", "indent", "position", "empty", *TERMINALS, *BUILT_IN)
+RESERVED = (*STATEMENTS, *IN_EXPRESSIONS, *RELATIONS)
+
+# What other notations write, and what it is called here.
+ELSEWHERE = {"not": "the sign `!`", "or": "the sign `/`", "eof": "the reserved word end", "newline": "the reserved word eol"}
 
 # Enough for a table's 512 nodes one in the other, each in brackets.
 DEEPEST = 6000
@@ -122,6 +129,20 @@ class Word(NamedTuple):
 LEXEME = re.compile(r'\s+|#[^\n]*|(?P<word>"[^"\n]*"|[A-Za-z][\w-]*|[=/!*?+()])')
 
 
+def begins_none(text, at):
+    """What is told of a sign that begins no word."""
+    sign = text[at]
+    if re.match("::?=|<-|->", text[at:]):
+        hint = "; a rule is written `NAME = ..`"
+    elif sign in "'`\u2018\u2019\u201c\u201d":
+        hint = '; a keyword is written in double quotes, as "loss"'
+    elif sign == "|":
+        hint = '; a choice is written with /, and a keyword "|"'
+    else:
+        hint = f'; a keyword is written "{sign}"' if sign.isprintable() else ""
+    return f"{sign!r} begins no word of the notation{hint}"
+
+
 def words_of(text):
     """The words of a grammar, with an empty one behind the last."""
     words, at, line, line_at = [], 0, 1, 0
@@ -131,7 +152,7 @@ def words_of(text):
         if not found and text[at] == '"':
             raise Faults(Fault(place, 'this keyword is not closed: a second " is expected on its line'))
         if not found:
-            raise Faults(Fault(place, f"{text[at]!r} begins no word of the notation"))
+            raise Faults(Fault(place, begins_none(text, at)))
         if found["word"]:
             words.append(Word(found["word"], place))
         breaks = text.count("\n", at, found.end())
@@ -206,7 +227,14 @@ class Parser:
 
     def expected(self, what):
         """Says what was expected in the place of the next word."""
-        return Faults(Fault(self.word().place, f"{what} expected, not {self.word().told()}"))
+        quote = ', and a keyword cannot hold a "' if self.touches_keyword() else ""
+        return Faults(Fault(self.word().place, f"{what} expected, not {self.word().told()}{quote}"))
+
+    def touches_keyword(self):
+        """Whether the next word is a name right behind a closing quote, with no blank between."""
+        before, word = self.words[self.at - 1], self.word()
+        column = before.place.column + len(before.text)
+        return before.is_keyword() and word.is_name() and word.place == Place(before.place.line, column)
 
     def ends(self):
         """Whether the next word begins a statement, or there is none."""
@@ -317,33 +345,45 @@ class Parser:
 # Names
 
 
-def near(name, names):
-    """The name that is most like this one, if there is one."""
-    return next(iter(difflib.get_close_matches(name, names, 1)), None)
+def near(name, names, least=0.6):
+    """The name that is most like this one, whatever the capitals, if there is one."""
+    others = {other.lower(): other for other in names}
+    return next((others[found] for found in difflib.get_close_matches(name.lower(), others, 1, least)), None)
 
 
-def unknown_rule(source, name, place):
+def unknown_rule(source, name, place, reserved=()):
+    """A rule that is not there. Reserved: the words of the notation that could have been meant."""
     names, spellings = [rule.name for rule in source.rules], {word.text for word in source.keywords}
-    like = near(name, names)
+    like = near(name, filter(None, (near(name, reserved, 0.8), near(name, names))))
+    declared = f"rule is declared by a line `{name} = ..`"
     if f'"{name}"' in spellings:
         hint = f'the keyword is written "{name}"'
+    elif reserved and name.lower() in ELSEWHERE:
+        hint = f"is it {ELSEWHERE[name.lower()]}? A {declared}"
     elif like:
-        hint = f"is it {like}? A rule is declared by a line `{name} = ..`"
+        hint = f"is it {like if like in names else f'the reserved word {like}'}? A {declared}"
     else:
-        hint = f"a rule is declared by a line `{name} = ..`"
+        hint = f"a {declared}"
     return Fault(place, f"no rule is named {name}; {hint}")
 
 
 def unknown_keyword(source, spelling, place):
+    """A keyword that is not there, and how it could be; where its spelling is wrong, that it cannot be."""
     spellings = [word.text[1:-1] for word in source.keywords]
-    like = near(spelling, spellings)
+    missing, parts = f'"{spelling}" is not among the keywords', parts_of(spelling)
+    if wrong_spelling(spelling):
+        quote = "" if spelling else ', and no keyword holds a "'
+        return Fault(place, f"{missing} and cannot be: it {wrong_spelling(spelling)}{quote}")
+    if len(parts) > 1:
+        return Fault(place, f"{missing} and cannot be: it {holds_single(parts)}; write {quoted(parts)}")
+    like = near(spelling, [other for other in spellings if not wrong_spelling(other) and len(parts_of(other)) == 1])
     if source.keywords:
         hint = f"add it to the keywords of line {source.keywords[0].place.line}"
     else:
         hint = f'declare it by a line `keywords "{spelling}"`'
     if like:
         hint = f'is it "{like}"? Otherwise {hint}'
-    return Fault(place, f'"{spelling}" is not among the keywords; {hint}')
+    return Fault(place, f"{missing}; {hint}")
 
 
 def expressions_of(expression):
@@ -354,21 +394,21 @@ def expressions_of(expression):
 
 
 def name_faults(source):
-    """Rules and keywords that are not there, and rules that are there twice, from front to back."""
+    """Rules and keywords that are not there, and rules that are there twice."""
     first, faults = {}, []
     for rule in source.rules:
         if rule.name in first:
-            faults.append(Fault(rule.place, f"rule {rule.name} is there twice; the first is at {first[rule.name]}"))
+            faults.append(Fault(rule.place, f"rule {rule.name} is there twice; the first is at {first[rule.name]}", 2))
         first.setdefault(rule.name, rule.place)
     if source.start.text not in first:
         faults.append(unknown_rule(source, source.start.text, source.start.place))
     spellings = {word.text[1:-1] for word in source.keywords}
     for inner in (inner for rule in source.rules for inner in expressions_of(rule.expression)):
         if inner.form == "rule" and inner.value not in first:
-            faults.append(unknown_rule(source, inner.value, inner.place))
+            faults.append(unknown_rule(source, inner.value, inner.place, IN_EXPRESSIONS))
         if inner.form == "keyword" and inner.value not in spellings:
             faults.append(unknown_keyword(source, inner.value, inner.place))
-    return sorted(faults, key=lambda fault: fault.place)
+    return faults
 
 
 def unused(source):
@@ -505,18 +545,18 @@ def file_faults(grammar):
     return faults
 
 
-def spelling_faults(grammar):
+def spelling_faults(source):
     """2: keywords and names that break their rules."""
-    faults, first = [], {}
-    for word in grammar.source.keywords:
+    faults, first, named = [], {}, {word.text[1:-1] for word in source.keywords}
+    for word in source.keywords:
         spelling = word.text[1:-1]
-        wrong = wrong_spelling(spelling) or wrong_single(spelling)
+        wrong = wrong_spelling(spelling) or wrong_single(spelling, named)
         if spelling in first:
             wrong = f"is there twice; the first is at {first[spelling]}"
         first.setdefault(spelling, word.place)
         if wrong:
             faults.append(Fault(word.place, f'the keyword "{spelling}" {wrong}', 2))
-    for rule in grammar.source.rules:
+    for rule in source.rules:
         wrong = wrong_spelling(rule.name)
         if wrong:
             faults.append(Fault(rule.place, f"the name {rule.name} {wrong}", 2))
@@ -535,14 +575,27 @@ def wrong_spelling(spelling):
     return None
 
 
-def wrong_single(spelling):
-    """A keyword that holds one of the nine single bytes beside others. The scanner cuts it there."""
-    parts = re.findall(r"[:,()\[\]=;%]|[^:,()\[\]=;%]+", spelling)
-    single = next((part for part in parts if part in SINGLES), None)
-    if len(parts) < 2 or single is None:
+def wrong_single(spelling, named):
+    """A keyword that the scanner cuts: which of its parts are still to be named. They count as named from then on."""
+    parts = parts_of(spelling)
+    if len(parts) < 2:
         return None
-    apart = " ".join(f'"{part}"' for part in parts)
-    return f"holds '{single}', which is a token by itself; write {apart}"
+    missing = [part for part in dict.fromkeys(parts) if part not in named]
+    named.update(missing)
+    return f"{holds_single(parts)}; " + (f"write {quoted(missing)}" if missing else "leave it out, its parts are keywords")
+
+
+def parts_of(spelling):
+    """The tokens that the scanner cuts a spelling into: each of the nine single bytes is one by itself."""
+    return re.findall(r"[:,()\[\]=;%]|[^:,()\[\]=;%]+", spelling)
+
+
+def holds_single(parts):
+    return f"holds '{next(part for part in parts if part in SINGLES)}', which is a token by itself"
+
+
+def quoted(spellings):
+    return " ".join(f'"{spelling}"' for spelling in spellings)
 
 
 def size_faults(grammar):
@@ -659,7 +712,7 @@ def well_formed_faults(grammar):
 
 def refusals(grammar):
     """What the reader would refuse in a grammar, by the lowest number that applies."""
-    for faults in (file_faults, spelling_faults, size_faults, well_formed_faults):
+    for faults in (file_faults, lambda grammar: spelling_faults(grammar.source), size_faults, well_formed_faults):
         found = faults(grammar)
         if found:
             return found
@@ -694,7 +747,7 @@ def grammar_of(text):
         source = Parser(words_of(text))
         faults = name_faults(source)
         if faults:
-            raise Faults(*faults)
+            raise Faults(*sorted(faults + spelling_faults(source), key=lambda fault: fault.place))
         return Grammar(source)
     except RecursionError:
         raise Faults(Fault(None, "an expression is nested too deep")) from None
@@ -774,8 +827,15 @@ def build(given):
     if faults:
         raise Faults(*faults)
     if not given.nodes:
-        Path(given.file).write_bytes(file_of(grammar))
+        write(Path(given.file), file_of(grammar))
         print(f"{given.file}: {grammar.summary()}")
+
+
+def write(path, file):
+    """Writes a grammar file. Another file that is there already is not written over."""
+    if path.is_file() and path.stat().st_size and path.read_bytes()[:4] != FIRST_FIELD:
+        raise FileExistsError(errno.EEXIST, "is there already and is no grammar file; it stays as it is", str(path))
+    path.write_bytes(file)
 
 
 def main():

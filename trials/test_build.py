@@ -47,7 +47,17 @@ class Messages(unittest.TestCase):
         self.assertEqual(faults_of(text), list(lines))
 
     def test_words(self):
-        self.says(HEAD + "report = word & word", "x:4:15: '&' begins no word of the notation")
+        none = "begins no word of the notation"
+        self.says(HEAD + "report = word & word", f"x:4:15: '&' {none}; a keyword is written \"&\"")
+        self.says(HEAD + "report = loss: number", f"x:4:14: ':' {none}; a keyword is written \":\"")
+        self.says(HEAD + "report = [ number ]", f"x:4:10: '[' {none}; a keyword is written \"[\"")
+        self.says(HEAD + "report = word | eol", f"x:4:15: '|' {none}; a choice is written with /, and a keyword \"|\"")
+        self.says(HEAD + "report = word \x07", f"x:4:15: '\\x07' {none}")
+        for sign in (":=", "::=", "<-", "->"):
+            self.says(HEAD + f"report {sign} word", f"x:4:8: {sign[0]!r} {none}; a rule is written `NAME = ..`")
+        for sign in "'\u201c":
+            quotes = 'a keyword is written in double quotes, as "loss"'
+            self.says(HEAD + f"report = {sign}loss", f"x:4:10: {sign!r} {none}; {quotes}")
         self.says(HEAD + 'report = "loss', 'x:4:10: this keyword is not closed: a second " is expected on its line')
 
     def test_statements(self):
@@ -56,6 +66,8 @@ class Messages(unittest.TestCase):
         self.says("start report\nreport = word", "x:2:14: there is no mode: a line `mode RELATION` is expected")
         self.says("mode any\nreport = word\n", "x:3:1: there is no start: a line `start NAME` is expected")
         self.says("", "x:1:1: there is no start: a line `start NAME` is expected")
+        self.says('keywords "say"hi""', "x:1:15: keywords, start, mode or a rule `NAME = ..` expected, not hi, "
+                  'and a keyword cannot hold a "')
         self.says("mode any\nmode any", "x:2:1: mode is there twice")
         self.says("mode all", "x:1:6: a relation (equal, greater, at-least or any) expected, not all")
         self.says("start (", "x:1:7: the name of the start rule expected, not '('")
@@ -91,13 +103,57 @@ class Messages(unittest.TestCase):
         self.says("start repot\nmode any\nreport = word", f"x:1:7: no rule is named repot; {like}")
         both = [f"x:4:{c}: no rule is named {name}; a {declared(name)}" for c, name in ((10, "one"), (14, "two"))]
         self.says(HEAD + "report = one two", *both)
-        self.says(HEAD + "report = word\nreport = eol", "x:5:1: rule report is there twice; the first is at 4:1")
+        twice = "x:5:1: rule report is there twice; the first is at 4:1 (the reader would answer: refused 2)"
+        self.says(HEAD + "report = word\nreport = eol", twice)
+
+    def test_rules_like_words(self):
+        """What could be a word or a sign of the notation is told as that, but not as the start."""
+        declared = lambda name: f"rule is declared by a line `{name} = ..`"
+        for name, meant in (
+            ("Number", "the reserved word number"),
+            ("numbers", "the reserved word number"),
+            ("EOL", "the reserved word eol"),
+            ("eof", "the reserved word end"),
+            ("Tokens", "the reserved word token"),
+            ("idnent", "the reserved word indent"),
+            ("not", "the sign `!`"),
+            ("or", "the sign `/`"),
+            ("Lines", "lines"),
+            ("line-s", "lines"),
+        ):
+            told = f"x:4:10: no rule is named {name}; is it {meant}? A {declared(name)}"
+            self.says(HEAD + f"report = {name} lines\nlines = word", told)
+        self.says(HEAD + "report = entry", f"x:4:10: no rule is named entry; a {declared('entry')}")
+        self.says("start numbers\nmode any\nreport = word", f"x:1:7: no rule is named numbers; a {declared('numbers')}")
 
     def test_keywords_not_there(self):
         missing, add = "is not among the keywords;", "add it to the keywords of line 1"
         self.says(HEAD + 'report = "arc"', f'x:4:10: "arc" {missing} {add}')
         self.says(HEAD + 'report = "los"', f'x:4:10: "los" {missing} is it "loss"? Otherwise {add}')
         self.says('start r\nmode any\nr = "arc"', f'x:3:5: "arc" {missing} declare it by a line `keywords "arc"`')
+
+    def test_keywords_that_cannot_be(self):
+        """No spelling is told that the reader would refuse."""
+        cannot = "is not among the keywords and cannot be: it"
+        single = "holds ':', which is a token by itself; write"
+        self.says(HEAD + 'report = "loss:"', f'x:4:10: "loss:" {cannot} {single} "loss" ":"')
+        self.says(HEAD + 'report = "a:b:"', f'x:4:10: "a:b:" {cannot} {single} "a" ":" "b" ":"')
+        self.says(HEAD + 'report = ""', f'x:4:10: "" {cannot} is empty, and no keyword holds a "')
+        self.says(HEAD + 'report = "a b"', f'x:4:10: "a b" {cannot} holds a blank or a control character')
+        self.says('keywords "loss:"\nstart r\nmode any\nr = "loss"',
+                  f'x:1:10: the keyword "loss:" {single} "loss" ":" (the reader would answer: refused 2)',
+                  'x:4:5: "loss" is not among the keywords; add it to the keywords of line 1')
+
+    def test_parts_once(self):
+        """Where several keywords are cut, each part is told once, and none that is there."""
+        def told(keywords):
+            lines = faults_of(f"keywords {keywords}\nstart r\nmode any\nr = word")
+            return [line.partition("by itself; ")[2].partition(" (the")[0] for line in lines]
+
+        self.assertEqual(told('"loss:" "gain:"'), ['write "loss" ":"', 'write "gain"'])
+        self.assertEqual(told('"a:b:c" "b"'), ['write "a" ":" "c"'])
+        self.assertEqual(told('":" "loss:"'), ['write "loss"'])
+        self.assertEqual(told('"loss" ":" "loss:"'), ["leave it out, its parts are keywords"])
 
     def test_unused(self):
         source = nodes_of("report = entry\nentry = word\nother = more\nmore = last\nlast = word").source
@@ -215,7 +271,8 @@ class Refusals(unittest.TestCase):
             ("a\x7f", "holds a blank or a control character"),
             ("loss:", "holds ':', which is a token by itself; write \"loss\" \":\""),
             ("a(b", "holds '(', which is a token by itself; write \"a\" \"(\" \"b\""),
-            ("%%", "holds '%', which is a token by itself; write \"%\" \"%\""),
+            ("%%", "holds '%', which is a token by itself; write \"%\""),
+            ("a:b:c", "holds ':', which is a token by itself; write \"a\" \":\" \"b\" \"c\""),
         ):
             text = self.keywords(spelling)
             self.same(text, "refused 2")
@@ -332,6 +389,19 @@ class Command(unittest.TestCase):
         self.assertEqual(err, "x.grammar:4:1: rule report is left recursive: it comes back to itself before a token is read, "
                          "report -> report (the reader would answer: refused 7 0)\n")
         self.assertFalse((pathlib.Path(self.folder.name) / "x.bin").exists())
+
+    def test_writes_over(self):
+        """A grammar file is written over, and an empty file; another is not."""
+        grammar = HEAD + "report = word"
+        left = "is there already and is no grammar file; it stays as it is"
+        path = self.write(grammar)
+        self.assertEqual(self.start("x.grammar", "x.grammar"), (1, "", f"x.grammar: {left}\n"))
+        self.assertEqual(path.read_text(), grammar)
+        for old, status in ((b"", 0), (b"\x01\x00\x01\x01", 0), (b"\x01\x00\x01", 1), (b"\x01\x00\x01\x02", 1)):
+            path = self.write(old, "x.bin")
+            self.assertEqual(self.start("x.grammar", "x.bin")[0], status)
+            self.assertEqual(path.read_bytes(), old if status else build.built(grammar)[1])
+        self.assertEqual(self.start("x.grammar", "x.bin")[2], f"x.bin: {left}\n")
 
     def test_nodes(self):
         self.write(HEAD + "report = empty* line")
