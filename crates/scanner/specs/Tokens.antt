@@ -1,6 +1,6 @@
 -- Tokens: the terminal, column, offset and length of each place (01, "The scanner").
 use Prim.Native.Nat.{ℕ, suc, _+_}
-use mathlib.Core.Bool.{Bool, true, false, cond, not, _&&_}
+use mathlib.Core.Bool.{Bool, true, false, cond, _&&_}
 use mathlib.Core.List.{List, [], _∷_, map}
 use lib.ListN.{take, drop}
 use lib.Dec.{eqb}

@@ -1,6 +1,6 @@
 // The terminal of a spelling: a keyword's, a number's or another's.
 ghost use mathlib.Core.Path.{_≡_};
-ghost use mathlib.Core.Bool.{cond, _&&_};
+ghost use mathlib.Core.Bool.{cond};
 ghost use Prim.Native.Nat.{_+_, _≤_, _<_};
 ghost use lib.ListN.{length, drop};
 ghost use Rattle.file_fields.specs.Offsets.{keywordsFrom};

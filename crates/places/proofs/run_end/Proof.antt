@@ -63,9 +63,7 @@ returns c =
     (loop .inv) (loop-test .taken) (sym (c .before .in-run .ensures) ∙ not-true _ (c .if1 .taken))
 
 column-after-requires : tie.Need-column-after-requires Inv-loop μ-loop
-column-after-requires c κs =
-    let loop = c .before .before .before .before .before .loop in
-    omega (arith, loop .inv .0 .fits, loop .inv .0 .within)
+column-after-requires c κs = let room = c .before .before .before .before .before .loop .inv .0 in omega (arith, room .fits, room .within)
 
 loop-again : tie.Need-loop-again Inv-loop μ-loop
 loop-again c =

@@ -29,9 +29,7 @@ returns c =
     }
 
 column-after-requires : tie.Need-column-after-requires Inv-loop μ-loop
-column-after-requires c κs =
-    let loop = c .before .before .before .before .before .loop in
-    omega (arith, loop .inv .0 .fits, loop .inv .0 .within)
+column-after-requires c κs = let room = c .before .before .before .before .before .loop .inv .0 in omega (arith, room .fits, room .within)
 
 loop-again : tie.Need-loop-again Inv-loop μ-loop
 loop-again c =

@@ -4,7 +4,6 @@ use Rattle.scanner.proofs.scan.Statement.{statement}
 use Rattle.scanner.proofs.scan.Tie as tie
 use native.Mathlib.Omega.{arith}
 use mathlib.Core.Path.{refl}
-use lib.ListN.{length}
 use Rattle.file_fields.specs.Offsets.{keywordsFrom}
 use Rattle.scanner.specs.InternalChecks.{Passed}
 use Rattle.scanner.proofs.StepLaws.{passed-of, scan-first, scan-9, scan-many, scan-short, scan-on, words-after}
