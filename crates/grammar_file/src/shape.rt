@@ -1,6 +1,7 @@
 // The shape of a file: its fields in order, by count and offset (number 1).
 ghost use mathlib.Core.Path.{_≡_};
 ghost use Rattle.grammar_file.specs.InternalShape.{LongestRun, framedBy, Shaped};
+use crate::FIRST_KEYWORD;
 use file_fields::next_at;
 use file_fields::right_at;
 use file_fields::tags;
@@ -48,7 +49,7 @@ fn run_of(file: &[u8], at: usize, tag: u8) -> Run
 pub(crate) fn shape_of(file: &[u8]) -> Shape
     ensures { λ r. ⌜ Shaped (now (file .entry)) r ⌝ }
 {
-    let keywords = run_of(file, 4, tags::KEYWORD);
+    let keywords = run_of(file, FIRST_KEYWORD, tags::KEYWORD);
     let rules = run_of(file, keywords.end, tags::RULE);
     let nodes = run_of(file, rules.end, tags::NODE);
     let start = nodes.end;

@@ -18,7 +18,7 @@ pub const RULE: u8 = 5;
 // A lent slice is too short for the table or its rules.
 pub const ROOM: u8 = 6;
 
-// Not well formed. No code answers it by number: it comes with its node.
+// Not well formed; it comes with its node.
 pub const ILL_FORMED: u8 = 7;
 
 // The report: its length, or a refused byte.

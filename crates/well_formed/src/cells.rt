@@ -1,4 +1,5 @@
 // A truth value for each node.
+use table::kinds;
 ghost use mathlib.Core.Path.{_≡_};
 ghost use mathlib.Core.Bool.{false, not, _&&_, _||_};
 ghost use Prim.Native.Nat.{_<_};
@@ -31,7 +32,7 @@ pub(crate) fn first_child(rules: &[u16], kind: u16, a: u16) -> usize
     ensures { λ r. ⌜ r ≡ firstChild (now (rules .entry)) kind a ⌝ }
 {
     let r = a as usize;
-    if kind != 2 {
+    if kind != kinds::RULE {
         return r;
     }
     if r < rules.len() {
