@@ -7,7 +7,7 @@ ROOT = pathlib.Path(__file__).resolve().parent.parent
 sys.path.insert(0, str(ROOT / "tools"))
 import build  # noqa: E402
 
-WIDEST = 120
+WIDEST = 120  # in bytes
 
 HEAD = """\
 -- The blocks of docs/HANDBOOK.md as cases: each run of a report by a grammar, then a check of each grammar. This file is made
@@ -42,7 +42,7 @@ def wrapped(items, first):
     lines, line = [], ""
     for item in items:
         part = item if not line and first and not lines else f"∷ {item}"
-        if line and len(line) + 1 + len(part) > WIDEST - 4:
+        if line and len(f"{line} {part}".encode()) > WIDEST - 4:
             lines.append(line)
             line = part
         else:

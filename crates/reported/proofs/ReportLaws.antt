@@ -32,7 +32,11 @@ module _ {x : Ran} {n : ℕ} where
   words-named e place before = rw e of-refusedAt
 
 -- The relation fixes every word: from the same words before, an answer is reported in one way.
-pub one-report : {place : ℕ} {before after after' : List ℕ} {a : Answer (Outcome Interval)} → RunReported place before a after → RunReported place before a after' → after ≡ after'
+pub one-report :
+    {place : ℕ} {before after after' : List ℕ} {a : Answer (Outcome Interval)}
+    → RunReported place before a after
+    → RunReported place before a after'
+    → after ≡ after'
 one-report (of-success {read = read} {c = c} {flag = flag} e) (of-success {read = read'} e') =
     ap (λ (n : ℕ). successWords n c flag) (let q : read ≡ read' = omega arith in q)
 one-report of-failure of-failure = refl

@@ -46,7 +46,13 @@ pub written-none : (f : ℕ → ℕ) (before : List ℕ) → Written f before be
 unfolding tabulate
 written-none f before = record { is = refl; inside = omega arith; long = refl }
 
-pub written-more : {f : ℕ → ℕ} {before now : List ℕ} {i : ℕ} → Written f before now i → i < length before → {x : ℕ} → x ≡ f i → Written f before (set now i x) (i + 1)
+pub written-more :
+    {f : ℕ → ℕ} {before now : List ℕ} {i : ℕ}
+    → Written f before now i
+    → i < length before
+    → {x : ℕ}
+    → x ≡ f i
+    → Written f before (set now i x) (i + 1)
 unfolding tabulate
 written-more {f} {before} {now} {i} w l {x} e =
     record {

@@ -124,7 +124,9 @@ fn word(bytes: &[u8], at: usize) -> u16
 
 // Sets the words to the numbers of two bytes, from the start on.
 pub fn load_16(bytes: &[u8], words: &mut [u16])
-    ensures { λ _. ⌜ now (words .exit) ≡ tabulate (λ i. pairAt (now (bytes .entry)) (i * 2)) (length (now (words .entry))) ⌝ }
+    ensures { λ _. ⌜
+        now (words .exit) ≡ tabulate (λ i. pairAt (now (bytes .entry)) (i * 2)) (length (now (words .entry)))
+        ⌝ }
 {
     let mut i = 0;
     while i < words.len() {
@@ -135,7 +137,9 @@ pub fn load_16(bytes: &[u8], words: &mut [u16])
 
 // Sets the words to the numbers of four bytes, from the start on.
 pub fn load_32(bytes: &[u8], words: &mut [u32])
-    ensures { λ _. ⌜ now (words .exit) ≡ tabulate (λ i. quadAt (now (bytes .entry)) (i * 4)) (length (now (words .entry))) ⌝ }
+    ensures { λ _. ⌜
+        now (words .exit) ≡ tabulate (λ i. quadAt (now (bytes .entry)) (i * 4)) (length (now (words .entry)))
+        ⌝ }
 {
     let mut i = 0;
     while i < words.len() {
