@@ -261,7 +261,11 @@ goes-run b bytes o c m e =
     })
 
 -- A line's end by a break, and a single byte.
-goes-break : (b : ℕ) (bytes : List ℕ) (o c : ℕ) (m : Bool) → passedOver b false ≡ true → passedOver b m ≡ false → Goes (b ∷ bytes) o c m (nextPlace (b ∷ bytes) o c m)
+goes-break :
+    (b : ℕ) (bytes : List ℕ) (o c : ℕ) (m : Bool)
+    → passedOver b false ≡ true
+    → passedOver b m ≡ false
+    → Goes (b ∷ bytes) o c m (nextPlace (b ∷ bytes) o c m)
 unfolding placesOf markAfter inRun passedOver columnAfter
 goes-break b bytes o c m e p =
     let q = break-places (classOf b) m c o (runLength (b ∷ bytes)) e p in

@@ -298,7 +298,9 @@ fn write(file: &[u8], keywords: usize, report: &[u8], tokens: &mut [u32])
     requires { ⌜ keywords ≤ 253 ⌝ }
     requires { ⌜ length (now report) ≤ 65535 ⌝ }
     requires { ⌜ length (places (now report)) * 4 ≤ length (now tokens) ⌝ }
-    ensures { λ _. ⌜ now (tokens .exit) ≡ written (now (file .entry)) keywords (now (report .entry)) (now (tokens .entry)) ⌝ }
+    ensures { λ _. ⌜
+        now (tokens .exit) ≡ written (now (file .entry)) keywords (now (report .entry)) (now (tokens .entry))
+        ⌝ }
 {
     let mut offsets = [0usize; 253];
     let mut firsts = [255u8; 4096];
@@ -321,7 +323,9 @@ fn write_all(
     requires { ⌜ Indexed (now file) keywords (now offsets) (now firsts) (now nexts) ⌝ }
     requires { ⌜ length (now report) ≤ 65535 ⌝ }
     requires { ⌜ length (places (now report)) * 4 ≤ length (now tokens) ⌝ }
-    ensures { λ _. ⌜ now (tokens .exit) ≡ written (now (file .entry)) keywords (now (report .entry)) (now (tokens .entry)) ⌝ }
+    ensures { λ _. ⌜
+        now (tokens .exit) ≡ written (now (file .entry)) keywords (now (report .entry)) (now (tokens .entry))
+        ⌝ }
 {
     let mut to = 0;
     let mut at = 0;
