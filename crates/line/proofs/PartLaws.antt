@@ -28,6 +28,14 @@ front : (w r : List ℕ) (n : ℕ) → length w ≡ n → take n (w ++ r) ≡ w
 front [] r n e = rw (← e) refl
 front (x ∷ w) r n e = rw (← e) (ap (λ (l : List ℕ). x ∷ l) (front w r (length w) refl))
 
+-- A part's answer where its result is known, and a slice that was lent to it.
+module _ {R A : Type 0} (numbers : R → Answer A) {r s : R} (e : r ≡ s) where
+  pub told : {a : Answer A} → numbers r ≡ a → numbers s ≡ a
+  told q = sym (ap numbers e) ∙ q
+
+  pub lent : (written before : List ℕ) {after : List ℕ} → after ≡ afterwards (numbers r) written before → after ≡ afterwards (numbers s) written before
+  lent written before q = q ∙ ap (λ (x : R). afterwards (numbers x) written before) e
+
 -- Checks that did not refuse.
 three : (a b c : Bool) (m n : ℕ) → given n ≡ refuseIf a 8 (refuseIf b 9 (refuseIf c 10 (given m))) → (c ≡ false) × (n ≡ m)
 three true b c m n p = absurd (let z : _≡_ {A = ℕ} 0 1 = cc in omega arith)

@@ -5,40 +5,20 @@ use Rattle.line.proofs.answer.Tie as tie
 use mathlib.Core.Path.{sym, ap, _∙_}
 use native.Mathlib.Omega.{arith}
 use lib.ListN.{length, replicate}
-use Rattle.line.proofs.PartLaws.{read-as, nodes-front, rules-front, read-runs, read-refuses}
-use Rattle.table.specs.Answer.{afterwards}
-use Rattle.grammar_file.specs.File.{fieldsOf, nodeTable, ruleList, numbers as file-numbers}
+use Rattle.line.proofs.PartLaws.{told, lent, read-as, nodes-front, rules-front, read-runs, read-refuses}
+use Rattle.grammar_file.specs.File.{numbers as file-numbers}
 
 mul-words : tie.Need-mul-words
 mul-words c =
     let read = c .before .before .before .before .before .read in
-    let entry = c .before .before .before .before .before .before .before .before .before .before in
-    omega (
-      arith,
-      read-as (entry .args .file .now)
-          (record {
-            nodes = c .before .x2 .given .0 .0;
-            rules = c .before .x2 .given .0 .1 .0;
-            keywords = c .before .x2 .given .0 .1 .1 .0;
-            start = c .before .x2 .given .0 .1 .1 .1 .0;
-            mode = c .before .x2 .given .0 .1 .1 .1 .1 .0;
-          }) (sym (ap file-numbers (c .before .x2 .given .1)) ∙ read .ensures .0) .few-nodes,
-    )
+    omega (arith, read-as _ _ (told file-numbers (c .before .x2 .given .1) (read .ensures .0)) .few-nodes)
 
 array-share-prefix-nodes : tie.Need-array-share-prefix-nodes
 array-share-prefix-nodes c =
     let read = c .before .before .before .before .before .read in
-    let entry = c .before .before .before .before .before .before .before .before .before .before in
     omega (
       arith,
-      read-as (entry .args .file .now)
-          (record {
-            nodes = c .before .x2 .given .0 .0;
-            rules = c .before .x2 .given .0 .1 .0;
-            keywords = c .before .x2 .given .0 .1 .1 .0;
-            start = c .before .x2 .given .0 .1 .1 .1 .0;
-            mode = c .before .x2 .given .0 .1 .1 .1 .1 .0;
-          }) (sym (ap file-numbers (c .before .x2 .given .1)) ∙ read .ensures .0) .few-nodes,
+      read-as _ _ (told file-numbers (c .before .x2 .given .1) (read .ensures .0)) .few-nodes,
       ap length (read .ensures .1 .0),
     )
 
@@ -46,123 +26,33 @@ slice-aggregate-checked : tie.Need-slice-aggregate-checked
 slice-aggregate-checked c =
     let x2 = c .before .before .x2 in
     let read = c .before .before .before .before .before .before .read in
-    let entry = c .before .before .before .before .before .before .before .before .before .before .before in
-    sym
-    (ap length
-    (nodes-front (entry .args .file .now)
-    (record {
-      nodes = x2 .given .0 .0;
-      rules = x2 .given .0 .1 .0;
-      keywords = x2 .given .0 .1 .1 .0;
-      start = x2 .given .0 .1 .1 .1 .0;
-      mode = x2 .given .0 .1 .1 .1 .1 .0;
-    }) (sym (ap file-numbers (x2 .given .1)) ∙ read .ensures .0) (replicate 2048 0)
-    (read .ensures .1 .0
-    ∙ ap
-    (λ (r : _).
-    afterwards (file-numbers r) (nodeTable (fieldsOf (entry .args .file .now))) (replicate 2048 0))
-    (x2 .given .1)))
-    ∙ read-as (entry .args .file .now)
-    (record {
-      nodes = x2 .given .0 .0;
-      rules = x2 .given .0 .1 .0;
-      keywords = x2 .given .0 .1 .1 .0;
-      start = x2 .given .0 .1 .1 .1 .0;
-      mode = x2 .given .0 .1 .1 .1 .1 .0;
-    }) (sym (ap file-numbers (x2 .given .1)) ∙ read .ensures .0) .all-nodes)
+    let is = told file-numbers (x2 .given .1) (read .ensures .0) in
+    sym (ap length (nodes-front _ _ is (replicate 2048 0) (lent file-numbers (x2 .given .1) _ _ (read .ensures .1 .0))) ∙ read-as _ _ is .all-nodes)
 
 array-share-prefix-rules : tie.Need-array-share-prefix-rules
 array-share-prefix-rules c =
-    let x2 = c .before .before .x2 in
     let read = c .before .before .before .before .before .before .read in
-    let entry = c .before .before .before .before .before .before .before .before .before .before .before in
-    omega (
-      arith,
-      read-as (entry .args .file .now)
-          (record {
-            nodes = x2 .given .0 .0;
-            rules = x2 .given .0 .1 .0;
-            keywords = x2 .given .0 .1 .1 .0;
-            start = x2 .given .0 .1 .1 .1 .0;
-            mode = x2 .given .0 .1 .1 .1 .1 .0;
-          }) (sym (ap file-numbers (x2 .given .1)) ∙ read .ensures .0) .few-rules,
-    )
+    omega (arith, read-as _ _ (told file-numbers (c .before .before .x2 .given .1) (read .ensures .0)) .few-rules)
 
 slice-aggregate-checked-2 : tie.Need-slice-aggregate-checked-2
 slice-aggregate-checked-2 c =
     let x2 = c .before .before .before .x2 in
     let read = c .before .before .before .before .before .before .before .read in
-    let entry = c .before .before .before .before .before .before .before .before .before .before .before .before in
-    sym
-    (ap length
-    (rules-front (entry .args .file .now)
-    (record {
-      nodes = x2 .given .0 .0;
-      rules = x2 .given .0 .1 .0;
-      keywords = x2 .given .0 .1 .1 .0;
-      start = x2 .given .0 .1 .1 .1 .0;
-      mode = x2 .given .0 .1 .1 .1 .1 .0;
-    }) (sym (ap file-numbers (x2 .given .1)) ∙ read .ensures .0) (replicate 128 0)
-    (read .ensures .1 .1
-    ∙ ap
-    (λ (r : _).
-    afterwards (file-numbers r) (ruleList (fieldsOf (entry .args .file .now))) (replicate 128 0))
-    (x2 .given .1)))
-    ∙ read-as (entry .args .file .now)
-    (record {
-      nodes = x2 .given .0 .0;
-      rules = x2 .given .0 .1 .0;
-      keywords = x2 .given .0 .1 .1 .0;
-      start = x2 .given .0 .1 .1 .1 .0;
-      mode = x2 .given .0 .1 .1 .1 .1 .0;
-    }) (sym (ap file-numbers (x2 .given .1)) ∙ read .ensures .0) .all-rules)
+    let is = told file-numbers (x2 .given .1) (read .ensures .0) in
+    sym (ap length (rules-front _ _ is (replicate 128 0) (lent file-numbers (x2 .given .1) _ _ (read .ensures .1 .1))) ∙ read-as _ _ is .all-rules)
 
 returns : tie.Need-returns
 returns c =
     let read = c .before .before .before .before .before .read in
-    let start = c .before .before .before .before .before .before .before .before .before .before in
-    read-refuses (start .args .file .now) (start .args .report .now)
-    (sym (ap file-numbers (c .before .x .given .1)) ∙ read .ensures .0)
+    read-refuses _ _ (told file-numbers (c .before .x .given .1) (read .ensures .0))
 
 returns-2 : tie.Need-returns-2
 returns-2 c =
     let x2 = c .before .before .before .before .x2 in
     let read = c .before .before .before .before .before .before .before .before .read in
-    let entry = c .before .before .before .before .before .before .before .before .before .before .before .before .before in
-    read-runs (entry .args .file .now)
-    (record {
-      nodes = x2 .given .0 .0;
-      rules = x2 .given .0 .1 .0;
-      keywords = x2 .given .0 .1 .1 .0;
-      start = x2 .given .0 .1 .1 .1 .0;
-      mode = x2 .given .0 .1 .1 .1 .1 .0;
-    }) (sym (ap file-numbers (x2 .given .1)) ∙ read .ensures .0) (entry .args .report .now)
-    (nodes-front (entry .args .file .now)
-    (record {
-      nodes = x2 .given .0 .0;
-      rules = x2 .given .0 .1 .0;
-      keywords = x2 .given .0 .1 .1 .0;
-      start = x2 .given .0 .1 .1 .1 .0;
-      mode = x2 .given .0 .1 .1 .1 .1 .0;
-    }) (sym (ap file-numbers (x2 .given .1)) ∙ read .ensures .0) (replicate 2048 0)
-    (read .ensures .1 .0
-    ∙ ap
-    (λ (r : _).
-    afterwards (file-numbers r) (nodeTable (fieldsOf (entry .args .file .now))) (replicate 2048 0))
-    (x2 .given .1)))
-    (rules-front (entry .args .file .now)
-    (record {
-      nodes = x2 .given .0 .0;
-      rules = x2 .given .0 .1 .0;
-      keywords = x2 .given .0 .1 .1 .0;
-      start = x2 .given .0 .1 .1 .1 .0;
-      mode = x2 .given .0 .1 .1 .1 .1 .0;
-    }) (sym (ap file-numbers (x2 .given .1)) ∙ read .ensures .0) (replicate 128 0)
-    (read .ensures .1 .1
-    ∙ ap
-    (λ (r : _).
-    afterwards (file-numbers r) (ruleList (fieldsOf (entry .args .file .now))) (replicate 128 0))
-    (x2 .given .1))) (c .checked .ensures)
+    let is = told file-numbers (x2 .given .1) (read .ensures .0) in
+    read-runs _ _ is _ (nodes-front _ _ is (replicate 2048 0) (lent file-numbers (x2 .given .1) _ _ (read .ensures .1 .0)))
+    (rules-front _ _ is (replicate 128 0) (lent file-numbers (x2 .given .1) _ _ (read .ensures .1 .1))) (c .checked .ensures)
 
 pub answer-spec : {M : Type 1} → statement M
 answer-spec =
