@@ -227,7 +227,7 @@ pub fn fill(cases: &[u8], at: usize, bytes: &mut [u8], from: usize, end: usize) 
 
 // Sets each byte from one index to before another to the one at the distance before it, one after the other; none where
 // the distance leads before the start.
-pub fn repeat(bytes: &mut [u8], from: usize, end: usize, distance: usize)
+fn repeat(bytes: &mut [u8], from: usize, end: usize, distance: usize)
     ensures { λ _. ⌜ now (bytes .exit) ≡ repeated (now (bytes .entry)) from end distance ⌝ }
 {
     if distance > from {

@@ -11,6 +11,4 @@ checked-spec =
     (tie.spec (λ c κs. tt) (λ c. search needs) (λ c. search needs) (λ c. search needs) (λ c κs. tt)
     (λ c. check-refuses _ _ _ _ _ _ (told verdict-numbers (c .before .number .given .1) (c .before .before .before .check .ensures .0)))
     (λ c. check-names _ _ _ _ _ _ (told verdict-numbers (c .before .bad .given .1) (c .before .before .before .check .ensures .0)))
-    (λ c.
-    check-passes _ _ _ _ _ _ (told verdict-numbers (c .before .enum-told .given .1) (c .before .before .before .check .ensures .0))
-    (c .scanned .ensures)))
+    (λ c. check-passes _ _ _ _ _ _ (told verdict-numbers (c .before .enum-told .given .1) (c .before .before .before .check .ensures .0)) (c .scanned .ensures)))

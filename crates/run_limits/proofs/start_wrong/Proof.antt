@@ -34,4 +34,5 @@ returns-4 c =
 pub start-wrong-spec : {M : Type 1} → statement M
 start-wrong-spec =
     tie.close
-    (tie.spec (λ c. search needs) returns (λ c. search needs) returns-2 (λ c κs. search needs) returns-3 returns-4)
+    (tie.spec (λ c. search needs) returns (λ c. search needs) returns-2 (λ c κs. search needs) returns-3
+    returns-4)

@@ -7,21 +7,6 @@ use Rattle.table.specs.Answer.{afterwards}
 use Rattle.scanner.specs.Tokens.{wordsOf}
 use Rattle.scanner.specs.Scan.{scanTokens, numbers}
 
-scan-requires : tie.Need-scan-requires
-scan-requires c κs = search needs
-
-enum-known-x : tie.Need-enum-known-x
-enum-known-x c = search needs
-
-cast-result : tie.Need-cast-result
-cast-result c = search needs
-
-enum-known-x-2 : tie.Need-enum-known-x-2
-enum-known-x-2 c = search needs
-
-same-length : tie.Need-same-length
-same-length c = search needs
-
 returns : tie.Need-returns
 returns c =
     let at-scan = c .before .before .before .before .before in
@@ -31,9 +16,6 @@ returns c =
     let words = wordsOf (scanTokens (start .args .file .now) (start .args .report .now)) in
     let tokens = at-scan .scan .ensures .1 ∙ ap (λ (a : _). afterwards a words (start .args .tokens .now)) answered in
     (rw (← known) refl, (tokens, rw (← known) refl))
-
-same-length-2 : tie.Need-same-length-2
-same-length-2 c = search needs
 
 returns-2 : tie.Need-returns-2
 returns-2 c =
@@ -48,12 +30,5 @@ returns-2 c =
 pub saktroum-scan-spec : {M : Type 1} → statement M
 saktroum-scan-spec =
     tie.close
-    (tie.spec
-    scan-requires
-    enum-known-x
-    cast-result
-    enum-known-x-2
-    same-length
-    returns
-    same-length-2
-    returns-2)
+    (tie.spec (λ c κs. search needs) (λ c. search needs) (λ c. search needs) (λ c. search needs)
+    (λ c. search needs) returns (λ c. search needs) returns-2)

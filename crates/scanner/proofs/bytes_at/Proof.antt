@@ -14,4 +14,5 @@ returns c =
 
 pub bytes-at-spec : {M : Type 1} → statement M
 bytes-at-spec =
-    tie.close (tie.spec (λ c. search needs) (λ c. search needs) (λ c. search needs) (λ c. search needs) returns)
+    tie.close
+    (tie.spec (λ c. search needs) (λ c. search needs) (λ c. search needs) (λ c. search needs) returns)

@@ -22,5 +22,5 @@ returns-3 c =
 pub first-checks-spec : {M : Type 1} → statement M
 first-checks-spec =
     tie.close
-    (tie.spec (λ c κs. search needs) (λ c. search needs) (λ c. search needs) (λ c κs. search needs) returns returns-2
-    returns-3)
+    (tie.spec (λ c κs. search needs) (λ c. search needs) (λ c. search needs) (λ c κs. search needs) returns
+    returns-2 returns-3)

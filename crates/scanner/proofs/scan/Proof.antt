@@ -56,5 +56,5 @@ returns-5 c =
 pub scan-spec : {M : Type 1} → statement M
 scan-spec =
     tie.close
-    (tie.spec (λ c κs. search needs) (λ c. search needs) (λ c. search needs) measure-requires returns returns-2 returns-3
-    write-requires returns-4 (λ c. search needs) returns-5)
+    (tie.spec (λ c κs. search needs) (λ c. search needs) (λ c. search needs) measure-requires returns returns-2
+    returns-3 write-requires returns-4 (λ c. search needs) returns-5)

@@ -6,21 +6,6 @@ use Rattle.stored_cases.proofs.Laws.{pair-none}
 use Rattle.stored_cases.proofs.pair.Statement.{statement}
 use Rattle.stored_cases.proofs.pair.Tie as tie
 
-byte-requires : tie.Need-byte-requires
-byte-requires c κs = search needs
-
-mul-result : tie.Need-mul-result
-mul-result c = search needs
-
-add-byte : tie.Need-add-byte
-add-byte c = search needs
-
-byte-requires-2 : tie.Need-byte-requires-2
-byte-requires-2 c κs = search needs
-
-add-result : tie.Need-add-result
-add-result c = search needs
-
 returns : tie.Need-returns
 unfolding pairAt
 returns c = (rw (c .before .byte .ensures .0, c .byte2 .ensures .0), omega arith)
@@ -31,4 +16,5 @@ returns-2 c = (pair-none (c .before .before .args .bytes .now) (c .before .befor
 pub pair-spec : {M : Type 1} → statement M
 pair-spec =
     tie.close
-    (tie.spec byte-requires mul-result add-byte byte-requires-2 add-result returns returns-2)
+    (tie.spec (λ c κs. search needs) (λ c. search needs) (λ c. search needs) (λ c κs. search needs)
+    (λ c. search needs) returns returns-2)

@@ -6,21 +6,6 @@ use Rattle.stored_cases.proofs.Laws.{triple-none}
 use Rattle.stored_cases.proofs.triple.Statement.{statement}
 use Rattle.stored_cases.proofs.triple.Tie as tie
 
-byte-requires : tie.Need-byte-requires
-byte-requires c κs = search needs
-
-mul-result : tie.Need-mul-result
-mul-result c = search needs
-
-add-pair : tie.Need-add-pair
-add-pair c = search needs
-
-pair-requires : tie.Need-pair-requires
-pair-requires c κs = search needs
-
-add-result : tie.Need-add-result
-add-result c = search needs
-
 returns : tie.Need-returns
 unfolding tripleAt
 returns c = (rw (c .before .byte .ensures .0, c .pair .ensures .0), omega arith)
@@ -31,4 +16,5 @@ returns-2 c = (triple-none (c .before .before .args .bytes .now) (c .before .bef
 pub triple-spec : {M : Type 1} → statement M
 triple-spec =
     tie.close
-    (tie.spec byte-requires mul-result add-pair pair-requires add-result returns returns-2)
+    (tie.spec (λ c κs. search needs) (λ c. search needs) (λ c. search needs) (λ c κs. search needs)
+    (λ c. search needs) returns returns-2)
