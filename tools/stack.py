@@ -22,9 +22,11 @@ import sys
 import tempfile
 import time
 
-import grammar_fields
-
 ROOT = pathlib.Path(__file__).resolve().parent.parent
+sys.path.insert(0, str(ROOT / "cases"))
+
+import grammar_fields  # noqa: E402
+
 PROGRAM = ROOT / "target" / "bin" / "depth"
 READER = ROOT / "target" / "bin" / "reader"
 STORED = ROOT / "crates" / "depth" / "data" / "shape"
