@@ -19,7 +19,11 @@ pub unlike-spec : {M : Type 1} → statement M
 unlike-spec =
     tie.close
     (tie.spec Inv-loop μ-loop (λ c. passed-none) (λ c κs. tt) (λ c κs. tt)
-    (λ c. let tested = c .before .before .before in passed-fails (tested .before .loop .inv) (tested .loop-test .taken) (c .before .before .spelling-at .ensures) (ap not (sym (c .before .same .ensures) ∙ c .if1 .taken)))
+    (λ c. let tested = c .before .before .before in
+    passed-fails (tested .before .loop .inv) (tested .loop-test .taken) (c .before .before .spelling-at .ensures)
+    (ap not (sym (c .before .same .ensures) ∙ c .if1 .taken)))
     (λ c κs. tt) (λ c. omega arith) (λ c. omega arith)
-    (λ c. let tested = c .before .before .before .before in passed-more (tested .before .loop .inv) (tested .loop-test .taken) (c .before .before .before .spelling-at .ensures) (ap not (sym (c .before .before .same .ensures) ∙ c .before .if1 .left)) (c .next-at .ensures))
+    (λ c. let tested = c .before .before .before .before in
+    passed-more (tested .before .loop .inv) (tested .loop-test .taken) (c .before .before .before .spelling-at .ensures)
+    (ap not (sym (c .before .before .same .ensures) ∙ c .before .if1 .left)) (c .next-at .ensures))
     (λ c. passed-all (c .before .loop .inv) (c .loop-test .left)))
