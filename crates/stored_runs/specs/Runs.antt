@@ -1,5 +1,6 @@
 -- What stored bytes stand for in a run, and how many numbers are printed of what it ended in.
 use Prim.Native.Nat.{ℕ, zero, suc, _*_, _/_, min}
+use mathlib.Core.Path.{_≡_}
 use mathlib.Core.Bool.{Bool, true, false}
 use mathlib.Core.List.{List}
 use lib.ListN.{length, getD}
@@ -8,10 +9,9 @@ use Rattle.columns.specs.declared.Start.{Start}
 use Rattle.columns.specs.declared.State.{State}
 use Rattle.columns.specs.declared.Upper.{Upper}
 use Rattle.columns.specs.declared.Upper.the-variants.{At, Endless}
+use Rattle.interpreter.specs.Numbers.{numbers, Derived}
 use Rattle.interpreter.specs.declared.Ran.{Ran}
 use Rattle.interpreter.specs.declared.Ran.the-variants.{Success, Failure, Refused, IllFormed}
-use Rattle.table.specs.Answer.{Answer}
-use Rattle.clauses.specs.Clauses.{Outcome}
 use Rattle.clauses.specs.RunAnswer.{runAnswer}
 use Rattle.stored_cases.specs.Numbers.{pairAt, quadAt, tabulate}
 
@@ -50,13 +50,14 @@ pairs n bytes = firstPairs (min (length bytes / 2) n) bytes
 abbrev pub quads : ℕ → List ℕ → List ℕ
 quads n bytes = firstQuads (min (length bytes / 4) n) bytes
 
--- The answer for x node words and y rule words of stored bytes.
-abbrev pub answerOf : ℕ → ℕ → List ℕ → List ℕ → List ℕ → Start → Answer (Outcome Interval)
-answerOf x y nodes rules tokens start = runAnswer (firstPairs x nodes) (firstPairs y rules) tokens start
+-- What a run of a table is to answer, and that its outcome is derived.
+pub record Answers (nodes rules tokens : List ℕ) (start : Start) (ran : Ran) : Type 0 where
+  pub answer : numbers (start .place) ran ≡ runAnswer nodes rules tokens start
+  pub derived : Derived nodes rules tokens start ran
 
--- The answer for all the words of stored bytes, of at most 2,100 node words and 200 rule words.
-abbrev pub storedAnswer : List ℕ → List ℕ → List ℕ → Start → Answer (Outcome Interval)
-storedAnswer nodes rules tokens start = runAnswer (pairs 2100 nodes) (pairs 200 rules) tokens start
+-- The same of stored bytes, of at most 2,100 node words and 200 rule words.
+abbrev pub StoredAnswers : List ℕ → List ℕ → List ℕ → Start → Ran → Type 0
+StoredAnswers nodes rules tokens start ran = Answers (pairs 2100 nodes) (pairs 200 rules) tokens start ran
 
 -- How many numbers a success has: the tokens read, the lower end, and the upper end where it is a column.
 abbrev pub shownUpper : Upper → ℕ

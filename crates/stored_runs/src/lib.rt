@@ -12,10 +12,9 @@ use stored_cases::pair;
 use stored_cases::quad;
 ghost use mathlib.Core.Path.{_≡_};
 ghost use lib.ListN.{length};
-ghost use Rattle.interpreter.specs.Numbers.{numbers};
 ghost use Rattle.interpreter.specs.declared.Ran.the-variants.{Success};
-ghost use Rattle.stored_runs.specs.Runs.{startOf, upperOf, flagOf, answerOf, storedAnswer, firstQuads, quads};
-ghost use Rattle.stored_runs.specs.Runs.{shownCount, shownUpper};
+ghost use Rattle.stored_runs.specs.Runs.{startOf, upperOf, flagOf, Answers, StoredAnswers};
+ghost use Rattle.stored_runs.specs.Runs.{firstPairs, firstQuads, quads, shownCount, shownUpper};
 
 // The start of 18 bytes: the flag (0 is clear) and whether the upper end is a column (0 is without end) in one byte each;
 // the node and the mode in two each; the place, the lower end and the upper end in four each.
@@ -58,8 +57,7 @@ fn is_set(flag: usize) -> bool
 
 // Runs a stored table, of at most 2,100 node words and 200 rule words of two bytes.
 pub fn run(nodes: &[u8], rules: &[u8], tokens: &[u32], start: Start) -> Ran
-    ensures { λ r. ⌜ numbers (start .place) r
-        ≡ storedAnswer (now (nodes .entry)) (now (rules .entry)) (now (tokens .entry)) start ⌝ }
+    ensures { λ r. ⌜ StoredAnswers (now (nodes .entry)) (now (rules .entry)) (now (tokens .entry)) start r ⌝ }
 {
     let mut node_words = stored_cases::room_for_nodes();
     let mut rule_words = stored_cases::room_for_rules();
@@ -84,9 +82,10 @@ fn run_in(
     first: &mut [u16],
     second: &mut [u16],
 ) -> Ran
-    ensures { λ r. ⌜ numbers (start .place) r
-        ≡ answerOf (length (now (first .entry))) (length (now (second .entry)))
-        (now (nodes .entry)) (now (rules .entry)) (now (tokens .entry)) start ⌝ }
+    ensures { λ r. ⌜
+        Answers (firstPairs (length (now (first .entry))) (now (nodes .entry)))
+        (firstPairs (length (now (second .entry))) (now (rules .entry))) (now (tokens .entry)) start r
+        ⌝ }
 {
     load_16(nodes, first);
     load_16(rules, second);
@@ -95,8 +94,7 @@ fn run_in(
 
 // The same over stored tokens, of at most 16,500 words of four bytes.
 pub fn run_stored(nodes: &[u8], rules: &[u8], tokens: &[u8], start: Start) -> Ran
-    ensures { λ r. ⌜ numbers (start .place) r
-        ≡ storedAnswer (now (nodes .entry)) (now (rules .entry)) (quads 16500 (now (tokens .entry))) start ⌝ }
+    ensures { λ r. ⌜ StoredAnswers (now (nodes .entry)) (now (rules .entry)) (quads 16500 (now (tokens .entry))) start r ⌝ }
 {
     let mut token_words = stored_cases::room_for_tokens();
     let z = least(tokens.len() / 4, 16500);
@@ -105,9 +103,10 @@ pub fn run_stored(nodes: &[u8], rules: &[u8], tokens: &[u8], start: Start) -> Ra
 
 // Runs a stored table over stored tokens in the words lent for them.
 fn run_over(nodes: &[u8], rules: &[u8], tokens: &[u8], start: Start, words: &mut [u32]) -> Ran
-    ensures { λ r. ⌜ numbers (start .place) r
-        ≡ storedAnswer
-        (now (nodes .entry)) (now (rules .entry)) (firstQuads (length (now (words .entry))) (now (tokens .entry))) start ⌝ }
+    ensures { λ r. ⌜
+        StoredAnswers (now (nodes .entry)) (now (rules .entry))
+        (firstQuads (length (now (words .entry))) (now (tokens .entry))) start r
+        ⌝ }
 {
     load_32(tokens, words);
     run(nodes, rules, words, start)

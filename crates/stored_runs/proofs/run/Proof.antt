@@ -1,8 +1,6 @@
 -- `stored_runs::run` meets its contract.
-use mathlib.Core.Path.{_∙_}
 use borrow.Author.Needs.{needs}
-use Rattle.stored_runs.proofs.Laws.{lent, alike}
-use Rattle.stored_runs.proofs.Laws.{lent}
+use Rattle.stored_runs.proofs.Laws.{lent, as-many-pairs}
 use Rattle.stored_runs.proofs.run.Statement.{statement}
 use Rattle.stored_runs.proofs.run.Tie as tie
 
@@ -10,8 +8,7 @@ returns : tie.Need-returns
 returns c =
     let rooms = c .before .before .before .before .before .before .before in
     let sizes = c .before .before .before .before .before in
-    c .before .before .run-in .ensures
-    ∙ alike _ _ _ _
+    as-many-pairs _ _ (c .before .before .run-in .ensures)
     (lent _ _ _ 2100 (rooms .before .room-for-nodes .ensures) (sizes .before .least .ensures))
     (lent _ _ _ 200 (rooms .room-for-rules .ensures) (sizes .least2 .ensures))
 
