@@ -13,13 +13,30 @@ const MOST_STEPS: u64 = 200_000;
 /// Each seventh run is made over sets of columns too.
 const SETS_EACH: u64 = 7;
 
+/// Runs on one thread, files and reports on another. Each has its own inputs, so that what is compared does not depend on
+/// which is faster.
 pub fn compare(seed: u64, runs: u64, files: u64) -> Result<(), String> {
+    let other = std::thread::Builder::new()
+        .stack_size(crate::STACK)
+        .spawn(move || over_files(seed, files))
+        .map_err(|what| what.to_string())?;
+    let ran = over_runs(seed, runs);
+    let read = other.join().map_err(|_| "a comparison stopped")?;
+    print!("{}{}", ran?, read?);
+    Ok(())
+}
+
+fn over_runs(seed: u64, runs: u64) -> Result<Stats, String> {
     let mut stats = Stats::default();
     compare_runs(seed, runs, &mut stats)?;
+    Ok(stats)
+}
+
+fn over_files(seed: u64, files: u64) -> Result<Stats, String> {
+    let mut stats = Stats::default();
     compare_files(seed, files, &mut stats)?;
     compare_reports(seed, files, &mut stats)?;
-    print!("{stats}");
-    Ok(())
+    Ok(stats)
 }
 
 /// As many runs as are asked for, and the check of each.
