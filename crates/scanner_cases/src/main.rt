@@ -22,7 +22,10 @@ use stored_cases::show;
 use stored_cases::stored;
 use stored_cases::triple;
 ghost use mathlib.Core.Path.{_≡_};
-ghost use Rattle.scanner_cases.specs.Handing.{isToken};
+ghost use mathlib.Core.Bool.{false, _&&_};
+ghost use mathlib.Core.Logic.{_⊎_};
+ghost use Prim.Native.Nat.{_≤_};
+ghost use Rattle.scanner_cases.specs.Handing.{isToken, isWord, areWords, holdsAt, Walked};
 
 // The kinds of calls.
 const SCAN: usize = 115;
@@ -189,7 +192,12 @@ fn show_same(same: bool, count: usize) {
 
 // Hands out the tokens of the report from its start on until there is none or a refusal, and compares
 // them with the words.
-fn hand_out(file: &[u8], report: &[u8], words: &[u32]) -> Walk {
+fn hand_out(file: &[u8], report: &[u8], words: &[u32]) -> Walk
+    ensures { λ r. ⌜
+        Walked (now (file .entry)) (now (report .entry)) (now (words .entry)) (r .count) (r .same) (r .last)
+        ⌝ }
+    ensures { λ r. ⌜ (isToken (r .last .handed) ≡ false) ⊎ (r .count ≡ 5000) ⌝ }
+{
     let mut same = true;
     let mut step = scanner::next_token(file, report, 0, 0, false);
     let mut count = 0;
@@ -198,9 +206,7 @@ fn hand_out(file: &[u8], report: &[u8], words: &[u32]) -> Walk {
         if !is_token(handed) {
             break;
         }
-        if !holds(words, count, handed) {
-            same = false;
-        }
+        same = both(same, holds(words, count, handed));
         step = scanner::next_token(file, report, step.at, step.column, step.mark);
         count += 1;
     }
@@ -209,6 +215,12 @@ fn hand_out(file: &[u8], report: &[u8], words: &[u32]) -> Walk {
         same: same,
         last: step,
     }
+}
+
+fn both(a: bool, b: bool) -> bool
+    ensures { λ r. ⌜ r ≡ (a && b) ⌝ }
+{
+    if a { b } else { false }
 }
 
 // Whether a token was handed out.
@@ -228,26 +240,47 @@ fn is_token(handed: Handed) -> bool
 }
 
 // Whether words 4 i to 4 i + 3 are those of the token.
-fn holds(words: &[u32], i: usize, handed: Handed) -> bool {
-    if i > MOST_HANDED {
-        return false;
-    }
-    let at = i * 4;
-    if at + 3 >= words.len() {
-        return false;
-    }
+fn holds(words: &[u32], i: usize, handed: Handed) -> bool
+    requires { ⌜ i ≤ 5000 ⌝ }
+    ensures { λ r. ⌜ r ≡ holdsAt (now (words .entry)) i handed ⌝ }
+{
     match handed {
         Handed::Token {
             terminal,
             column,
             offset,
             length,
-        } => words[at] == terminal
-            && words[at + 1] == column
-            && words[at + 2] == offset
-            && words[at + 3] == length,
+        } => are_words(words, i * 4, terminal, column, offset, length),
         Handed::Nothing => false,
         Handed::Refused(number) => false,
+    }
+}
+
+// Whether the words from an index on are these four.
+fn are_words(words: &[u32], at: usize, a: u32, b: u32, c: u32, d: u32) -> bool
+    requires { ⌜ at ≤ 20000 ⌝ }
+    ensures { λ r. ⌜ r ≡ areWords (now (words .entry)) at a b c d ⌝ }
+{
+    if !is_word(words, at, a) {
+        return false;
+    }
+    if !is_word(words, at + 1, b) {
+        return false;
+    }
+    if !is_word(words, at + 2, c) {
+        return false;
+    }
+    is_word(words, at + 3, d)
+}
+
+// Whether there is a word at an index, and it is this one.
+fn is_word(words: &[u32], at: usize, word: u32) -> bool
+    ensures { λ r. ⌜ r ≡ isWord (now (words .entry)) at word ⌝ }
+{
+    if at < words.len() {
+        words[at] == word
+    } else {
+        false
     }
 }
 
