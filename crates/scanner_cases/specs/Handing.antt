@@ -41,4 +41,4 @@ pub record StepFrom (file report : List ℕ) (p : Position) (s : Step) : Type 0 
 pub data Walked (file report words : List ℕ) : ℕ → Bool → Step → Type 0 where
   first : {s : Step} → StepFrom file report (position 0 0 false) s → Walked file report words 0 true s
   next : {n : ℕ} {same : Bool} {s s' : Step} → Walked file report words n same s → isToken (s .handed) ≡ true
-    → StepFrom file report (positionOf s) s' → Walked file report words (n + 1) (same && holdsAt words n (s .handed)) s'
+      → StepFrom file report (positionOf s) s' → Walked file report words (n + 1) (same && holdsAt words n (s .handed)) s'

@@ -6,7 +6,7 @@ use mathlib.Core.List.{List, [], _∷_, _++_, append-nil}
 use native.Mathlib.Numerals.{add-one, unary-clauses}
 use native.Mathlib.Nat.{add-sub-cancel-left}
 use native.Mathlib.Omega.{arith}
-use lib.ListN.{length, take, drop, getD, set, length-append, length-drop, length-set, List·getD-eq-default}
+use lib.ListN.{length, take, drop, getD, set, length-append, length-drop, length-set, length-take, List·getD-eq-default}
 use lib.Seq.{drop-cons, set-at, append-snoc, paste, paste-zero, paste-suc, getD-drop, drop-length}
 use lib.Dec.{leb}
 use borrow.Author.Tests.{le-leb, lt-leb}
@@ -152,3 +152,7 @@ module _ (before : List ℕ) (from last distance : ℕ) where
 pub repeated-not : (bytes : List ℕ) (from end distance : ℕ) → from < distance → bytes ≡ repeated bytes from end distance
 unfolding repeated
 repeated-not bytes from end distance l = rw (lt-leb distance from l)
+
+-- The length of a part that is lent: as much as is asked for, and no more than there is.
+pub lent : (words : List ℕ) (x asked n : ℕ) → n ≡ length words → x ≡ min asked n → length (take (x - 0) words) ≡ min asked n
+lent words x asked n e f = length-take (x - 0) words ∙ omega arith

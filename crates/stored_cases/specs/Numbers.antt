@@ -1,7 +1,7 @@
 -- Numbers in bytes, high byte first, at an index. A byte that is not there counts as 0.
-use Prim.Native.Nat.{ℕ, zero, suc, _+_, _*_}
+use Prim.Native.Nat.{ℕ, zero, suc, _+_, _*_, _/_, min}
 use mathlib.Core.List.{List, [], _∷_, _++_}
-use lib.ListN.{getD}
+use lib.ListN.{length, getD}
 
 -- The number of two bytes.
 unfoldable pub pairAt : List ℕ → ℕ → ℕ
@@ -19,3 +19,17 @@ quadAt bytes i = getD bytes i 0 * 16777216 + tripleAt bytes (i + 1)
 unfoldable pub tabulate : (ℕ → ℕ) → ℕ → List ℕ
 tabulate f zero = []
 tabulate f (suc n) = tabulate f n ++ (f n ∷ [])
+
+-- The first n words of two bytes, and of four.
+abbrev pub firstPairs : ℕ → List ℕ → List ℕ
+firstPairs n bytes = tabulate (λ i. pairAt bytes (i * 2)) n
+
+abbrev pub firstQuads : ℕ → List ℕ → List ℕ
+firstQuads n bytes = tabulate (λ i. quadAt bytes (i * 4)) n
+
+-- The words of two bytes, no more of them than n; and those of four.
+abbrev pub pairs : ℕ → List ℕ → List ℕ
+pairs n bytes = firstPairs (min (length bytes / 2) n) bytes
+
+abbrev pub quads : ℕ → List ℕ → List ℕ
+quads n bytes = firstQuads (min (length bytes / 4) n) bytes

@@ -6,12 +6,12 @@
 // not there count as 0, so each function answers for any bytes. A program supplies the loop over the records (`label`,
 // then each part, then the call, each from the index on that the one before answered) and what it prints of an answer.
 // Cases are added to a file, by its generator under `cases/`; a new program is needed only for a new call.
-ghost use Prim.Native.Nat.{_-_, _*_, _≤_, _<_, min};
+ghost use Prim.Native.Nat.{_-_, _≤_, _<_, min};
 ghost use mathlib.Core.Path.{_≡_};
 ghost use lib.ListN.{length, take, drop, getD};
 ghost use lib.Seq.{paste};
 ghost use Rattle.io.specs.Counts.{Counts};
-ghost use Rattle.stored_cases.specs.Numbers.{pairAt, tripleAt, quadAt, tabulate};
+ghost use Rattle.stored_cases.specs.Numbers.{pairAt, tripleAt, quadAt, tabulate, firstPairs, firstQuads};
 ghost use Rattle.stored_cases.specs.Parts.{here, past, room, filledBy, repeated, storedBytes, storedEnd};
 
 // Reads a file, and says how many bytes it gave: none if it cannot be opened.
@@ -124,9 +124,7 @@ fn word(bytes: &[u8], at: usize) -> u16
 
 // Sets the words to the numbers of two bytes, from the start on.
 pub fn load_16(bytes: &[u8], words: &mut [u16])
-    ensures { λ _. ⌜
-        now (words .exit) ≡ tabulate (λ i. pairAt (now (bytes .entry)) (i * 2)) (length (now (words .entry)))
-        ⌝ }
+    ensures { λ _. ⌜ now (words .exit) ≡ firstPairs (length (now (words .entry))) (now (bytes .entry)) ⌝ }
 {
     let mut i = 0;
     while i < words.len() {
@@ -137,9 +135,7 @@ pub fn load_16(bytes: &[u8], words: &mut [u16])
 
 // Sets the words to the numbers of four bytes, from the start on.
 pub fn load_32(bytes: &[u8], words: &mut [u32])
-    ensures { λ _. ⌜
-        now (words .exit) ≡ tabulate (λ i. quadAt (now (bytes .entry)) (i * 4)) (length (now (words .entry)))
-        ⌝ }
+    ensures { λ _. ⌜ now (words .exit) ≡ firstQuads (length (now (words .entry))) (now (bytes .entry)) ⌝ }
 {
     let mut i = 0;
     while i < words.len() {

@@ -1,15 +1,14 @@
--- Numbers that are not 0, and the words of a part that was loaded.
-use Prim.Native.Nat.{ℕ, zero, suc, _-_, min}
-use mathlib.Core.Path.{_≡_, refl, _∙_}
+-- Numbers that are not 0, and runs of the same words.
+use Prim.Native.Nat.{ℕ, zero, suc}
+use mathlib.Core.Path.{_≡_, refl}
 use mathlib.Core.List.{List}
-use native.Mathlib.Omega.{arith}
-use lib.ListN.{length, take, length-take}
 use mathlib.Core.Bool.{true}
 use Rattle.columns.specs.declared.Upper.{Upper}
 use Rattle.columns.specs.declared.Upper.the-variants.{At}
 use Rattle.columns.specs.declared.Start.{Start}
 use Rattle.interpreter.specs.declared.Ran.{Ran}
-use Rattle.stored_runs.specs.Runs.{upperOf, flagOf, firstPairs, firstQuads, Answers}
+use Rattle.stored_runs.specs.Runs.{upperOf, flagOf, Answers}
+use Rattle.stored_cases.specs.Numbers.{firstPairs, firstQuads}
 
 pub flag-set : (n : ℕ) → (n ≡ 0 → ⊥) → true ≡ flagOf n
 flag-set zero h = absurd (h refl)
@@ -18,10 +17,6 @@ flag-set (suc n) h = refl
 pub upper-at : (n column : ℕ) → (n ≡ 0 → ⊥) → At column ≡ upperOf n column
 upper-at zero column h = absurd (h refl)
 upper-at (suc n) column h = refl
-
--- The length of a part that is lent: as much as is asked for, and no more than there is.
-pub lent : (words : List ℕ) (x asked n : ℕ) → n ≡ length words → x ≡ min asked n → length (take (x - 0) words) ≡ min asked n
-lent words x asked n e f = length-take (x - 0) words ∙ omega arith
 
 -- A run of the same words.
 pub carried : {nodes nodes' rules rules' tokens tokens' : List ℕ} (start : Start) (ran : Ran)

@@ -1,9 +1,9 @@
 -- What stored bytes stand for in a run, and how many numbers are printed of what it ended in.
-use Prim.Native.Nat.{ℕ, zero, suc, _*_, _/_, min}
+use Prim.Native.Nat.{ℕ, zero, suc}
 use mathlib.Core.Path.{_≡_}
 use mathlib.Core.Bool.{Bool, true, false}
 use mathlib.Core.List.{List}
-use lib.ListN.{length, getD}
+use lib.ListN.{getD}
 use Rattle.columns.specs.declared.Interval.{Interval}
 use Rattle.columns.specs.declared.Start.{Start}
 use Rattle.columns.specs.declared.State.{State}
@@ -13,7 +13,7 @@ use Rattle.interpreter.specs.Numbers.{numbers, Derived}
 use Rattle.interpreter.specs.declared.Ran.{Ran}
 use Rattle.interpreter.specs.declared.Ran.the-variants.{Success, Failure, Refused, IllFormed}
 use Rattle.clauses.specs.RunAnswer.{runAnswer}
-use Rattle.stored_cases.specs.Numbers.{pairAt, quadAt, tabulate}
+use Rattle.stored_cases.specs.Numbers.{pairAt, quadAt, pairs}
 
 -- 0 is without end; any other number says that the end is a column.
 abbrev pub upperOf : ℕ → ℕ → Upper
@@ -35,20 +35,6 @@ startOf bytes =
       flag = flagOf (getD bytes 0 0);
       mode = pairAt bytes 4;
     }
-
--- The first n words of two bytes, and of four.
-abbrev pub firstPairs : ℕ → List ℕ → List ℕ
-firstPairs n bytes = tabulate (λ i. pairAt bytes (i * 2)) n
-
-abbrev pub firstQuads : ℕ → List ℕ → List ℕ
-firstQuads n bytes = tabulate (λ i. quadAt bytes (i * 4)) n
-
--- The words of two bytes, no more of them than n; and those of four.
-abbrev pub pairs : ℕ → List ℕ → List ℕ
-pairs n bytes = firstPairs (min (length bytes / 2) n) bytes
-
-abbrev pub quads : ℕ → List ℕ → List ℕ
-quads n bytes = firstQuads (min (length bytes / 4) n) bytes
 
 -- What a run of a table is to answer, and that its outcome is derived.
 pub record Answers (nodes rules tokens : List ℕ) (start : Start) (ran : Ran) : Type 0 where

@@ -13,8 +13,8 @@ use stored_cases::quad;
 ghost use mathlib.Core.Path.{_≡_};
 ghost use lib.ListN.{length};
 ghost use Rattle.interpreter.specs.declared.Ran.the-variants.{Success};
-ghost use Rattle.stored_runs.specs.Runs.{startOf, upperOf, flagOf, Answers, StoredAnswers};
-ghost use Rattle.stored_runs.specs.Runs.{firstPairs, firstQuads, quads, shownCount, shownUpper};
+ghost use Rattle.stored_runs.specs.Runs.{startOf, upperOf, flagOf, Answers, StoredAnswers, shownCount, shownUpper};
+ghost use Rattle.stored_cases.specs.Numbers.{firstPairs, firstQuads, quads};
 
 // The start of 18 bytes: the flag (0 is clear) and whether the upper end is a column (0 is without end) in one byte each;
 // the node and the mode in two each; the place, the lower end and the upper end in four each.

@@ -11,6 +11,13 @@ use stored_cases::load_16;
 use stored_cases::pair;
 use stored_cases::part;
 use well_formed::Verdict;
+ghost use mathlib.Core.Path.{_≡_};
+ghost use mathlib.Core.Bool.{_||_};
+ghost use lib.Dec.{eqb};
+ghost use lib.ListN.{length};
+ghost use Rattle.well_formed.specs.Check.{checkAnswer, numbers};
+ghost use Rattle.stored_cases.specs.Numbers.{firstPairs, pairs};
+ghost use Rattle.well_formed_cases.specs.Repeats.{numberOf, storedNumber};
 
 // At least the number of records.
 const MOST_RECORDS: u32 = 100000;
@@ -58,7 +65,9 @@ fn call(nodes: &[u8], rules: &[u8], again: usize) {
 }
 
 // The answer for a stored table, of at most 2,100 node words and 200 rule words. They are loaded anew each time.
-fn answer(nodes: &[u8], rules: &[u8]) -> Verdict {
+fn answer(nodes: &[u8], rules: &[u8]) -> Verdict
+    ensures { λ r. ⌜ numbers r ≡ checkAnswer (pairs 2100 (now (nodes .entry))) (pairs 200 (now (rules .entry))) ⌝ }
+{
     let mut node_words = stored_cases::room_for_nodes();
     let mut rule_words = stored_cases::room_for_rules();
     let x = stored_cases::least(nodes.len() / 2, 2100);
@@ -67,14 +76,22 @@ fn answer(nodes: &[u8], rules: &[u8]) -> Verdict {
 }
 
 // Loads the words of a table and checks it.
-fn check(nodes: &[u8], rules: &[u8], first: &mut [u16], second: &mut [u16]) -> Verdict {
+fn check(nodes: &[u8], rules: &[u8], first: &mut [u16], second: &mut [u16]) -> Verdict
+    ensures { λ r. ⌜
+        numbers r
+        ≡ checkAnswer (firstPairs (length (now (first .entry))) (now (nodes .entry)))
+        (firstPairs (length (now (second .entry))) (now (rules .entry)))
+        ⌝ }
+{
     load_16(nodes, first);
     load_16(rules, second);
     well_formed::check(first, second)
 }
 
 // Makes the call as often again, and answers whether each time the answer has the same number.
-fn repeats(nodes: &[u8], rules: &[u8], again: usize, expected: u32) -> bool {
+fn repeats(nodes: &[u8], rules: &[u8], again: usize, expected: u32) -> bool
+    ensures { λ r. ⌜ r ≡ (eqb again 0 || eqb (storedNumber (now (nodes .entry)) (now (rules .entry))) expected) ⌝ }
+{
     let mut i = 0;
     while i < again {
         if number(answer(nodes, rules)) != expected {
@@ -86,7 +103,9 @@ fn repeats(nodes: &[u8], rules: &[u8], again: usize, expected: u32) -> bool {
 }
 
 // A number that tells the verdicts apart.
-fn number(verdict: Verdict) -> u32 {
+fn number(verdict: Verdict) -> u32
+    ensures { λ r. ⌜ r ≡ numberOf (numbers verdict) ⌝ }
+{
     match verdict {
         Verdict::Passes => 0,
         Verdict::Refused(n) => 1 + n as u32,

@@ -32,13 +32,12 @@ loop-again : tie.Need-loop-again Inv-loop μ-loop
 loop-again c =
     let compared = c .before in
     let left = compared .before .before in
-    let step = c .next-token2 .ensures in
-    (
+    let step = c .next-token2 .ensures in (
       omega arith,
       more (left .before .before .before .loop .inv .1)
-      (sym (left .before .is-token .ensures) ∙ not-false _ (left .if1 .left))
-      (record { handed = step .0; stands = step .1 })
-      (compared .before .holds .ensures) (compared .both .ensures),
+          (sym (left .before .is-token .ensures) ∙ not-false _ (left .if1 .left))
+          (record { handed = step .0; stands = step .1 })
+          (compared .before .holds .ensures) (compared .both .ensures),
     )
 
 returns : tie.Need-returns Inv-loop μ-loop

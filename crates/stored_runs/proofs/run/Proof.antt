@@ -1,6 +1,7 @@
 -- `stored_runs::run` meets its contract.
 use borrow.Author.Needs.{needs}
-use Rattle.stored_runs.proofs.Laws.{lent, as-many-pairs}
+use Rattle.stored_cases.proofs.Laws.{lent}
+use Rattle.stored_runs.proofs.Laws.{as-many-pairs}
 use Rattle.stored_runs.proofs.run.Statement.{statement}
 use Rattle.stored_runs.proofs.run.Tie as tie
 

@@ -1,6 +1,7 @@
 -- `stored_runs::run_stored` meets its contract.
 use borrow.Author.Needs.{needs}
-use Rattle.stored_runs.proofs.Laws.{lent, as-many-quads}
+use Rattle.stored_cases.proofs.Laws.{lent}
+use Rattle.stored_runs.proofs.Laws.{as-many-quads}
 use Rattle.stored_runs.proofs.run_stored.Statement.{statement}
 use Rattle.stored_runs.proofs.run_stored.Tie as tie
 
