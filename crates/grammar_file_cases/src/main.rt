@@ -10,6 +10,7 @@
 //   t  check the table of the payload's x node words and y rule words
 use grammar_file::FileRead;
 use slices::filled_16;
+use stored_cases::MOST_RECORDS;
 use stored_cases::byte;
 use stored_cases::label;
 use stored_cases::least;
@@ -39,9 +40,6 @@ const READ_WORDS: usize = 82;
 
 // What every lent word holds before a read.
 const MARKER: u16 = 60000;
-
-// At least the number of records.
-const MOST_RECORDS: u32 = 100000;
 
 fn main() {
     let mut cases = stored_cases::room_for_cases();

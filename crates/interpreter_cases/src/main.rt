@@ -6,6 +6,7 @@
 // common with the one before it, at the start of both; then five numbers of three bytes that tell how the tokens are
 // stored (`stored_cases::stored`). The table is the node words, then the rule words, two bytes each. A token word has four.
 use interpreter::Ran;
+use stored_cases::MOST_RECORDS;
 use stored_cases::byte;
 use stored_cases::fill;
 use stored_cases::label;
@@ -13,9 +14,6 @@ use stored_cases::pair;
 use stored_cases::part;
 use stored_cases::stored;
 use stored_cases::triple;
-
-// At least the number of records.
-const MOST_RECORDS: u32 = 100000;
 
 fn main() {
     let mut cases = stored_cases::room_for_cases();

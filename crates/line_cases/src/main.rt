@@ -3,14 +3,12 @@
 //
 // A record is a header of 31 bytes, a label, a grammar file and a report. The header has the label's length
 // and ten numbers of three bytes each: five that tell how the file is stored (`stored_cases::stored`), then the report.
+use stored_cases::MOST_RECORDS;
 use stored_cases::byte;
 use stored_cases::label;
 use stored_cases::part;
 use stored_cases::stored;
 use stored_cases::triple;
-
-// At least the number of records.
-const MOST_RECORDS: u32 = 100000;
 
 fn main() {
     let mut cases = stored_cases::room_for_cases();

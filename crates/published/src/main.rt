@@ -5,13 +5,11 @@
 // each, the start in 18 (`stored_runs::start`), and the lengths of the three parts in three each. A run of a table (kind 0)
 // has node words and rule words of two bytes and token words of four. A grammar file and a report (kind 1) are the first two
 // parts, and no start is told.
+use stored_cases::MOST_RECORDS;
 use stored_cases::byte;
 use stored_cases::label;
 use stored_cases::part;
 use stored_cases::triple;
-
-// At least the number of records.
-const MOST_RECORDS: u32 = 100000;
 
 fn main() {
     let mut cases = stored_cases::room_for_cases();

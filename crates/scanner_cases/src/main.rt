@@ -13,6 +13,7 @@ use scanner::Handed;
 use scanner::Scanned;
 use scanner::Step;
 use slices::filled_32;
+use stored_cases::MOST_RECORDS;
 use stored_cases::byte;
 use stored_cases::label;
 use stored_cases::least;
@@ -38,9 +39,6 @@ const COLUMN_DOWN: usize = 99;
 
 // What every lent word holds before a scan.
 const MARKER: u32 = 4000000000;
-
-// At least the number of records.
-const MOST_RECORDS: u32 = 100000;
 
 // Scans of no more tokens than these have every word printed.
 const FEW: usize = 24;

@@ -14,6 +14,9 @@ ghost use Rattle.io.specs.Counts.{Counts};
 ghost use Rattle.stored_cases.specs.Numbers.{pairAt, tripleAt, quadAt, tabulate, firstPairs, firstQuads};
 ghost use Rattle.stored_cases.specs.Parts.{here, past, room, filledBy, repeated, storedBytes, storedEnd};
 
+// At least the number of records of a file.
+pub const MOST_RECORDS: u32 = 100000;
+
 // Reads a file, and says how many bytes it gave: none if it cannot be opened.
 pub fn read(path: &[u8], bytes: &mut [u8]) -> usize
     ensures { λ r. ⌜ Counts r (now (bytes .exit)) ⌝ }

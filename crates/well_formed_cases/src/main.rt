@@ -5,6 +5,7 @@
 // length in one byte and four numbers of two bytes each: how often the call is made again, the node
 // words, the rule words, and how many bytes the payload has in common with the one before it, at the
 // start of both. The payload is the node words, then the rule words.
+use stored_cases::MOST_RECORDS;
 use stored_cases::byte;
 use stored_cases::label;
 use stored_cases::load_16;
@@ -18,9 +19,6 @@ ghost use lib.ListN.{length};
 ghost use Rattle.well_formed.specs.Check.{checkAnswer, numbers};
 ghost use Rattle.stored_cases.specs.Numbers.{firstPairs, pairs};
 ghost use Rattle.well_formed_cases.specs.Repeats.{numberOf, storedNumber};
-
-// At least the number of records.
-const MOST_RECORDS: u32 = 100000;
 
 fn main() {
     let mut cases = stored_cases::room_for_cases();
