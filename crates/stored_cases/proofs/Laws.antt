@@ -11,7 +11,7 @@ use lib.Seq.{drop-cons, set-at, append-snoc, paste, paste-zero, paste-suc, getD-
 use lib.Dec.{leb}
 use borrow.Author.Tests.{le-leb, lt-leb}
 use Rattle.stored_cases.specs.Numbers.{pairAt, tripleAt, quadAt, tabulate}
-use Rattle.stored_cases.specs.Parts.{room, repeats, repeated}
+use Rattle.stored_cases.specs.Parts.{here, past, room, filledBy, repeats, repeated, storedBytes, storedEnd}
 
 take-clipped : (n : ℕ) (xs : List ℕ) → take (min n (length xs)) xs ≡ take n xs
 take-clipped zero xs = simp unary-clauses
@@ -156,3 +156,19 @@ repeated-not bytes from end distance l = rw (lt-leb distance from l)
 -- The length of a part that is lent: as much as is asked for, and no more than there is.
 pub lent : (words : List ℕ) (x asked n : ℕ) → n ≡ length words → x ≡ min asked n → length (take (x - 0) words) ≡ min asked n
 lent words x asked n e f = length-take (x - 0) words ∙ omega arith
+
+-- What `fill` tells, from what its callees do.
+pub fills : (cases : List ℕ) (at : ℕ) (bytes : List ℕ) (from end : ℕ) {count n : ℕ} {after : List ℕ} → count ≡ room bytes from end
+    → n ≡ here cases at count → after ≡ paste bytes from (drop at cases) n
+    → (at + n ≡ past cases at (room bytes from end)) × (after ≡ filledBy cases at bytes from end)
+unfolding filledBy
+fills cases at bytes from end e f g = (cc, cc)
+
+-- What `stored` tells: five numbers, the bytes in front, the repeated ones, the rest.
+pub puts : (cases : List ℕ) (at : ℕ) (five bytes : List ℕ) {a b c d e p q : ℕ} {x y z : List ℕ}
+    → a ≡ tripleAt five 0 → b ≡ tripleAt five 3 → c ≡ tripleAt five 6 → d ≡ tripleAt five 9 → e ≡ tripleAt five 12
+    → (p ≡ past cases at (room bytes a b)) × (x ≡ filledBy cases at bytes a b) → y ≡ repeated x b d c
+    → (q ≡ past cases p (room y d e)) × (z ≡ filledBy cases p y d e)
+    → (q ≡ storedEnd cases at five bytes) × (z ≡ storedBytes cases at five bytes)
+unfolding storedEnd storedBytes
+puts cases at five bytes ea eb ec ed ee (ep, ex) ey (eq, ez) = (cc, cc)
