@@ -2,13 +2,14 @@
 use Prim.Native.Nat.{ℕ, zero, suc}
 use mathlib.Core.Path.{_≡_, refl}
 use mathlib.Core.List.{List}
-use mathlib.Core.Bool.{true}
+use lib.ListN.{getD}
+use mathlib.Core.Bool.{Bool, true}
 use Rattle.columns.specs.declared.Upper.{Upper}
 use Rattle.columns.specs.declared.Upper.the-variants.{At}
 use Rattle.columns.specs.declared.Start.{Start}
 use Rattle.interpreter.specs.declared.Ran.{Ran}
-use Rattle.stored_runs.specs.Runs.{upperOf, flagOf, Answers}
-use Rattle.stored_cases.specs.Numbers.{firstPairs, firstQuads}
+use Rattle.stored_runs.specs.Runs.{upperOf, flagOf, startOf, Answers}
+use Rattle.stored_cases.specs.Numbers.{pairAt, quadAt, firstPairs, firstQuads}
 
 pub flag-set : (n : ℕ) → (n ≡ 0 → ⊥) → true ≡ flagOf n
 flag-set zero h = absurd (h refl)
@@ -17,6 +18,15 @@ flag-set (suc n) h = refl
 pub upper-at : (n column : ℕ) → (n ≡ 0 → ⊥) → At column ≡ upperOf n column
 upper-at zero column h = absurd (h refl)
 upper-at (suc n) column h = refl
+
+-- A start by what its bytes tell.
+pub starts : (bytes : List ℕ) {node mode place lower bounded column set : ℕ} {upper : Upper} {flag : Bool}
+    → node ≡ pairAt bytes 2 → mode ≡ pairAt bytes 4 → place ≡ quadAt bytes 6 → lower ≡ quadAt bytes 10
+    → bounded ≡ getD bytes 1 0 → column ≡ quadAt bytes 14 → upper ≡ upperOf bounded column
+    → set ≡ getD bytes 0 0 → flag ≡ flagOf set
+    → record { node = node; place = place; interval = record { lower = lower; upper = upper }; flag = flag; mode = mode } ≡ startOf bytes
+unfolding startOf
+starts bytes n m p l b c u s f = cc
 
 -- A run of the same words.
 pub carried : {nodes nodes' rules rules' tokens tokens' : List ℕ} (start : Start) (ran : Ran)
