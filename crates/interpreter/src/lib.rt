@@ -1,5 +1,4 @@
 // The interpreter: the outcome of a grammar on tokens from a start (numbers 3, 4, 5, 7, 11 and 12).
-mod intervals;
 mod states;
 mod walk;
 
