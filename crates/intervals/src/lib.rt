@@ -11,10 +11,8 @@ pub fn fits(flag: bool, mode: u16, c: Interval, i: u32) -> bool
     ensures { λ x. ⌜ x ≡ fitsIn flag mode c i ⌝ }
 {
     let l = c.lower;
-    if flag {
-        return lies(c, i);
-    }
-    match mode {
+    let r = if flag { relations::EQUAL } else { mode };
+    match r {
         relations::EQUAL => lies(c, i),
         relations::GREATER => l < i,
         relations::AT_LEAST => l <= i,
