@@ -84,13 +84,12 @@ fn anew(s: State) -> State
     ensures { λ x. ⌜ x ≡ s ⌝ }
 {
     let c = s.interval;
-    let l = c.lower;
     let upper = c.upper;
     match upper {
         Upper::At(h) => State {
             place: s.place,
             interval: Interval {
-                lower: l,
+                lower: c.lower,
                 upper: Upper::At(h),
             },
             flag: s.flag,
@@ -98,7 +97,7 @@ fn anew(s: State) -> State
         Upper::Endless => State {
             place: s.place,
             interval: Interval {
-                lower: l,
+                lower: c.lower,
                 upper: Upper::Endless,
             },
             flag: s.flag,
@@ -110,9 +109,7 @@ fn anew(s: State) -> State
 pub(crate) fn left(r: u16, s: State, u: State) -> State
     ensures { λ x. ⌜ x ≡ leftState r s u ⌝ }
 {
-    let c = s.interval;
-    let d = u.interval;
-    let out = leave(r, c, d);
+    let out = leave(r, s.interval, u.interval);
     State {
         place: u.place,
         interval: out,
@@ -152,9 +149,8 @@ fn at_column(mode: u16, s: State, i: u32) -> Outcome
     requires { ⌜ s .place + 1 < 2 ^ 32 ⌝ }
     ensures { λ r. ⌜ r ≡ columnOutcome mode s i ⌝ }
 {
-    let c = s.interval;
-    if fits(s.flag, mode, c, i) {
-        let new = after_token(s.flag, mode, c, i);
+    if fits(s.flag, mode, s.interval, i) {
+        let new = after_token(s.flag, mode, s.interval, i);
         Outcome::Success(State {
             place: s.place + 1,
             interval: new,
