@@ -70,5 +70,6 @@ fn begin(nodes: &[u16], rules: &[u16], tokens: &[u32], start: Start) -> Ran
     let Outcome::Success(u) = expression(nodes, rules, tokens, start.mode, start.node, s) else {
         return Ran::Failure;
     };
-    Ran::Success(u.place - start.place, u)
+    let read = u.place - start.place;
+    Ran::Success(read, u)
 }

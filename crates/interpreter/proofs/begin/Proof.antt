@@ -33,8 +33,8 @@ expression-requires c κs =
     (start .pre) (sym (tokens-wrong .ensures) ∙ if1 .left)
     (sym (c .before .before .start-wrong .ensures) ∙ c .before .if2 .left)
 
-sub-t11 : tie.Need-sub-t11
-sub-t11 c =
+sub-read : tie.Need-sub-read
+sub-read c =
     let u = c .before .before .before .u in
     let walked = c .before .before .before .before .before in
     let else2 = walked .before .before in
@@ -71,4 +71,4 @@ pub begin-spec : {M : Type 1} → statement M
 begin-spec =
     tie.close
     (tie.spec (λ c κs. tt) returns (λ c κs. tt) returns-2 expression-requires (λ c. search needs)
-    (λ c. search needs) returns-3 sub-t11 returns-4)
+    (λ c. search needs) returns-3 sub-read returns-4)

@@ -33,7 +33,8 @@ returns-4 c =
     let joined = c .before .if1 in
     let start = c .before .before in
     fits-by (start .args .flag) (start .args .mode) (joined .r) (start .args .c) (start .args .i) (joined .came)
-    (λ a. (a .0 .taken, a .1)) (λ b. (b .0 .left, b .1)) (rw (over-two _ (c .match .rest .0 .0 .1) (c .match .rest .0 .1) (c .match .rest .1) .1, leb·zero (start .args .i)) refl)
+    (λ a. (a .0 .taken, a .1)) (λ b. (b .0 .left, b .1))
+    (rw (over-two _ (c .match .rest .0 .0 .1) (c .match .rest .0 .1) (c .match .rest .1) .1, leb·zero (start .args .i)) refl)
 
 pub fits-spec : {M : Type 1} → statement M
 fits-spec = tie.close (tie.spec (λ c κs. search needs) returns returns-2 returns-3 returns-4)
