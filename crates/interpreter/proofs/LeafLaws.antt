@@ -1,31 +1,17 @@
 -- What the walk's leaf functions show, over plain values.
-use Prim.Native.Nat.{ℕ, zero, suc, _+_, _*_, _/_, _%_, _≤_, _<_, max}
+use Prim.Native.Nat.{ℕ, zero, suc, _+_, _*_, _/_, _%_, _≤_, _<_}
 use mathlib.Core.Path.{_≡_, refl}
 use mathlib.Core.Bool.{Bool, true, false, _&&_}
 use mathlib.Core.List.{List}
 use lib.ListN.{length, getD}
 use native.Mathlib.Omega.{arith}
 use borrow.Author.Tests.{le-ltb, lt-ltb, eq-eqb, ne-eqb}
-use Rattle.columns.specs.Intervals.{to, innerEnds, lowerEnd, meetEnds, fits, afterToken}
+use Rattle.columns.specs.Intervals.{to, innerEnds}
 use Rattle.columns.specs.declared.Upper.{Upper}
 use Rattle.columns.specs.declared.Interval.{Interval}
 use Rattle.columns.specs.declared.State.{State}
-use Rattle.columns.specs.declared.Outcome.the-variants.{Success, Failure}
-use Rattle.interpreter.specs.InternalWalk.{withInterval, withFlag, childState, tokenOutcome}
-
--- A relation that is none of 0, 1 and 2.
-pub over-two : (r : ℕ) → (r ≡ 0 → ⊥) → (r ≡ 1 → ⊥) → (r ≡ 2 → ⊥) → (k : ℕ) × (r ≡ suc (suc (suc k)))
-over-two zero a b c = absurd (a refl)
-over-two (suc zero) a b c = absurd (b refl)
-over-two (suc (suc zero)) a b c = absurd (c refl)
-over-two (suc (suc (suc k))) a b c = (k, refl)
-
--- The higher lower end, where either is.
-pub meet-second : (a b : Interval) (u : Upper) → a .lower ≤ b .lower → u ≡ lowerEnd (a .upper) (b .upper) → to (b .lower) u ≡ meetEnds a b
-meet-second a b u h e = let q : max (a .lower) (b .lower) ≡ b .lower = omega arith in rw (e, q) refl
-
-pub meet-first : (a b : Interval) (u : Upper) → b .lower < a .lower → u ≡ lowerEnd (a .upper) (b .upper) → to (a .lower) u ≡ meetEnds a b
-meet-first a b u h e = let q : max (a .lower) (b .lower) ≡ a .lower = omega arith in rw (e, q) refl
+use Rattle.columns.specs.declared.Outcome.the-variants.{Failure}
+use Rattle.interpreter.specs.InternalWalk.{withInterval, withFlag, childState, tokenOutcome, columnOutcome}
 
 -- The state of a first child.
 pub child-indent : (q r : ℕ) (s : State) (c : Interval) → q ≡ 7 → c ≡ innerEnds r (s .interval) → withInterval s c ≡ childState q r s
@@ -61,7 +47,7 @@ flag-kept a b e = rw e refl
 pub flag-lost : (a b : Bool) → a ≡ false → a ≡ (a && b)
 flag-lost a b e = rw e refl
 
--- One token: none there, another terminal, one that fits and one that does not.
+-- One token: none there, another terminal, that terminal at a column.
 module _ (words : List ℕ) (τ a : ℕ) (s : State) (whole : length words % 4 ≡ 0) where
   pub token-none : length words ≤ s .place * 4 → Failure ≡ tokenOutcome words τ a s
   unfolding tokenOutcome
@@ -72,15 +58,6 @@ module _ (words : List ℕ) (τ a : ℕ) (s : State) (whole : length words % 4 �
     unfolding tokenOutcome
     token-other h = rw (lt-ltb (s .place) (length words / 4) (omega arith), ne-eqb (getD words (s .place * 4) 0) a h) refl
 
-    module _ (same : getD words (s .place * 4) 0 ≡ a) (b : Bool) (e : b ≡ fits (s .flag) τ (s .interval) (getD words (s .place * 4 + 1) 0)) where
-      pub token-fits :
-          b ≡ true
-          → (c : Interval)
-          → c ≡ afterToken (s .flag) τ (s .interval) (getD words (s .place * 4 + 1) 0)
-          → Success (record { place = s .place + 1; interval = c; flag = false }) ≡ tokenOutcome words τ a s
-      unfolding tokenOutcome
-      token-fits t c d = rw (lt-ltb (s .place) (length words / 4) (omega arith), eq-eqb (getD words (s .place * 4) 0) a same, ← e, t, d) refl
-
-      pub token-outside : b ≡ false → Failure ≡ tokenOutcome words τ a s
-      unfolding tokenOutcome
-      token-outside t = rw (lt-ltb (s .place) (length words / 4) (omega arith), eq-eqb (getD words (s .place * 4) 0) a same, ← e, t) refl
+    pub token-there : getD words (s .place * 4) 0 ≡ a → columnOutcome τ s (getD words (s .place * 4 + 1) 0) ≡ tokenOutcome words τ a s
+    unfolding tokenOutcome
+    token-there h = rw (lt-ltb (s .place) (length words / 4) (omega arith), eq-eqb (getD words (s .place * 4) 0) a h) refl

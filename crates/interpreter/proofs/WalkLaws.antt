@@ -293,13 +293,12 @@ module _ {nodes rules words : List ℕ} {τ₀ n₀ : ℕ} {s₀ : State} {τ n 
   out-empty p = out (Success s) 0 p (record { derived = clauses.empty })
 
   -- A terminal.
-  pub for-token : ReadyToken words s
+  pub for-token : ReadyToken words
   for-token =
       let k = in-limits words (h .ready .checked .tokens) in
       let few = k .few in
       let whole = k .whole in
-      let m = h .ready .room in
-      record { whole = whole; few = omega arith; room = omega arith }
+      record { whole = whole; few = omega arith }
 
   pub out-token : kind ≡ 1 → (o : Outcome) → o ≡ tokenOutcome words τ a s → Whole o
   out-token p o e = rw e (out (tokenOutcome words τ a s) 1 p (token-gives nodes rules words τ a s))
@@ -495,7 +494,7 @@ module _ {nodes rules words : List ℕ} {n : ℕ} {s : State} (h : Ready nodes r
   pub first-node : n * 4 + 3 < length nodes
   first-node = for-node (start {τ = 0} h)
 
-  pub first-token : ReadyToken words s
+  pub first-token : ReadyToken words
   first-token = for-token (start {τ = 0} h)
 
   pub out-first : {τ : ℕ} → kindOf nodes n ≡ 1 → (o : Outcome) → o ≡ tokenOutcome words τ (aOf nodes n) s → Gives nodes rules words τ (form nodes n) s o

@@ -7,7 +7,7 @@ use lib.ListN.{length}
 use Rattle.table.specs.Answer.{given}
 use Rattle.table.specs.Checks.{tableAnswer}
 use Rattle.table.specs.Form.{Form, rule, nodeCount, standsFor}
-use Rattle.columns.specs.Intervals.{ends, innerEnds, outerEnds, meetEnds, afterToken}
+use Rattle.columns.specs.Intervals.{ends, innerEnds, outerEnds, meetEnds, fits, afterToken}
 use Rattle.columns.specs.declared.Interval.{Interval}
 use Rattle.columns.specs.declared.State.{State}
 use Rattle.columns.specs.declared.Outcome.{Outcome}
@@ -63,10 +63,15 @@ tokenOutcome words τ a s =
       flag = false;
     })) Failure
 
-pub record ReadyToken (words : List ℕ) (s : State) : Type 0 where
+-- The same for a token that is there, of that terminal: mode, state, column.
+abbrev pub columnOutcome : ℕ → State → ℕ → Outcome
+columnOutcome τ s i =
+    cond (fits (s .flag) τ (s .interval) i)
+    (Success (record { place = s .place + 1; interval = afterToken (s .flag) τ (s .interval) i; flag = false })) Failure
+
+pub record ReadyToken (words : List ℕ) : Type 0 where
   pub whole : length words % 4 ≡ 0
   pub few : length words ≤ 16384
-  pub room : s .interval .lower ≤ 2 ^ 25
 
 -- What is left to do at a node in a state: tokens left, then rank.
 unfoldable pub weight : List ℕ → List ℕ → List ℕ → ℕ → State → ℕ

@@ -1,5 +1,4 @@
 // The interpreter: the outcome of a grammar on tokens from a start (numbers 3, 4, 5, 7, 11 and 12).
-mod intervals;
 mod states;
 mod walk;
 
@@ -35,9 +34,15 @@ pub fn run(nodes: &[u16], rules: &[u16], tokens: &[u32], start: Start) -> Ran
     ensures { λ r. ⌜ Derived (now (nodes .entry)) (now (rules .entry)) (now (tokens .entry)) start r ⌝ }
 {
     match well_formed::check(nodes, rules) {
-        Verdict::Refused(number) => Ran::Refused(number),
-        Verdict::IllFormed(node) => Ran::IllFormed(node),
-        Verdict::Passes => begin(nodes, rules, tokens, start),
+        Verdict::Refused(number) => {
+            return Ran::Refused(number);
+        }
+        Verdict::IllFormed(node) => {
+            return Ran::IllFormed(node);
+        }
+        Verdict::Passes => {
+            return begin(nodes, rules, tokens, start);
+        }
     }
 }
 
@@ -57,19 +62,14 @@ fn begin(nodes: &[u16], rules: &[u16], tokens: &[u32], start: Start) -> Ran
         return Ran::Refused(refusals::START);
     }
     let interval = start.interval;
-    let from = start.place;
     let s = State {
-        place: from,
+        place: start.place,
         interval,
         flag: start.flag,
     };
-    let x = expression(nodes, rules, tokens, start.mode, start.node, s);
-    match x {
-        Outcome::Failure => Ran::Failure,
-        Outcome::Success(u) => {
-            let end = u.place;
-            let read = end - from;
-            Ran::Success(read, u)
-        }
-    }
+    let Outcome::Success(u) = expression(nodes, rules, tokens, start.mode, start.node, s) else {
+        return Ran::Failure;
+    };
+    let read = u.place - start.place;
+    Ran::Success(read, u)
 }

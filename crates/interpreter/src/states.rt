@@ -1,16 +1,18 @@
 // States: where the first child of a form begins, what is left after an indent or an align, and one token.
-use crate::intervals::after_token;
-use crate::intervals::fits;
-use crate::intervals::inner;
-use crate::intervals::leave;
 use columns::Interval;
 use columns::Outcome;
 use columns::State;
 use columns::Upper;
+use intervals::after_token;
+use intervals::fits;
+use intervals::leave;
 use table::kinds;
+use table::relations;
 ghost use mathlib.Core.Path.{_≡_};
 ghost use Prim.Native.Nat.{_+_, _<_, _^_};
-ghost use Rattle.interpreter.specs.InternalWalk.{childState, leftState, alignedState, tokenOutcome, ReadyToken};
+ghost use Rattle.columns.specs.Intervals.{innerEnds};
+ghost use Rattle.interpreter.specs.InternalWalk.{childState, leftState, alignedState};
+ghost use Rattle.interpreter.specs.InternalWalk.{ReadyToken, tokenOutcome, columnOutcome};
 
 // The state in which the first child of a node is walked, written anew.
 pub(crate) fn child(kind: u16, r: u16, s: State) -> State
@@ -45,19 +47,49 @@ fn entered(kind: u16, r: u16, s: State) -> State
     }
 }
 
+// The inner set on the way in.
+fn inner(r: u16, c: Interval) -> Interval
+    requires { ⌜ c .lower + 1 < 2 ^ 32 ⌝ }
+    ensures { λ x. ⌜ x ≡ innerEnds r c ⌝ }
+{
+    let l = c.lower;
+    match r {
+        relations::EQUAL => c,
+        relations::GREATER => Interval {
+            lower: raised(l),
+            upper: Upper::Endless,
+        },
+        relations::AT_LEAST => Interval {
+            lower: l,
+            upper: Upper::Endless,
+        },
+        _ => Interval {
+            lower: 0,
+            upper: Upper::Endless,
+        },
+    }
+}
+
+// A column raised by 1.
+fn raised(l: u32) -> u32
+    requires { ⌜ l + 1 < 2 ^ 32 ⌝ }
+    ensures { λ x. ⌜ x ≡ l + 1 ⌝ }
+{
+    l + 1
+}
+
 // The same state, its upper end written anew: so the compiler stores as one what the child's walk loads as one, and the
 // load need not wait.
 fn anew(s: State) -> State
     ensures { λ x. ⌜ x ≡ s ⌝ }
 {
     let c = s.interval;
-    let l = c.lower;
     let upper = c.upper;
     match upper {
         Upper::At(h) => State {
             place: s.place,
             interval: Interval {
-                lower: l,
+                lower: c.lower,
                 upper: Upper::At(h),
             },
             flag: s.flag,
@@ -65,7 +97,7 @@ fn anew(s: State) -> State
         Upper::Endless => State {
             place: s.place,
             interval: Interval {
-                lower: l,
+                lower: c.lower,
                 upper: Upper::Endless,
             },
             flag: s.flag,
@@ -77,9 +109,7 @@ fn anew(s: State) -> State
 pub(crate) fn left(r: u16, s: State, u: State) -> State
     ensures { λ x. ⌜ x ≡ leftState r s u ⌝ }
 {
-    let c = s.interval;
-    let d = u.interval;
-    let out = leave(r, c, d);
+    let out = leave(r, s.interval, u.interval);
     State {
         place: u.place,
         interval: out,
@@ -101,24 +131,28 @@ pub(crate) fn aligned(s: State, u: State) -> State
 
 // One token, as a terminal in a mode.
 pub(crate) fn token(tokens: &[u32], terminal: u16, mode: u16, s: State) -> Outcome
-    requires { ⌜ ReadyToken (now tokens) s ⌝ }
+    requires { ⌜ ReadyToken (now tokens) ⌝ }
     ensures { λ r. ⌜ r ≡ tokenOutcome (now (tokens .entry)) mode terminal s ⌝ }
 {
-    let place = s.place;
-    let flag = s.flag;
-    let c = s.interval;
-    let at = (place as usize) * 4;
+    let at = (s.place as usize) * 4;
     if tokens.len() <= at {
         return Outcome::Failure;
     }
     if tokens[at] != terminal as u32 {
         return Outcome::Failure;
     }
-    let column = tokens[at + 1];
-    if fits(flag, mode, c, column) {
-        let new = after_token(flag, mode, c, column);
+    at_column(mode, s, tokens[at + 1])
+}
+
+// That terminal at a column.
+fn at_column(mode: u16, s: State, i: u32) -> Outcome
+    requires { ⌜ s .place + 1 < 2 ^ 32 ⌝ }
+    ensures { λ r. ⌜ r ≡ columnOutcome mode s i ⌝ }
+{
+    if fits(s.flag, mode, s.interval, i) {
+        let new = after_token(s.flag, mode, s.interval, i);
         Outcome::Success(State {
-            place: place + 1,
+            place: s.place + 1,
             interval: new,
             flag: false,
         })

@@ -16,19 +16,16 @@ pub(crate) fn expression(
     nodes: &[u16],
     rules: &[u16],
     tokens: &[u32],
-    mode0: u16,
-    node0: u16,
-    s0: State,
+    mut mode: u16,
+    mut node: u16,
+    mut s: State,
 ) -> Outcome
-    requires { ⌜ Ready (now nodes) (now rules) (now tokens) node0 s0 ⌝ }
+    requires { ⌜ Ready (now nodes) (now rules) (now tokens) node s ⌝ }
     ensures { λ x. ⌜
-        Gives (now (nodes .entry)) (now (rules .entry)) (now (tokens .entry)) mode0
-        (form (now (nodes .entry)) node0) s0 x
+        Gives (now (nodes .entry)) (now (rules .entry)) (now (tokens .entry)) mode
+        (form (now (nodes .entry)) node) s x
         ⌝ }
 {
-    let mut mode = mode0;
-    let mut node = node0;
-    let mut s = s0;
     loop {
         let at = (node as usize) * 4;
         let kind = nodes[at];

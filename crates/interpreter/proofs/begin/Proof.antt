@@ -35,14 +35,16 @@ expression-requires c κs =
 
 sub-read : tie.Need-sub-read
 sub-read c =
-    let else2 = c .before .before .before .before .before in
+    let u = c .before .before .before .u in
+    let walked = c .before .before .before .before .before in
+    let else2 = walked .before .before in
     let else1 = else2 .before .before in
     let start = else1 .before .before .before .before .before in
     omega (
       arith,
       success-onward (start .args .nodes .now) (start .args .rules .now) (start .args .tokens .now) (start .args .start)
           (start .pre) (sym (else1 .before .tokens-wrong .ensures) ∙ else1 .if1 .left) (sym (else2 .before .start-wrong .ensures) ∙ else2 .if2 .left)
-          (c .before .x .given .0 .0) (c .before .x .given .1) (c .before .before .before .expression .ensures),
+          (u .given .0 .0) (u .given .1) (walked .expression .ensures),
     )
 
 returns-3 : tie.Need-returns-3
@@ -56,15 +58,17 @@ returns-3 c =
 
 returns-4 : tie.Need-returns-4
 returns-4 c =
-    let else2 = c .before .before .before .before .before in
+    let u = c .before .before .before .u in
+    let walked = c .before .before .before .before .before in
+    let else2 = walked .before .before in
     let else1 = else2 .before .before in
     let start = else1 .before .before .before .before .before in
     answer-success (start .args .nodes .now) (start .args .rules .now) (start .args .tokens .now) (start .args .start)
     (start .pre) (sym (else1 .before .tokens-wrong .ensures) ∙ else1 .if1 .left) (sym (else2 .before .start-wrong .ensures) ∙ else2 .if2 .left)
-    (c .before .x .given .0 .0) (c .before .x .given .1) (c .before .before .before .expression .ensures)
+    (u .given .0 .0) (u .given .1) (walked .expression .ensures)
 
 pub begin-spec : {M : Type 1} → statement M
 begin-spec =
     tie.close
     (tie.spec (λ c κs. tt) returns (λ c κs. tt) returns-2 expression-requires (λ c. search needs)
-    (λ c. search needs) sub-read returns-3 returns-4)
+    (λ c. search needs) returns-3 sub-read returns-4)

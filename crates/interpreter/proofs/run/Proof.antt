@@ -22,5 +22,5 @@ returns-2 c =
 pub run-spec : {M : Type 1} → statement M
 run-spec =
     tie.close
-    (tie.spec (λ c κs. tt) (λ c. search needs) (λ c. search needs) (λ c. search needs) begin-requires returns
-    returns-2 (λ c. c .begin .ensures))
+    (tie.spec (λ c κs. tt) (λ c. search needs) returns (λ c. search needs) returns-2 (λ c. search needs)
+    begin-requires (λ c. c .begin .ensures))

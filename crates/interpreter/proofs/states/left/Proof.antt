@@ -9,7 +9,7 @@ leave-requires : tie.Need-leave-requires
 leave-requires c κs = search needs
 
 returns : tie.Need-returns
-returns c = ap (withInterval (c .before .before .before .args .u)) (c .leave .ensures)
+returns c = ap (withInterval (c .before .args .u)) (c .leave .ensures)
 
 pub left-spec : {M : Type 1} → statement M
 left-spec = tie.close (tie.spec leave-requires returns)

@@ -2,7 +2,8 @@
 use borrow.Author.Needs.{needs}
 use Rattle.interpreter.proofs.states.token.Statement.{statement}
 use Rattle.interpreter.proofs.states.token.Tie as tie
-use Rattle.interpreter.proofs.LeafLaws.{token-none, token-other, token-fits, token-outside}
+use mathlib.Core.Path.{_∙_}
+use Rattle.interpreter.proofs.LeafLaws.{token-none, token-other, token-there}
 
 returns : tie.Need-returns
 returns c =
@@ -18,25 +19,15 @@ returns-2 c =
 
 returns-3 : tie.Need-returns-3
 returns-3 c =
-    let fits2 = c .before .before .fits2 in
-    let if2 = c .before .before .before .before .if2 in
-    let if1 = c .before .before .before .before .before .before .if1 in
-    let start = c .before .before .before .before .before .before .before .before .before in
-    token-fits (start .args .tokens .now) (start .args .mode) (start .args .terminal) (start .args .s)
-    (start .pre .whole) (if1 .left) (if2 .left) (fits2 .result) (fits2 .ensures) (c .before .if3 .taken)
-    (c .after-token .result) (c .after-token .ensures)
-
-returns-4 : tie.Need-returns-4
-returns-4 c =
-    let if2 = c .before .before .before .if2 in
-    let if1 = c .before .before .before .before .before .if1 in
-    let start = c .before .before .before .before .before .before .before .before in
-    token-outside (start .args .tokens .now) (start .args .mode) (start .args .terminal) (start .args .s)
-    (start .pre .whole) (if1 .left) (if2 .left) (c .before .fits2 .result) (c .before .fits2 .ensures) (c .if3 .left)
+    let if2 = c .before .before .if2 in
+    let if1 = c .before .before .before .before .if1 in
+    let start = c .before .before .before .before .before .before .before in
+    c .at-column .ensures
+    ∙ token-there (start .args .tokens .now) (start .args .mode) (start .args .terminal) (start .args .s)
+    (start .pre .whole) (if1 .left) (if2 .left)
 
 pub token-spec : {M : Type 1} → statement M
 token-spec =
     tie.close
     (tie.spec (λ c. search needs) (λ c. search needs) returns (λ c. search needs) (λ c. search needs) returns-2
-    (λ c. search needs) (λ c. search needs) (λ c. search needs) (λ c κs. search needs) (λ c κs. search needs)
-    (λ c. search needs) returns-3 returns-4)
+    (λ c. search needs) (λ c. search needs) (λ c. search needs) (λ c κs. search needs) returns-3)

@@ -79,10 +79,10 @@ abbrev first-claims : ℕ → first-lts.Claims
 first-claims t = (token-reads.Asked, token-reads.Learnt, expression-below t, expression.Post)
 
 abbrev expression-Inv-loop : expression-lts.InvT-loop
-expression-Inv-loop nodes rules tokens mode0 node0 mode₀ node₀ s₀ mode node s = Walk nodes rules tokens mode0 node0 s₀ mode node s
+expression-Inv-loop nodes rules tokens mode₀ node₀ s₀ mode node s = Walk nodes rules tokens mode₀ node₀ s₀ mode node s
 
 abbrev expression-μ-loop : expression-lts.MeasureT-loop
-expression-μ-loop nodes rules tokens mode0 node0 mode₀ node₀ s₀ mode node s = weight nodes rules tokens node s
+expression-μ-loop nodes rules tokens mode₀ node₀ s₀ mode node s = weight nodes rules tokens node s
 
 expression-loop-holds : (t : ℕ) → expression-lts.Need-loop-holds (claims t) (expression-at t) expression.Post expression-Inv-loop expression-μ-loop
 expression-loop-holds t c = start (c .before .before .before .pre .1)

@@ -1,0 +1,116 @@
+// Column intervals: whether a token fits one, and what is left of one after a token or an indent.
+use columns::Interval;
+use columns::Upper;
+use table::relations;
+ghost use mathlib.Core.Path.{_≡_};
+ghost use Rattle.columns.specs.Intervals.{lowerEnd, meetEnds, less1, outerEnds, lies as liesIn};
+ghost use Rattle.columns.specs.Intervals.{fits as fitsIn, afterToken};
+
+// Whether a token at column i fits: in the interval with the flag set, else in the mode's inner set.
+pub fn fits(flag: bool, mode: u16, c: Interval, i: u32) -> bool
+    ensures { λ x. ⌜ x ≡ fitsIn flag mode c i ⌝ }
+{
+    let l = c.lower;
+    let r = if flag { relations::EQUAL } else { mode };
+    match r {
+        relations::EQUAL => lies(c, i),
+        relations::GREATER => l < i,
+        relations::AT_LEAST => l <= i,
+        _ => true,
+    }
+}
+
+// Whether a column lies between the ends.
+fn lies(c: Interval, i: u32) -> bool
+    ensures { λ x. ⌜ x ≡ liesIn i c ⌝ }
+{
+    let h = c.upper;
+    let l = c.lower;
+    if i < l {
+        return false;
+    }
+    match h {
+        Upper::Endless => true,
+        Upper::At(x) => i <= x,
+    }
+}
+
+// The interval after a token at column i: i to i with the flag set, else met with the mode's outer set of i to i.
+pub fn after_token(flag: bool, mode: u16, c: Interval, i: u32) -> Interval
+    ensures { λ x. ⌜ x ≡ afterToken flag mode c i ⌝ }
+{
+    let one = Interval {
+        lower: i,
+        upper: Upper::At(i),
+    };
+    if flag { one } else { leave(mode, c, one) }
+}
+
+// What is left of an interval after an indent: it is met with the outer set of the inner one.
+pub fn leave(r: u16, old: Interval, new: Interval) -> Interval
+    ensures { λ x. ⌜ x ≡ meetEnds old (outerEnds r new) ⌝ }
+{
+    meet(old, outer(r, new))
+}
+
+// The outer set on the way out.
+fn outer(r: u16, c: Interval) -> Interval
+    ensures { λ x. ⌜ x ≡ outerEnds r c ⌝ }
+{
+    let h = c.upper;
+    match r {
+        relations::EQUAL => c,
+        relations::GREATER => {
+            let upper = less(h);
+            Interval { lower: 0, upper }
+        }
+        relations::AT_LEAST => Interval { lower: 0, upper: h },
+        _ => Interval {
+            lower: 0,
+            upper: Upper::Endless,
+        },
+    }
+}
+
+// An upper end less 1; without end stays, and 0 too.
+fn less(h: Upper) -> Upper
+    ensures { λ x. ⌜ x ≡ less1 h ⌝ }
+{
+    match h {
+        Upper::Endless => h,
+        Upper::At(x) => if x == 0 {
+            Upper::At(0)
+        } else {
+            Upper::At(x - 1)
+        },
+    }
+}
+
+// What lies in both of two intervals.
+fn meet(a: Interval, b: Interval) -> Interval
+    ensures { λ r. ⌜ r ≡ meetEnds a b ⌝ }
+{
+    let ua = a.upper;
+    let ub = b.upper;
+    let la = a.lower;
+    let lb = b.lower;
+    let upper = lower_end(ua, ub);
+    if la <= lb {
+        Interval { lower: lb, upper }
+    } else {
+        Interval { lower: la, upper }
+    }
+}
+
+// The lower of two upper ends.
+fn lower_end(a: Upper, b: Upper) -> Upper
+    ensures { λ r. ⌜ r ≡ lowerEnd a b ⌝ }
+{
+    match a {
+        Upper::Endless => b,
+        Upper::At(x) => match b {
+            Upper::Endless => a,
+            Upper::At(y) => if x <= y { a } else { b },
+        },
+    }
+}
