@@ -1,19 +1,15 @@
--- `line::text::put_decimal`, which calls itself, meets its contract.
+-- `answer_line::text::put_decimal`, which calls itself, meets its contract.
 use borrow.Fn.Kinds.{In}
 use borrow.Fn.PlainCycle.{Measures, is, falls, and}
-use Rattle.line.proofs.text.put_decimal.Reads as put-decimal
-use Rattle.line.proofs.text.put_decimal.Kinds as put-decimal-kinds
-use Rattle.line.proofs.text.+put_decimal.Lts-put_decimal as put-decimal-lts
-use Rattle.line.proofs.text.put.Reads as put-reads
-use Rattle.line.proofs.text.+put_decimal.{statement}
-use Rattle.line.proofs.text.+put_decimal.Tie.{close}
-use mathlib.Core.Path.{_≡_, refl, sym, ap, _∙_}
+use Rattle.answer_line.proofs.text.put_decimal.Reads as put-decimal
+use Rattle.answer_line.proofs.text.put_decimal.Kinds as put-decimal-kinds
+use Rattle.answer_line.proofs.text.+put_decimal.Lts-put_decimal as put-decimal-lts
+use Rattle.answer_line.proofs.text.put.Reads as put-reads
+use Rattle.answer_line.proofs.text.+put_decimal.{statement}
+use Rattle.answer_line.proofs.text.+put_decimal.Tie.{close}
 use native.Mathlib.Omega.{arith}
-use Prim.Native.Nat.{ℕ, _-_, _*_, _+_, _≤_, _<_, _/_, _%_}
-use mathlib.Core.List.{List, [], _∷_}
-use lib.ListN.{length, getD, take}
-use Rattle.line.specs.InternalPut.{pasted}
-use Rattle.line.proofs.PutLaws.{paste-one, paste-none, word-next, take-whole, Put, digits-none, digits-last, digits-more, length-decimal}
+use Prim.Native.Nat.{ℕ, _-_, _<_, _/_}
+use Rattle.answer_line.proofs.PutLaws.{digits-none, digits-last, digits-more, length-decimal}
 
 abbrev μ-put-decimal : Measures 1 put-decimal-kinds.ps ℕ
 μ-put-decimal κs a = a .1 .1 .0
@@ -34,10 +30,7 @@ put-decimal-returns : (t : ℕ) → put-decimal-lts.Need-returns (
 ) (put-decimal-at t) put-decimal.Post
 put-decimal-returns t c =
     let start = c .before .before in
-    let p =
-    digits-none (start .args .out .now) (start .args .at) (start .args .n) (omega (arith, start .pre .1))
-    (c .if1 .taken) in
-    (p .place, p .slice)
+    digits-none (start .args .out .now) (start .args .at) (start .args .n) (omega (arith, start .pre .1)) (c .if1 .taken)
 
 put-decimal-cast-put : (t : ℕ) → put-decimal-lts.Need-cast-put (
   put-reads.Asked,
@@ -81,8 +74,7 @@ put-decimal-returns-2 t c =
     let put = c .before .before .put in
     let if2 = c .before .before .before .before .if2 in
     let if1 = c .before .before .before .before .before .if1 in
-    let p = digits-last (if1 .left) (if2 .taken) (record { place = put .ensures .0; slice = put .ensures .1 }) in
-    (p .place, p .slice)
+    digits-last (if1 .left) (if2 .taken) (put .ensures)
 
 put-decimal-sub-put-decimal : (t : ℕ) → put-decimal-lts.Need-sub-put-decimal (
   put-reads.Asked,
@@ -145,11 +137,7 @@ put-decimal-returns-3 t c =
     let put-decimal = c .before .before .before .before .before .before .put-decimal in
     let if2 = c .before .before .before .before .before .before .before .before .if2 in
     let if1 = c .before .before .before .before .before .before .before .before .before .if1 in
-    let p =
-    digits-more (if1 .left) (if2 .left)
-    (record { place = put-decimal .ensures .0; slice = put-decimal .ensures .1 })
-    (record { place = put2 .ensures .0; slice = put2 .ensures .1 }) in
-    (p .place, p .slice)
+    digits-more (if1 .left) (if2 .left) (put-decimal .ensures) (put2 .ensures)
 
 pub +put-decimal-spec : {M : Type 1} → statement M
 +put-decimal-spec = close μ-put-decimal λ t. put-decimal-lts.spec (
