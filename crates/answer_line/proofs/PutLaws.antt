@@ -1,11 +1,10 @@
 -- Bytes put one behind the other.
 use Prim.Native.Nat.{ℕ, zero, suc, _+_, _-_, _/_, _%_, _≤_, _<_}
 use mathlib.Core.Path.{_≡_, refl, sym, ap, _∙_}
-use mathlib.Core.Bool.{Bool, true, false, cond}
+use mathlib.Core.Bool.{Bool}
 use mathlib.Core.List.{List, [], _∷_, _++_, append-assoc}
 use lib.ListN.{length, drop, set, take, getD, length-append}
 use lib.Seq.{take-suc, take-length, drop-nil}
-use lib.Dec.{ltb}
 use borrow.Author.Tests.{lt-ltb, le-ltb}
 use native.Mathlib.Nat.{zero-add, suc-add}
 use native.Mathlib.Numerals.{add-one}
@@ -14,7 +13,6 @@ use Rattle.table.specs.Answer.{Answer, given}
 use Rattle.columns.specs.Intervals.{to}
 use Rattle.columns.specs.declared.Interval.{Interval}
 use Rattle.columns.specs.declared.Upper.{Upper}
-use Rattle.columns.specs.declared.Upper.the-variants.{At, Endless}
 use Rattle.clauses.specs.Clauses.{Outcome, success}
 use Rattle.answer_line.specs.AnswerLine.{decimalTo, decimal, successWord, space, break, upperWord, flagWord, lineBytes, writtenCount, writtenAfter}
 use Rattle.answer_line.specs.InternalPut.{pasted, Puts}
@@ -100,23 +98,6 @@ digits-more {most = zero} h l p q = absurd (h refl)
 digits-more {most = suc k} {n = n} h l p q =
     let e : suc k - 1 ≡ k = omega arith in
     rw (le-ltb n 10 l) (put-then (put-same (ap (λ (m : ℕ). decimalTo m (n / 10)) e) p) q)
-
--- How many they are at most.
-pub length-decimal : (most n : ℕ) → length (decimalTo most n) ≤ most
-unfolding decimalTo
-length-decimal zero n = omega arith
-length-decimal (suc most) n = by-test (ltb n 10) (length-decimal most (n / 10))
-  where
-    by-test : (t : Bool) → length (decimalTo most (n / 10)) ≤ most → length (cond t ((48 + n) ∷ []) (decimalTo most (n / 10) ++ ((48 + n % 10) ∷ []))) ≤ suc most
-    by-test true h = omega arith
-    by-test false h = let e = length-append (decimalTo most (n / 10)) ((48 + n % 10) ∷ []) in omega arith
-
-pub length-number : (w : List ℕ) (n : ℕ) → length (w ++ decimal n) ≤ length w + 10
-length-number w n = omega (arith, length-append w (decimal n), length-decimal 10 n)
-
-pub length-upper : (h : Upper) → length (upperWord h) ≤ 10
-length-upper (At x) = length-decimal 10 x
-length-upper Endless = omega arith
 
 -- A word of two parts behind what was put.
 put-more :

@@ -4,6 +4,7 @@ mod text;
 use columns::State;
 use columns::Upper;
 use interpreter::Ran;
+use text::put;
 use text::put_number;
 use text::put_word;
 ghost use mathlib.Core.Path.{_≡_};
@@ -49,7 +50,7 @@ fn put_refused(out: &mut [u8], word: &[u8], n: u32) -> usize
     ensures { λ r. ⌜ Puts (now (out .entry)) 0 (now (word .entry) ++ decimal n ++ break) r (now (out .exit)) ⌝ }
 {
     let end = put_number(out, 0, word, n);
-    put_word(out, end, b"\n")
+    put(out, end, b'\n')
 }
 
 // Puts the line of a success: tokens read, lower end, upper end, flag.
@@ -69,6 +70,7 @@ fn put_success(out: &mut [u8], read: u32, s: State) -> usize
 fn put_upper(out: &mut [u8], at: usize, h: Upper) -> usize
     requires { ⌜ at + 11 ≤ length (now out) ⌝ }
     ensures { λ r. ⌜ Puts (now (out .entry)) at (space ++ upperWord h) r (now (out .exit)) ⌝ }
+    ensures { λ r. ⌜ r ≤ at + 11 ⌝ }
 {
     match h {
         Upper::Endless => put_word(out, at, b" inf"),

@@ -1,5 +1,4 @@
 // Bytes of a line, put one behind the other into a lent slice.
-ghost use mathlib.Core.Path.{_≡_};
 ghost use mathlib.Core.List.{[], _∷_, _++_};
 ghost use Prim.Native.Nat.{_+_, _≤_, _<_};
 ghost use lib.ListN.{length};
@@ -33,6 +32,7 @@ pub(crate) fn put_word(out: &mut [u8], at: usize, word: &[u8]) -> usize
 pub(crate) fn put_decimal(out: &mut [u8], at: usize, most: usize, n: u32) -> usize
     requires { ⌜ «at» + «most» ≤ length (now out) ⌝ }
     ensures { λ r. ⌜ Puts (now (out .entry)) «at» (decimalTo «most» n) r (now (out .exit)) ⌝ }
+    ensures { λ r. ⌜ r ≤ «at» + «most» ⌝ }
 {
     if most == 0 {
         return at;
@@ -48,6 +48,7 @@ pub(crate) fn put_decimal(out: &mut [u8], at: usize, most: usize, n: u32) -> usi
 pub(crate) fn put_number(out: &mut [u8], at: usize, word: &[u8], n: u32) -> usize
     requires { ⌜ «at» + length (now word) + 10 ≤ length (now out) ⌝ }
     ensures { λ r. ⌜ Puts (now (out .entry)) «at» (now (word .entry) ++ decimal n) r (now (out .exit)) ⌝ }
+    ensures { λ r. ⌜ r ≤ «at» + length (now (word .entry)) + 10 ⌝ }
 {
     let next = put_word(out, at, word);
     put_decimal(out, next, 10, n)

@@ -8,8 +8,8 @@ use Rattle.answer_line.proofs.text.put.Reads as put-reads
 use Rattle.answer_line.proofs.text.+put_decimal.{statement}
 use Rattle.answer_line.proofs.text.+put_decimal.Tie.{close}
 use native.Mathlib.Omega.{arith}
-use Prim.Native.Nat.{ℕ, _-_, _<_, _/_}
-use Rattle.answer_line.proofs.PutLaws.{digits-none, digits-last, digits-more, length-decimal}
+use Prim.Native.Nat.{ℕ, _<_}
+use Rattle.answer_line.proofs.PutLaws.{digits-none, digits-last, digits-more}
 
 abbrev μ-put-decimal : Measures 1 put-decimal-kinds.ps ℕ
 μ-put-decimal κs a = a .1 .1 .0
@@ -30,7 +30,7 @@ put-decimal-returns : (t : ℕ) → put-decimal-lts.Need-returns (
 ) (put-decimal-at t) put-decimal.Post
 put-decimal-returns t c =
     let start = c .before .before in
-    digits-none (start .args .out .now) (start .args .at) (start .args .n) (omega (arith, start .pre .1)) (c .if1 .taken)
+    (digits-none (start .args .out .now) (start .args .at) (start .args .n) (omega (arith, start .pre .1)) (c .if1 .taken), omega arith)
 
 put-decimal-cast-put : (t : ℕ) → put-decimal-lts.Need-cast-put (
   put-reads.Asked,
@@ -74,7 +74,7 @@ put-decimal-returns-2 t c =
     let put = c .before .before .put in
     let if2 = c .before .before .before .before .if2 in
     let if1 = c .before .before .before .before .before .if1 in
-    digits-last (if1 .left) (if2 .taken) (put .ensures)
+    (digits-last (if1 .left) (if2 .taken) (put .ensures), omega (arith, put .ensures .place))
 
 put-decimal-sub-put-decimal : (t : ℕ) → put-decimal-lts.Need-sub-put-decimal (
   put-reads.Asked,
@@ -114,9 +114,7 @@ put-decimal-put-requires-2 : (t : ℕ) → put-decimal-lts.Need-put-requires-2 (
   put-decimal-below t,
   put-decimal.Post,
 ) (put-decimal-at t) put-decimal.Post
-put-decimal-put-requires-2 t c κs =
-    let start = c .before .before .before .before .before .before .before .before in
-    omega (arith, length-decimal (start .args .most - 1) (start .args .n / 10))
+put-decimal-put-requires-2 t c κs = omega arith
 
 put-decimal-same-length-2 : (t : ℕ) → put-decimal-lts.Need-same-length-2 (
   put-reads.Asked,
@@ -137,7 +135,7 @@ put-decimal-returns-3 t c =
     let put-decimal = c .before .before .before .before .before .before .put-decimal in
     let if2 = c .before .before .before .before .before .before .before .before .if2 in
     let if1 = c .before .before .before .before .before .before .before .before .before .if1 in
-    digits-more (if1 .left) (if2 .left) (put-decimal .ensures) (put2 .ensures)
+    (digits-more (if1 .left) (if2 .left) (put-decimal .ensures .0) (put2 .ensures), omega (arith, put2 .ensures .place))
 
 pub +put-decimal-spec : {M : Type 1} → statement M
 +put-decimal-spec = close μ-put-decimal λ t. put-decimal-lts.spec (
