@@ -1,7 +1,7 @@
--- `line::put_flag` meets its contract.
+-- `answer_line::put_flag` meets its contract.
 use borrow.Author.Needs.{needs}
-use Rattle.line.proofs.put_flag.Statement.{statement}
-use Rattle.line.proofs.put_flag.Tie as tie
+use Rattle.answer_line.proofs.put_flag.Statement.{statement}
+use Rattle.answer_line.proofs.put_flag.Tie as tie
 use native.Mathlib.Omega.{arith}
 
 returns : tie.Need-returns

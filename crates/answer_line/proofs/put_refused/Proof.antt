@@ -1,0 +1,11 @@
+-- `answer_line::put_refused` meets its contract.
+use borrow.Author.Needs.{needs}
+use Rattle.answer_line.proofs.PutLaws.{put-then}
+use Rattle.answer_line.proofs.put_refused.Statement.{statement}
+use Rattle.answer_line.proofs.put_refused.Tie as tie
+
+returns : tie.Need-returns
+returns c = put-then (c .before .before .before .before .before .before .put-number .ensures .0) (c .before .before .put .ensures)
+
+pub put-refused-spec : {M : Type 1} → statement M
+put-refused-spec = tie.close (tie.spec (λ c κs. search needs) (λ c κs. search needs) (λ c. search needs) returns)

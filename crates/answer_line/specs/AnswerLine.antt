@@ -1,0 +1,72 @@
+-- The line of an answer (01, "Bench cases", last paragraph): its bytes, and a lent slice that it is written to.
+use Prim.Native.Nat.{ℕ, zero, suc, _+_, _/_, _%_}
+use mathlib.Core.Bool.{Bool, true, false, cond}
+use mathlib.Core.List.{List, [], _∷_, _++_}
+use lib.ListN.{length, drop}
+use lib.Dec.{ltb}
+use Rattle.table.specs.Answer.{Answer, given, refused, refusedAt}
+use Rattle.columns.specs.declared.Upper.{Upper}
+use Rattle.columns.specs.declared.Upper.the-variants.{At, Endless}
+use Rattle.columns.specs.declared.Interval.{Interval}
+use Rattle.clauses.specs.Clauses.{Outcome, success, failure}
+
+-- A number in decimal digits, at most so many: those of its tenth, if it is 10 or more, and the last one.
+unfoldable pub decimalTo : ℕ → ℕ → List ℕ
+decimalTo zero n = []
+decimalTo (suc most) n = cond (ltb n 10) ((48 + n) ∷ []) (decimalTo most (n / 10) ++ ((48 + n % 10) ∷ []))
+
+-- A number of 32 bits has ten digits at most.
+abbrev pub decimal : ℕ → List ℕ
+decimal n = decimalTo 10 n
+
+-- The words, in ASCII.
+abbrev pub successWord : List ℕ
+successWord = 115 ∷ 117 ∷ 99 ∷ 99 ∷ 101 ∷ 115 ∷ 115 ∷ []
+
+abbrev pub failureWord : List ℕ
+failureWord = 102 ∷ 97 ∷ 105 ∷ 108 ∷ 117 ∷ 114 ∷ 101 ∷ []
+
+abbrev pub refusedWord : List ℕ
+refusedWord = 114 ∷ 101 ∷ 102 ∷ 117 ∷ 115 ∷ 101 ∷ 100 ∷ []
+
+abbrev pub space : List ℕ
+space = 32 ∷ []
+
+abbrev pub break : List ℕ
+break = 10 ∷ []
+
+-- "upper end (`inf` if none)"
+abbrev pub upperWord : Upper → List ℕ
+upperWord (At h) = decimal h
+upperWord Endless = 105 ∷ 110 ∷ 102 ∷ []
+
+-- The flag: `set` or `clear`.
+abbrev pub flagWord : Bool → List ℕ
+flagWord true = 115 ∷ 101 ∷ 116 ∷ []
+flagWord false = 99 ∷ 108 ∷ 101 ∷ 97 ∷ 114 ∷ []
+
+-- "it prints `success 4 0 1 clear` ..": tokens read, lower end, upper end, flag; "Otherwise `failure`, or `refused` ..". The
+-- run begins at place 0, so its end place is the number of tokens read.
+abbrev pub lineBytes : Answer (Outcome Interval) → List ℕ
+lineBytes (given (success s)) =
+    successWord
+    ++ space
+    ++ decimal (s .0)
+    ++ space
+    ++ decimal (s .1 .lower)
+    ++ space
+    ++ upperWord (s .1 .upper)
+    ++ (space ++ flagWord (s .2) ++ break)
+lineBytes (given failure) = failureWord ++ break
+lineBytes (refused number) = refusedWord ++ space ++ decimal number ++ break
+lineBytes (refusedAt number node) = refusedWord ++ space ++ decimal number ++ space ++ decimal node ++ break
+
+-- Into a lent slice: the line, and behind it what was there. A slice of fewer than 64 bytes is left as it is.
+abbrev pub room : ℕ
+room = 64
+
+unfoldable pub writtenCount : Answer (Outcome Interval) → ℕ → ℕ
+writtenCount answer lent = cond (ltb lent room) 0 (length (lineBytes answer))
+
+unfoldable pub writtenAfter : Answer (Outcome Interval) → List ℕ → List ℕ
+writtenAfter answer before = cond (ltb (length before) room) before (lineBytes answer ++ drop (length (lineBytes answer)) before)
