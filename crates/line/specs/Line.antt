@@ -1,7 +1,9 @@
 -- The program's line (01, "Bench cases", last paragraph): from the bytes of a grammar file and a report.
 use Prim.Native.Nat.{ℕ, _*_}
-use mathlib.Core.Bool.{false}
-use mathlib.Core.List.{List}
+use mathlib.Core.Bool.{false, cond}
+use mathlib.Core.List.{List, _++_}
+use lib.ListN.{length, drop}
+use lib.Dec.{ltb}
 use Rattle.table.specs.Answer.{Answer, andThen}
 use Rattle.table.specs.Limits.{mostNodes, mostRules, mostTokens}
 use Rattle.columns.specs.Intervals.{to}
@@ -14,7 +16,7 @@ use Rattle.scanner.specs.Scan.{scanTokens, scanAnswer}
 use Rattle.well_formed.specs.Check.{checkAnswer}
 use Rattle.clauses.specs.Clauses.{Outcome}
 use Rattle.clauses.specs.RunAnswer.{runAnswer}
-use Rattle.answer_line.specs.AnswerLine.{writtenCount, writtenAfter}
+use Rattle.answer_line.specs.AnswerLine.{lineBytes, room}
 
 -- "runs the file's start from token 0, interval 0 without end, flag clear": node and mode.
 abbrev pub startAt : ℕ → ℕ → Start
@@ -36,9 +38,11 @@ lineAnswer file report =
     (checkAndRun file report (nodeTable (fieldsOf file)) (ruleList (fieldsOf file))
     (startNode (fieldsOf file)) (startMode (fieldsOf file)))
 
--- The line of that answer, written into a lent slice: how many bytes it has, and the slice afterwards.
+-- Into a lent slice: the line, and behind it what was there. A slice of fewer than 64 bytes is left as it is.
 unfoldable pub lineCount : List ℕ → List ℕ → ℕ → ℕ
-lineCount file report lent = writtenCount (lineAnswer file report) lent
+lineCount file report lent = cond (ltb lent room) 0 (length (lineBytes (lineAnswer file report)))
 
 unfoldable pub lineAfter : List ℕ → List ℕ → List ℕ → List ℕ
-lineAfter file report before = writtenAfter (lineAnswer file report) before
+lineAfter file report before =
+    cond (ltb (length before) room) before
+    (lineBytes (lineAnswer file report) ++ drop (length (lineBytes (lineAnswer file report))) before)
