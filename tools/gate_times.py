@@ -45,7 +45,7 @@ def main():
     checks, edits = read(words[0])
     print("\n".join(table(checks, edits)))
     if "--edits" in sys.argv:
-        for crate in edits:
+        for crate in filter(edits.get, list(edits)):
             print("\n" + crate + ": " + ", ".join(f"{name} {seconds}" for name, seconds in edits[crate].items()))
 
 

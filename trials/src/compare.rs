@@ -1,4 +1,4 @@
-//! Both readers on generated inputs, up to the first difference.
+//! Both readers on generated inputs, runs beside files and reports, each up to its first difference.
 
 use std::fmt::Debug;
 use trials::generate::{
@@ -22,8 +22,14 @@ pub fn compare(seed: u64, runs: u64, files: u64) -> Result<(), String> {
         .map_err(|what| what.to_string())?;
     let ran = over_runs(seed, runs);
     let read = other.join().map_err(|_| "a comparison stopped")?;
-    print!("{}{}", ran?, read?);
-    Ok(())
+    match (ran, read) {
+        (Ok(ran), Ok(read)) => {
+            print!("{ran}{read}");
+            Ok(())
+        }
+        (Err(what), Err(also)) => Err(format!("{what}\n{also}")),
+        (Err(what), _) | (_, Err(what)) => Err(what),
+    }
 }
 
 fn over_runs(seed: u64, runs: u64) -> Result<Stats, String> {

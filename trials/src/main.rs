@@ -14,7 +14,7 @@ mod published;
 
 use std::process::ExitCode;
 
-/// The stack of the thread that all runs are made on.
+/// The stack of each thread that runs are made on.
 const STACK: usize = 2 << 30;
 
 const USAGE: &str = "usage: trials compare SEED RUNS FILES | published CASES | program READER CASES DIR | round CASES | bench";

@@ -1,4 +1,5 @@
 // The program's line: from the bytes of a grammar file and a report to the bytes that the program prints.
+use answer_line::ROOM;
 use columns::Interval;
 use columns::Start;
 use columns::Upper;
@@ -16,6 +17,9 @@ pub fn write(file: &[u8], report: &[u8], out: &mut [u8]) -> usize
     ensures { λ r. ⌜ r ≡ lineCount (now (file .entry)) (now (report .entry)) (length (now (out .entry))) ⌝ }
     ensures { λ r. ⌜ now (out .exit) ≡ lineAfter (now (file .entry)) (now (report .entry)) (now (out .entry)) ⌝ }
 {
+    if out.len() < ROOM {
+        return 0;
+    }
     answer_line::write(answer(file, report), out)
 }
 

@@ -188,7 +188,7 @@ fn show_same(same: bool, count: usize) {
     }
 }
 
-// Hands out the tokens of the report from its start on until there is none or a refusal, and compares
+// Hands out the tokens of the report from its start on until there is none, a refusal or 5,000 of them, and compares
 // them with the words.
 fn hand_out(file: &[u8], report: &[u8], words: &[u32]) -> Walk
     ensures { λ r. ⌜
@@ -215,6 +215,7 @@ fn hand_out(file: &[u8], report: &[u8], words: &[u32]) -> Walk
     }
 }
 
+// Whether both hold.
 fn both(a: bool, b: bool) -> bool
     ensures { λ r. ⌜ r ≡ (a && b) ⌝ }
 {

@@ -36,7 +36,7 @@ startOf bytes =
       mode = pairAt bytes 4;
     }
 
--- What a run of a table is to answer, and that its outcome is derived.
+-- A run of a table answered what it is to answer, and its outcome is derived.
 pub record Answers (nodes rules tokens : List ℕ) (start : Start) (ran : Ran) : Type 0 where
   pub answer : numbers (start .place) ran ≡ runAnswer nodes rules tokens start
   pub derived : Derived nodes rules tokens start ran

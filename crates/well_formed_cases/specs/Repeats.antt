@@ -1,4 +1,4 @@
--- A number that tells the verdicts apart.
+-- A number that tells the verdicts apart, since that of a refusal is below 256.
 use Prim.Native.Nat.{ℕ, _+_}
 use mathlib.Core.List.{List}
 use Rattle.table.specs.Answer.{Answer, given, refused, refusedAt}
