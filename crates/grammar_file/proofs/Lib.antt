@@ -1,4 +1,2 @@
-pub mod OrderLaws
-pub mod ShapeLaws
-pub mod PartLaws
+pub mod CountLaws
 pub mod ReadLaws

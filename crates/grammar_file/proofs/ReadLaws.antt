@@ -13,12 +13,12 @@ use Rattle.grammar_file.specs.File.{fieldsOf, fails6, contents, fileAnsw
 use Rattle.grammar_file.specs.File.{nameBytes}
 use Rattle.file_tables.specs.Tables.{tooShort, written}
 use Rattle.file_fields.specs.Offsets.{valueAt, offsetOf, fieldsFrom}
-use Rattle.grammar_file.specs.InternalShape.{Parts, Inspects}
-use Rattle.grammar_file.specs.declared.shape.Shape.{Shape}
-use Rattle.grammar_file.specs.declared.Inspected.{Inspected}
-use Rattle.grammar_file.specs.declared.Inspected.the-variants.{Whole, Refused}
+use Rattle.file_shape.specs.Shape.{Parts, Inspects}
+use Rattle.file_shape.specs.declared.Shape.{Shape}
+use Rattle.file_shape.specs.declared.Inspected.{Inspected}
+use Rattle.file_shape.specs.declared.Inspected.the-variants.{Whole, Refused}
 use Rattle.file_fields.proofs.Offsets.{length-spellings, spelling-from}
-use Rattle.grammar_file.proofs.PartLaws.{keywords-are, names-are, rules-are, nodes-are, keyword-count}
+use Rattle.file_shape.proofs.PartLaws.{keywords-are, names-are, rules-are, nodes-are, keyword-count}
 
 -- What a slice holds, where it is known whether one was too short.
 pub kept : {x y : Bool} → x ≡ y → (words old : List ℕ) {out : List ℕ} → out ≡ written x words old → out ≡ written y words old

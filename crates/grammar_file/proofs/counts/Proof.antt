@@ -2,7 +2,7 @@
 use borrow.Author.Needs.{needs}
 use Rattle.grammar_file.proofs.counts.Statement.{statement}
 use Rattle.grammar_file.proofs.counts.Tie as tie
-use Rattle.grammar_file.proofs.PartLaws.{counted, keywords-stand}
+use Rattle.grammar_file.proofs.CountLaws.{counted, keywords-stand}
 
 value-at-requires : tie.Need-value-at-requires
 value-at-requires c κs = search needs

@@ -1,10 +1,10 @@
--- `grammar_file::names_wrong` meets its contract.
+-- `file_shape::names_wrong` meets its contract.
 use borrow.Author.Needs.{needs}
-use Rattle.grammar_file.proofs.names_wrong.Statement.{statement}
-use Rattle.grammar_file.proofs.names_wrong.Tie as tie
+use Rattle.file_shape.proofs.names_wrong.Statement.{statement}
+use Rattle.file_shape.proofs.names_wrong.Tie as tie
 use borrow.Author.Tests.{not-true, not-false}
 use mathlib.Core.Path.{refl, sym, _∙_}
-use Rattle.grammar_file.proofs.PartLaws.{names-by}
+use Rattle.file_shape.proofs.PartLaws.{names-by}
 
 returns : tie.Need-returns
 returns c =

@@ -1,30 +1,17 @@
 // The shape of a file: its fields in order, by count and offset (number 1).
 ghost use mathlib.Core.Path.{_≡_};
-ghost use Rattle.grammar_file.specs.InternalShape.{LongestRun, framedBy, Shaped};
+ghost use Rattle.file_shape.specs.InternalShape.{LongestRun, framedBy, Shaped};
 use crate::FIRST_KEYWORD;
+use crate::Group;
+use crate::Shape;
 use file_fields::next_at;
 use file_fields::right_at;
 use file_fields::tags;
 
 // How many fields of one tag stand in a row, and where they end.
-pub(crate) struct Run {
-    pub count: usize,
-    pub end: usize,
-}
-
-// The fields of one tag: the offset of the first, and how many there are.
-pub(crate) struct Group {
-    pub at: usize,
-    pub count: usize,
-}
-
-// The fields of a file; the keywords stand behind tag 1's four bytes.
-pub(crate) struct Shape {
-    pub right: bool,
-    pub keywords: usize,
-    pub rules: Group,
-    pub nodes: Group,
-    pub start: usize,
+struct Run {
+    count: usize,
+    end: usize,
 }
 
 // The most bytes of a file, and the most keywords.

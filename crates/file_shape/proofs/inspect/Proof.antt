@@ -1,13 +1,13 @@
--- `grammar_file::inspect` meets its contract.
+-- `file_shape::inspect` meets its contract.
 use borrow.Author.Needs.{needs}
-use Rattle.grammar_file.proofs.inspect.Statement.{statement}
-use Rattle.grammar_file.proofs.inspect.Tie as tie
+use Rattle.file_shape.proofs.inspect.Statement.{statement}
+use Rattle.file_shape.proofs.inspect.Tie as tie
 use borrow.Author.Tests.{not-true, not-false, le-ltb, lt-ltb}
 use mathlib.Core.Path.{refl, sym, ap, _∙_}
 use mathlib.Core.Bool.{true, false}
 use Rattle.table.specs.Checks.{numbers as checkedNumbers}
-use Rattle.grammar_file.specs.File.{fileAnswer}
-use Rattle.grammar_file.proofs.PartLaws.{by-names, by-table, by-start, start-test, mode-test}
+use Rattle.file_shape.specs.Contents.{fileAnswer}
+use Rattle.file_shape.proofs.PartLaws.{by-names, by-table, by-start, start-test, mode-test}
 
 returns : tie.Need-returns
 unfolding fileAnswer

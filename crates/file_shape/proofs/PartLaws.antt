@@ -1,30 +1,24 @@
 -- What a file whose fields are known by offset stands for.
-use Prim.Native.Nat.{ℕ, _≤_}
+use Prim.Native.Nat.{ℕ}
 use mathlib.Core.Path.{_≡_, refl, sym, ap, ap₂, _∙_}
-use mathlib.Core.Bool.{true≢false, Bool, true, false, not, _&&_, _||_}
+use mathlib.Core.Bool.{Bool, true, false, not, _&&_, _||_}
 use mathlib.Core.List.{List, [], map}
 use lib.ListN.{length, getD, drop}
 use lib.Dec.{ltb}
-use mathlib.Core.Option.{Option, some, none, Option·getD}
-use native.Mathlib.Nat.{le-trans, le-of-eq}
-use borrow.Author.Tests.{ltb-false}
 use native.Mathlib.Omega.{arith}
 use Rattle.table.specs.Answer.{Answer, given, refused, refuseIf}
-use Rattle.table.proofs.Every.{both-false}
 use Rattle.table.specs.Every.{every}
 use Rattle.table.specs.Limits.{relationCount}
 use Rattle.table.specs.Form.{nodeCount}
 use Rattle.table.specs.Checks.{tableAnswer, fails3, fails4, fails5}
-use Rattle.file_fields.specs.Fields.{fields, inOrder, Field, twoBytes}
+use Rattle.file_fields.specs.Fields.{Field, twoBytes}
 use Rattle.spellings.specs.Spellings.{singleAlone, rightSpellings}
-use Rattle.grammar_file.specs.File.{mostBytes, mostKeywords, rightValues, unreadable, fails1, Contents}
-use Rattle.grammar_file.specs.File.{keywords, ruleNames, ruleNode, ruleList, wordsOf, nodeTable, startValue}
-use Rattle.grammar_file.specs.File.{startNode, startMode, fieldsOf, fails2, fails5ByFile, contents}
-use Rattle.grammar_file.specs.File.{fileAnswer, numbers}
-use Rattle.file_fields.specs.Offsets.{keywordsFrom, valueAt, fieldsFrom, spellingsFrom}
-use Rattle.grammar_file.specs.InternalShape.{Parts}
-use Rattle.grammar_file.specs.declared.shape.Shape.{Shape}
-use Rattle.grammar_file.specs.declared.FileRead.the-variants.{Read}
+use Rattle.file_tables.specs.Tables.{ruleNode, wordsOf}
+use Rattle.file_shape.specs.Contents.{Contents, keywords, ruleNames, ruleList, nodeTable, startValue, startNode, startMode}
+use Rattle.file_shape.specs.Contents.{fieldsOf, fails2, fails5ByFile, contents, fileAnswer}
+use Rattle.file_fields.specs.Offsets.{valueAt, fieldsFrom, spellingsFrom}
+use Rattle.file_shape.specs.Shape.{Parts}
+use Rattle.file_shape.specs.declared.Shape.{Shape}
 use Rattle.file_fields.proofs.Offsets.{length-spellings}
 use Rattle.file_tables.proofs.TableLaws.{length-rules, count-nodes}
 
@@ -69,32 +63,6 @@ module _ (file : List ℕ) (s : Shape) (p : Parts file s) where
       (λ (ks ns : List (List ℕ)).
       not (rightSpellings ks && every (length ks) (λ k. singleAlone (getD ks k [])) && rightSpellings ns))
       (sym keywords-are) (sym names-are))
-
-  -- The counts, and the start read from its value.
-  pub counted : {v : List ℕ} {a m : ℕ} → v ≡ valueAt file (s .start) → a ≡ twoBytes (getD v 0 0) (getD v 1 0) → m ≡ getD v 2 0
-      → numbers (Read (s .nodes .count) (s .rules .count) (s .keywords) a m) ≡ given (contents (fieldsOf file))
-  unfolding contents
-  counted {v} e x y =
-      let f : v ≡ startValue (fieldsOf file) = e ∙ sym start-is in
-      let x' = x ∙ ap (λ (l : List ℕ). twoBytes (getD l 0 0) (getD l 1 0)) f in
-      let y' = y ∙ ap (λ (l : List ℕ). getD l 2 0) f in
-      λ i. given (record { nodes = sym node-count i; rules = sym rule-count i; keywords = sym keyword-count i; start = x' i; mode = y' i })
-
--- A file that number 1 passes has no more than 253 keywords.
-few-keywords : (o : Option (List Field)) → unreadable o ≡ false → length (keywords (Option·getD o [])) ≤ mostKeywords
-unfolding unreadable
-few-keywords none e = absurd (true≢false e)
-few-keywords (some fs) e = ltb-false mostKeywords (length (keywords fs)) (both-false (not (inOrder fs) || not (rightValues fs)) (ltb mostKeywords (length (keywords fs))) e .1)
-
--- Its keywords, by offset.
-pub keywords-stand : (file : List ℕ) (s : Shape) → Parts file s → (keywords (fieldsOf file) ≡ keywordsFrom file (s .keywords)) × (s .keywords ≤ mostKeywords)
-unfolding fails1 keywordsFrom spellingsFrom
-keywords-stand file s p = (
-  keywords-are file s p,
-  le-trans (le-of-eq (sym (keyword-count file s p)))
-      (few-keywords (fields file)
-      (both-false (ltb mostBytes (length file)) (unreadable (fields file)) (p .passes) .1)),
-)
 
 -- Numbers 3, 4 and 5 of a table, and number 5 with two tests more.
 tests-refuse : (f3 f4 f5 a b : Bool) (n : ℕ) (next : Answer Contents) → _≡_ {A = Answer Unit} (refuseIf f3 3 (refuseIf f4 4 (refuseIf f5 5 (given tt)))) (refused n)

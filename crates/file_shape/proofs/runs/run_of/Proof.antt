@@ -1,6 +1,6 @@
--- `grammar_file::shape::run_of` meets its contract.
-use Rattle.grammar_file.proofs.shape.run_of.Statement.{statement}
-use Rattle.grammar_file.proofs.shape.run_of.Tie as tie
+-- `file_shape::runs::run_of` meets its contract.
+use Rattle.file_shape.proofs.runs.run_of.Statement.{statement}
+use Rattle.file_shape.proofs.runs.run_of.Tie as tie
 use native.Mathlib.Omega.{arith}
 use Prim.Native.Nat.{ℕ, _+_, _-_, _≤_, _<_}
 use mathlib.Core.Path.{_≡_, refl, sym, _∙_}
@@ -10,7 +10,7 @@ use native.Mathlib.Numerals.{add-one}
 use lib.ListN.{length}
 use borrow.Author.Count.{below-more}
 use Rattle.file_fields.specs.Offsets.{nextAt, offsetOf, rightAt}
-use Rattle.grammar_file.proofs.OrderLaws.{whole}
+use Rattle.file_shape.proofs.OrderLaws.{whole}
 
 -- Behind a right field less of the file is left.
 next-more : (file : List ℕ) (at t : ℕ) → rightAt file at t ≡ true → {next : ℕ} → next ≡ nextAt file at → length file - next < length file - at

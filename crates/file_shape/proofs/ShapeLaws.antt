@@ -13,15 +13,15 @@ use lib.Seq.{append-snoc, getD-take, getD-drop}
 use lib.Dec.{leb, ltb, eqb}
 use Rattle.table.proofs.Every.{and-left, and-right}
 use Rattle.file_fields.specs.Fields.{Field, before, fields, laterTags, inOrder, tagged, rightLength}
-use Rattle.grammar_file.specs.File.{mostBytes, mostKeywords, rightValue, rightValues, keywords, fieldsOf, unreadable, fails1}
+use Rattle.file_shape.specs.Contents.{mostBytes, mostKeywords, rightValue, rightValues, keywords, fieldsOf, unreadable, fails1}
 use Rattle.file_fields.specs.Offsets.{lengthAt, valueAt, nextAt, fieldAt, offsetOf, fieldsFrom, rightAt}
-use Rattle.grammar_file.specs.InternalShape.{framedBy, LongestRun, Shaped}
-use Rattle.grammar_file.specs.declared.shape.Run.{Run}
-use Rattle.grammar_file.specs.declared.shape.Shape.{Shape}
+use Rattle.file_shape.specs.InternalShape.{framedBy, LongestRun, Shaped}
+use Rattle.file_shape.specs.declared.runs.Run.{Run}
+use Rattle.file_shape.specs.declared.Shape.{Shape}
 use Rattle.table.proofs.Orders.{le-or-lt}
 use Rattle.file_fields.proofs.FieldLaws.{fields-none, fields-whole, fields-cut}
 use Rattle.file_fields.proofs.Offsets.{length-from}
-use Rattle.grammar_file.proofs.OrderLaws.{same-or-not, good, good-step, good-next, good-last, whole, its-tag, its-length, length-value, one-false}
+use Rattle.file_shape.proofs.OrderLaws.{same-or-not, good, good-step, good-next, good-last, whole, its-tag, its-length, length-value, one-false}
 
 -- Fields in front of fields, where they are there.
 abbrev prepend : List Field → Option (List Field) → Option (List Field)

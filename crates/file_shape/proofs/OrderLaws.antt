@@ -14,7 +14,7 @@ use lib.Seq.{length-take-le}
 use lib.Dec.{leb, eqb}
 use Rattle.table.proofs.Every.{and-left, and-right}
 use Rattle.file_fields.specs.Fields.{Field, before, fields, laterTags, rightLength}
-use Rattle.grammar_file.specs.File.{rightValue, rightValues}
+use Rattle.file_shape.specs.Contents.{rightValue, rightValues}
 use Rattle.file_fields.specs.Offsets.{lengthAt, valueAt, nextAt, fieldAt, rightAt}
 use Rattle.table.proofs.Orders.{le-or-lt}
 use Rattle.file_fields.proofs.FieldLaws.{fields-none, fields-whole, fields-cut}

@@ -1,6 +1,6 @@
--- `grammar_file::shape::framed` meets its contract.
-use Rattle.grammar_file.proofs.shape.framed.Statement.{statement}
-use Rattle.grammar_file.proofs.shape.framed.Tie as tie
+-- `file_shape::runs::framed` meets its contract.
+use Rattle.file_shape.proofs.runs.framed.Statement.{statement}
+use Rattle.file_shape.proofs.runs.framed.Tie as tie
 use native.Mathlib.Omega.{arith}
 use Prim.Native.Nat.{ℕ, _≤_}
 use mathlib.Core.Path.{_≡_, refl, sym, _∙_}
@@ -10,8 +10,8 @@ use borrow.Author.Tests.{le-leb, lt-leb, ne-eqb, eq-eqb, not-true, not-false, eq
 use lib.ListN.{length}
 use Rattle.file_fields.specs.Fields.{rightLength}
 use Rattle.file_fields.specs.Offsets.{lengthAt, rightAt}
-use Rattle.grammar_file.specs.InternalShape.{framedBy}
-use Rattle.grammar_file.proofs.OrderLaws.{whole, its-length}
+use Rattle.file_shape.specs.InternalShape.{framedBy}
+use Rattle.file_shape.proofs.OrderLaws.{whole, its-length}
 
 -- A file that begins with a right tag 1 has four bytes at least.
 four : (file : List ℕ) → rightAt file 0 1 ≡ true → 4 ≤ length file

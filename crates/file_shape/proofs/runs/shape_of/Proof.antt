@@ -1,9 +1,9 @@
--- `grammar_file::shape::shape_of` meets its contract.
+-- `file_shape::runs::shape_of` meets its contract.
 use borrow.Author.Needs.{needs}
-use Rattle.grammar_file.proofs.shape.shape_of.Statement.{statement}
-use Rattle.grammar_file.proofs.shape.shape_of.Tie as tie
+use Rattle.file_shape.proofs.runs.shape_of.Statement.{statement}
+use Rattle.file_shape.proofs.runs.shape_of.Tie as tie
 use mathlib.Core.Path.{sym, _∙_}
-use Rattle.grammar_file.proofs.ShapeLaws.{shaped-framed, shaped-unframed}
+use Rattle.file_shape.proofs.ShapeLaws.{shaped-framed, shaped-unframed}
 
 returns : tie.Need-returns
 returns c =
