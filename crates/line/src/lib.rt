@@ -5,7 +5,7 @@ use columns::Start;
 use columns::Upper;
 use grammar_file::FileRead;
 use interpreter::Ran;
-use scanner::Scanned;
+use token_words::Scanned;
 use well_formed::Verdict;
 ghost use mathlib.Core.Path.{_≡_};
 ghost use lib.ListN.{length};
@@ -68,7 +68,7 @@ fn scanned(file: &[u8], report: &[u8], nodes: &[u16], rules: &[u16], node: u16, 
         ⌝ }
 {
     let mut tokens = [0u32; 16384];
-    let x = scanner::scan(file, report, &mut tokens);
+    let x = token_words::scan(file, report, &mut tokens);
     match x {
         Scanned::Refused(number) => Ran::Refused(number),
         Scanned::Tokens(count) => {

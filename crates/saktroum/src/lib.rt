@@ -4,7 +4,7 @@ use columns::Interval;
 use columns::Start;
 use columns::Upper;
 use grammar_file::FileRead;
-use scanner::Scanned;
+use token_words::Scanned;
 use well_formed::Verdict;
 ghost use mathlib.Core.Path.{_≡_};
 ghost use lib.ListN.{length};
@@ -72,7 +72,7 @@ pub extern "C" fn saktroum_scan(
         ≡ reported countWords (scanAnswer (now (file .entry)) (now (report .entry)) (length (now (tokens .entry))))
         (now (result .entry)) ⌝ }
 {
-    let x = scanner::scan(file, report, tokens);
+    let x = token_words::scan(file, report, tokens);
     match x {
         Scanned::Refused(n) => n as u32,
         Scanned::Tokens(count) => {

@@ -1,7 +1,4 @@
 pub mod ClassLaws
-pub mod PlaceLaws
-pub mod LoopLaws
-pub mod StepLaws
-pub mod HandedLaws
 pub mod KeywordLaws
-pub mod IndexLaws
+pub mod InsideLaws
+pub mod StepLaws

@@ -1,53 +1,41 @@
--- What a step and a whole scan answer, check by check.
-use Prim.Native.Nat.{ℕ, _*_, _/_, _≤_, _<_}
+-- What a step answers, check by check.
+use Prim.Native.Nat.{ℕ, _≤_, _<_}
 use mathlib.Core.Path.{_≡_, refl, sym, ap, ap₂, subst, _∙_}
-use mathlib.Core.Bool.{Bool, true, false, _||_, or-true}
-use mathlib.Core.List.{List, _++_}
+use mathlib.Core.Bool.{Bool, true, false, _||_}
+use mathlib.Core.List.{List}
 use mathlib.Core.Option.{Option·map}
-use lib.ListN.{length, drop, length-map}
-use Rattle.table.specs.Limits.{mostTokens}
-use Rattle.table.proofs.Words.{length-words}
+use lib.ListN.{length}
 use lib.Dec.{ltb}
 use native.Mathlib.Omega.{arith}
 use borrow.Author.Tests.{lt-ltb, le-ltb, ltb-false}
 use Rattle.table.proofs.Every.{both-false}
-use Rattle.table.specs.Answer.{Answer, given, refused, refusedAt, refuseIf, andThen, afterwards}
+use Rattle.table.specs.Answer.{Answer, given, refused, refusedAt, refuseIf, andThen}
 use Rattle.file_fields.specs.Offsets.{keywordsFrom}
 use Rattle.grammar_file.specs.File.{Contents, keywords, fieldsOf, fileAnswer, KeywordsStand, numbers as fileNumbers}
 use Rattle.grammar_file.specs.declared.FileRead.{FileRead}
 use Rattle.grammar_file.specs.declared.FileRead.the-variants.{Read, Refused as FileRefused}
 use Rattle.table.proofs.AnswerLaws.{first-refuses, first-passes}
-use Rattle.scanner.specs.Places.{places}
-use Rattle.scanner.specs.Tokens.{tokenOf, tokens, tokenWords, wordsOf}
-use Rattle.scanner.specs.Scan.{mostBytes, fails8, fails9, fails10, scanTokens, scanAnswer}
+use Rattle.scanner.specs.Tokens.{tokenOf}
+use Rattle.scanner.specs.Scan.{mostBytes, fails8}
 use Rattle.places.specs.Moves.{Position, nextIn, nextWithin, moveOf}
 use Rattle.scanner.specs.Steps.{stepFails8, stepFails9, stepAnswer, standing, numbers, positionOf}
 use Rattle.places.specs.InternalFind.{Room}
-use Rattle.scanner.specs.InternalFind.{Ready, HandsOut, Measured}
-use Rattle.scanner.specs.InternalChecks.{firstAnswer, Passed, Checks, refuses, passed}
+use Rattle.scanner.specs.InternalFind.{Ready, HandsOut}
+use Rattle.scanner.specs.FirstChecks.{firstAnswer, Passed, Checks, refuses, passed}
 use Rattle.scanner.specs.declared.Checked.{Checked}
 use Rattle.scanner.specs.declared.Checked.the-variants.{Keywords, Refused as NotChecked}
 use Rattle.scanner.specs.declared.Step.{Step}
 use Rattle.scanner.specs.declared.Handed.the-variants.{Refused}
-use Rattle.scanner.specs.declared.Tally.{Tally}
 use Rattle.places.specs.declared.Found.{Found}
 use Rattle.places.proofs.FindLaws.{with-room}
-use Rattle.scanner.proofs.LoopLaws.{lies-inside}
+use Rattle.scanner.proofs.InsideLaws.{found-inside}
 
 -- A report that number 8 passes is not over length.
 pub short-report : (text : List ℕ) → false ≡ fails8 text → length text ≤ mostBytes
 unfolding fails8
 short-report text e = ltb-false mostBytes (length text) (both-false (ltb mostBytes (length text)) _ (sym e) .0)
 
--- The checks that both begin with: what is answered behind them, and behind number 8 of a step.
-first-then :
-    {A : Type 0} (a : Answer Contents) (b : Bool) (next : Answer A)
-    → andThen (andThen a (refuseIf {A = Unit} b 8 (given tt))) next ≡ andThen a (refuseIf b 8 next)
-first-then (given x) true next = refl
-first-then (given x) false next = refl
-first-then (refused n) b next = refl
-first-then (refusedAt n node) b next = refl
-
+-- The checks that a step begins with, then its own number 8.
 step-then :
     {A : Type 0} (a : Answer Contents) (b x y : Bool) (next : Answer A)
     → andThen (andThen a (refuseIf {A = Unit} b 8 (given tt))) (refuseIf (x || y) 8 next) ≡ andThen a (refuseIf (b || x || y) 8 next)
@@ -88,11 +76,6 @@ module _ {file text : List ℕ} where
 
   pub refused-of : {o : Checked} {n : ℕ} → Checks file text o → o ≡ NotChecked n → refused n ≡ firstAnswer file text
   refused-of h told = on-refused (subst (Checks file text) told h)
-
--- Number 8 of a step passes.
-pub step-passes8 : (text : List ℕ) (p : Position) → fails8 text ≡ false → p .offset ≤ length text → p .column ≤ 524280 → stepFails8 text p ≡ false
-unfolding stepFails8
-step-passes8 text p e a b = rw (e, le-ltb (length text) (p .offset) a, le-ltb 524280 (p .column) b) refl
 
 -- One step.
 module _ (file text : List ℕ) (p : Position) where
@@ -144,7 +127,7 @@ module _ (file text : List ℕ) (p : Position) where
           step-9 e w = stays 9 e (found w)
 
           pub step-ready : Ready text k f
-          step-ready = record { few = h .few; short = h .short; inside = λ q. lies-inside text p step-room f z q }
+          step-ready = record { few = h .few; short = h .short; inside = λ q. found-inside text p a f v q }
 
           pub step-on : {s : Step} → HandsOut (keywordsFrom file k) text f s → false ≡ stepFails9 (moveOf f .found) → Right s
           step-on o w =
@@ -152,56 +135,3 @@ module _ (file text : List ℕ) (p : Position) where
                 token ∙ found w,
                 o .reached ∙ ap (λ m. m .reached) v ∙ ap (λ a. standing a text p) (sym token),
               )
-
--- A whole scan.
-module _ (file text : List ℕ) (lent : ℕ) where
-  pub scan-first : {o : Checked} {n : ℕ} → Checks file text o → o ≡ NotChecked n → refused n ≡ scanAnswer file text lent
-  unfolding scanAnswer firstAnswer
-  scan-first h told = first-refuses _ (refused-of h told) ∙ first-then (fileAnswer file) (fails8 text) _
-
-  many-tokens : mostTokens < length (places text) → fails10 text lent ≡ true
-  unfolding fails10
-  many-tokens h = ap (λ (b : Bool). b || ltb lent (length (places text) * 4)) (lt-ltb mostTokens (length (places text)) h)
-
-  few-words : lent / 4 < length (places text) → fails10 text lent ≡ true
-  unfolding fails10
-  few-words h =
-      ap (λ (b : Bool). ltb mostTokens (length (places text)) || b)
-      (lt-ltb lent (length (places text) * 4) (omega arith))
-      ∙ or-true (ltb mostTokens (length (places text)))
-
-  enough-words : length (places text) ≤ mostTokens → length (places text) ≤ lent / 4 → fails10 text lent ≡ false
-  unfolding fails10
-  enough-words h k = ap₂ _||_ (le-ltb mostTokens (length (places text)) h) (le-ltb lent (length (places text) * 4) (omega arith))
-
-  module _ {k : ℕ} (h : Passed file text k) {m : Tally} (d : Measured text m) where
-    -- The further checks, by what each says.
-    scan-by : (b c : Bool) → m .over ≡ b → fails10 text lent ≡ c → refuseIf b 9 (refuseIf c 10 (given (length (places text)))) ≡ scanAnswer file text lent
-    unfolding scanAnswer firstAnswer fails9
-    scan-by b c q r =
-        rw (← sym (d .over) ∙ q, ← r) (first-passes _ (h .passes) ∙ first-then (fileAnswer file) (fails8 text) _)
-
-    pub scan-9 : m .over ≡ true → refused 9 ≡ scanAnswer file text lent
-    scan-9 e = scan-by true _ e refl
-
-    module _ (e : m .over ≡ false) where
-      pub scan-many : mostTokens < m .count → refused 10 ≡ scanAnswer file text lent
-      scan-many w = scan-by false true e (many-tokens (rw (← d .count) w))
-
-      pub scan-short : lent / 4 < m .count → refused 10 ≡ scanAnswer file text lent
-      scan-short w = scan-by false true e (few-words (rw (← d .count) w))
-
-      pub scan-on : m .count ≤ mostTokens → m .count ≤ lent / 4 → given (m .count) ≡ scanAnswer file text lent
-      scan-on a b = ap given (d .count) ∙ scan-by false false e (enough-words (rw (← d .count) a) (rw (← d .count) b))
-
--- The lent words after a scan.
-pub words-after : (file text : List ℕ) (ks : List (List ℕ)) → keywords (fieldsOf file) ≡ ks → (old : List ℕ) {out : List ℕ} (n : ℕ)
-    → out ≡ wordsOf (tokens ks text) ++ drop (length (places text) * 4) old → out ≡ afterwards (given n) (wordsOf (scanTokens file text)) old
-unfolding tokens
-words-after file text ks q old n e =
-    e
-    ∙ ap (λ (k : ℕ). wordsOf (tokens ks text) ++ drop k old)
-    (sym
-    (length-words tokenWords (λ t. refl) (tokens ks text)
-    ∙ ap (λ (k : ℕ). k * 4) (length-map (places text) (tokenOf ks text))))
-    ∙ ap (λ (k : List (List ℕ)). wordsOf (tokens k text) ++ drop (length (wordsOf (tokens k text))) old) (sym q)

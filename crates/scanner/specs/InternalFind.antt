@@ -1,19 +1,16 @@
 -- What the scanner's private functions promise one another. No public promise rests on this file.
-use Prim.Native.Nat.{ℕ, _+_, _*_, _≤_}
+use Prim.Native.Nat.{ℕ, _+_, _≤_}
 use mathlib.Core.Path.{_≡_}
 use mathlib.Core.Bool.{true}
-use mathlib.Core.List.{List, _++_}
+use mathlib.Core.List.{List}
 use mathlib.Core.Option.{Option·map}
-use lib.ListN.{length, drop}
+use lib.ListN.{length}
 use Rattle.table.specs.Answer.{given}
 use Rattle.file_fields.specs.Offsets.{keywordsFrom}
 use Rattle.places.specs.Moves.{moveOf}
 use Rattle.places.specs.declared.Found.{Found}
-use Rattle.scanner.specs.Places.{places}
-use Rattle.scanner.specs.Tokens.{tokenOf, terminalAt, tokens, wordsOf}
-use Rattle.scanner.specs.Scan.{overColumn}
+use Rattle.scanner.specs.Tokens.{tokenOf, terminalAt}
 use Rattle.scanner.specs.Steps.{positionOf, numbers}
-use Rattle.scanner.specs.declared.Tally.{Tally}
 use Rattle.scanner.specs.declared.Step.{Step}
 
 -- The terminal of a place that was found, by the first keywords of a file.
@@ -29,11 +26,3 @@ pub record Ready (text : List ℕ) (keywords : ℕ) (f : Found) : Type 0 where
 pub record HandsOut (keywords : List (List ℕ)) (text : List ℕ) (f : Found) (s : Step) : Type 0 where
   pub token : numbers (s .handed) ≡ given (Option·map (tokenOf keywords text) (moveOf f .found))
   pub reached : positionOf s ≡ moveOf f .reached
-
-pub record Measured (text : List ℕ) (m : Tally) : Type 0 where
-  pub count : m .count ≡ length (places text)
-  pub over : m .over ≡ overColumn (places text)
-
--- The lent words behind a scan: those of the tokens, by the first keywords of a file, and the rest as before.
-abbrev pub written : List ℕ → ℕ → List ℕ → List ℕ → List ℕ
-written file count text old = wordsOf (tokens (keywordsFrom file count) text) ++ drop (length (places text) * 4) old

@@ -2,6 +2,5 @@ pub mod Places
 pub mod Tokens
 pub mod Scan
 pub mod Steps
+pub mod FirstChecks
 pub mod InternalFind
-pub mod InternalIndex
-pub mod InternalChecks

@@ -5,17 +5,15 @@ use mathlib.Core.List.{List, [], _∷_}
 use lib.ListN.{length, getD}
 use lib.Dec.{ltb}
 use Rattle.table.specs.Limits.{mostTokens, mostColumn}
-use Rattle.table.specs.Answer.{Answer, given, refused, refuseIf, andThen}
+use Rattle.table.specs.Answer.{Answer, given, refuseIf, andThen}
 use Rattle.table.specs.Every.{every}
 use Rattle.byte_class.specs.Bytes.{classOf}
 use Rattle.grammar_file.specs.File.{keywords, fieldsOf, fileAnswer}
 use Rattle.byte_class.specs.declared.Class.{Class}
-use Rattle.byte_class.specs.declared.Class.the-variants.{Break, Tab, Blank, Single, Digit, Run, Refused as RefusedByte}
+use Rattle.byte_class.specs.declared.Class.the-variants.{Break, Tab, Blank, Single, Digit, Run, Refused}
 use Rattle.places.specs.Places.{Place}
 use Rattle.scanner.specs.Places.{places}
 use Rattle.scanner.specs.Tokens.{Token, tokens}
-use Rattle.scanner.specs.declared.Scanned.{Scanned}
-use Rattle.scanner.specs.declared.Scanned.the-variants.{Tokens, Refused}
 
 -- "a report of at most 65,535 bytes"
 abbrev pub mostBytes : ℕ
@@ -28,7 +26,7 @@ refusedClass Blank = false
 refusedClass Single = false
 refusedClass Digit = false
 refusedClass Run = false
-refusedClass RefusedByte = true
+refusedClass Refused = true
 
 -- 8: "report over length or refused byte"
 unfoldable pub fails8 : List ℕ → Bool
@@ -58,8 +56,3 @@ scanAnswer file text lent =
     (refuseIf (fails9 text) 9
     (refuseIf (fails10 text lent) 10
     (given (length (places text))))))
-
--- 01's number and value for each case of `Scanned`.
-abbrev pub numbers : Scanned → Answer ℕ
-numbers (Tokens n) = given n
-numbers (Refused n) = refused n

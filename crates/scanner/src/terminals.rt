@@ -1,15 +1,13 @@
 // The terminal of a spelling: a keyword's, a number's or another's.
 ghost use mathlib.Core.Path.{_≡_};
-ghost use mathlib.Core.Bool.{cond};
 ghost use Prim.Native.Nat.{_+_, _≤_, _<_};
 ghost use lib.ListN.{length, drop};
 ghost use Rattle.file_fields.specs.Offsets.{keywordsFrom};
 ghost use Rattle.scanner.specs.Tokens.{isNumber, unsigned, terminalFrom, afterDigits};
-ghost use Rattle.scanner.specs.InternalIndex.{Indexed};
 use crate::classes::is_digit;
+use crate::no_keyword;
 use file_fields::next_at;
 use file_fields::value_at;
-use spellings::key;
 use spellings::same;
 
 // 3 + k where a spelling equals keyword k of count, else 0 for a number, else 1.
@@ -27,35 +25,6 @@ pub(crate) fn terminal(file: &[u8], count: usize, s: &[u8]) -> u32
         k += 1;
     }
     no_keyword(s)
-}
-
-// The same by an index of the keywords.
-pub(crate) fn indexed(
-    file: &[u8],
-    count: usize,
-    offsets: &[usize],
-    firsts: &[u8],
-    nexts: &[u8],
-    s: &[u8],
-) -> u32
-    requires { ⌜ Indexed (now file) count (now offsets) (now firsts) (now nexts) ⌝ }
-    ensures { λ r. ⌜ r ≡ terminalFrom 0 (keywordsFrom (now (file .entry)) count) (now (s .entry)) ⌝ }
-{
-    let mut k = firsts[key(s)] as usize;
-    while k < count {
-        if same(value_at(file, offsets[k]), s) {
-            return keyword_terminal(k);
-        }
-        k = nexts[k] as usize;
-    }
-    no_keyword(s)
-}
-
-// The terminal of a spelling that no keyword has.
-fn no_keyword(s: &[u8]) -> u32
-    ensures { λ r. ⌜ r ≡ cond (isNumber (now (s .entry))) 0 1 ⌝ }
-{
-    if number(s) { 0 } else { 1 }
 }
 
 fn keyword_terminal(k: usize) -> u32
@@ -85,7 +54,7 @@ fn digits_end(s: &[u8], from: usize) -> usize
 }
 
 // An optional minus, digits, optionally a point and digits.
-fn number(s: &[u8]) -> bool
+pub(crate) fn number(s: &[u8]) -> bool
     ensures { λ r. ⌜ r ≡ isNumber (now (s .entry)) ⌝ }
 {
     let from = minus(s);

@@ -10,7 +10,6 @@
 //   o  the same, where x counts down from the greatest offset
 //   c  the same, where y counts down from the greatest column
 use scanner::Handed;
-use scanner::Scanned;
 use scanner::Step;
 use slices::filled_32;
 use stored_cases::MOST_RECORDS;
@@ -22,6 +21,7 @@ use stored_cases::part;
 use stored_cases::show;
 use stored_cases::stored;
 use stored_cases::triple;
+use token_words::Scanned;
 ghost use mathlib.Core.Path.{_≡_};
 ghost use mathlib.Core.Bool.{false, _&&_};
 ghost use mathlib.Core.Logic.{_⊎_};
@@ -140,7 +140,7 @@ fn show_lent(file: &[u8], report: &[u8], tokens: &mut [u32], all: bool) {
 // the number of tokens, 0 where the scan was refused.
 fn show_scan(file: &[u8], report: &[u8], tokens: &mut [u32]) -> usize {
     mark_32(tokens, MARKER);
-    let count = show_scanned(scanner::scan(file, report, tokens));
+    let count = show_scanned(token_words::scan(file, report, tokens));
     show_tokens(tokens, count);
     if filled_32(tokens, least(count, MOST_HANDED) * 4, MARKER) {
         io::write_all(1, b" | kept");

@@ -6,7 +6,7 @@ use mathlib.Core.Path.{sym, ap, _∙_}
 use native.Mathlib.Omega.{arith}
 use lib.ListN.{length, replicate}
 use Rattle.line.proofs.PartLaws.{told, lent, scan-room, scan-front, scan-run, scan-refuses, scan-whole}
-use Rattle.scanner.specs.Scan.{numbers as scan-numbers}
+use Rattle.token_words.specs.Numbers.{numbers as scan-numbers}
 
 mul-words : tie.Need-mul-words
 mul-words c =

@@ -1,0 +1,5 @@
+pub mod PlaceLaws
+pub mod LoopLaws
+pub mod ScanLaws
+pub mod HandedLaws
+pub mod IndexLaws

@@ -1,0 +1,17 @@
+-- `token_words::indexed_at` meets its contract.
+use borrow.Author.Needs.{needs}
+use Rattle.token_words.proofs.indexed_at.Statement.{statement}
+use Rattle.token_words.proofs.indexed_at.Tie as tie
+use mathlib.Core.Path.{refl, _∙_}
+use Rattle.scanner.specs.Tokens.{terminalAt}
+
+returns : tie.Need-returns
+unfolding terminalAt
+returns c = rw (c .if1 .taken) refl
+
+returns-2 : tie.Need-returns-2
+unfolding terminalAt
+returns-2 c = c .indexed .ensures ∙ rw (c .before .before .if1 .left, c .before .bytes-at .ensures) refl
+
+pub indexed-at-spec : {M : Type 1} → statement M
+indexed-at-spec = tie.close (tie.spec returns (λ c κs. search needs) (λ c κs. search needs) returns-2)
