@@ -12,7 +12,7 @@ ghost use Rattle.scanner.specs.Places.{places};
 ghost use Rattle.scanner.specs.Tokens.{terminalFrom, wordsOf};
 ghost use Rattle.scanner.specs.Scan.{scanTokens, scanAnswer};
 ghost use Rattle.scanner.specs.InternalFind.{terminalOf};
-ghost use Rattle.token_words.specs.Numbers.{numbers};
+ghost use Rattle.token_words.specs.Numbers.{numbers as scanNumbers};
 ghost use Rattle.token_words.specs.InternalScan.{written, Measured};
 ghost use Rattle.token_words.specs.InternalIndex.{Indexed};
 use file_fields::value_at;
@@ -47,11 +47,11 @@ struct Tally {
 // Writes the tokens of a report by a grammar file's keywords, four words each.
 pub fn scan(file: &[u8], report: &[u8], tokens: &mut [u32]) -> Scanned
     ensures { λ r. ⌜
-        numbers r ≡ scanAnswer (now (file .entry)) (now (report .entry)) (length (now (tokens .entry)))
+        scanNumbers r ≡ scanAnswer (now (file .entry)) (now (report .entry)) (length (now (tokens .entry)))
         ⌝ }
     ensures { λ r. ⌜
         now (tokens .exit)
-        ≡ afterwards (numbers r) (wordsOf (scanTokens (now (file .entry)) (now (report .entry))))
+        ≡ afterwards (scanNumbers r) (wordsOf (scanTokens (now (file .entry)) (now (report .entry))))
         (now (tokens .entry))
         ⌝ }
 {
