@@ -10,7 +10,7 @@ use Rattle.table.specs.Every.{every}
 use Rattle.byte_class.specs.Bytes.{classOf}
 use Rattle.grammar_file.specs.File.{keywords, fieldsOf, fileAnswer}
 use Rattle.byte_class.specs.declared.Class.{Class}
-use Rattle.byte_class.specs.declared.Class.the-variants.{Break, Tab, Blank, Single, Digit, Run, Refused}
+use Rattle.byte_class.specs.declared.Class.the-variants.{Break, Tab, Blank, Single, Digit, Run, Refused as RefusedByte}
 use Rattle.places.specs.Places.{Place}
 use Rattle.scanner.specs.Places.{places}
 use Rattle.scanner.specs.Tokens.{Token, tokens}
@@ -26,7 +26,7 @@ refusedClass Blank = false
 refusedClass Single = false
 refusedClass Digit = false
 refusedClass Run = false
-refusedClass Refused = true
+refusedClass RefusedByte = true
 
 -- 8: "report over length or refused byte"
 unfoldable pub fails8 : List ℕ → Bool
