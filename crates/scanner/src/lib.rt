@@ -3,12 +3,11 @@ mod classes;
 mod terminals;
 
 ghost use mathlib.Core.Path.{_≡_};
-ghost use mathlib.Core.Bool.{true, cond};
+ghost use mathlib.Core.Bool.{true};
 ghost use Prim.Native.Nat.{_+_, _≤_};
 ghost use lib.ListN.{length, take, drop};
 ghost use Rattle.file_fields.specs.Offsets.{keywordsFrom};
 ghost use Rattle.places.specs.Moves.{position, moveOf};
-ghost use Rattle.scanner.specs.Tokens.{isNumber};
 ghost use Rattle.scanner.specs.Scan.{fails8};
 ghost use Rattle.scanner.specs.Steps.{stepFails9, stepAnswer, standing, positionOf};
 ghost use Rattle.scanner.specs.Steps.{numbers as stepNumbers};
@@ -19,7 +18,6 @@ use grammar_file::FileRead;
 use places::Found;
 use places::find;
 use table::refusals;
-use terminals::number;
 use terminals::terminal;
 
 // The most bytes of a report, and the last column of a step.
@@ -160,13 +158,6 @@ fn terminal_at(file: &[u8], keywords: usize, report: &[u8], f: Found) -> u32
         return 2;
     }
     terminal(file, keywords, bytes_at(report, f))
-}
-
-// The terminal of a spelling that no keyword has.
-pub fn no_keyword(s: &[u8]) -> u32
-    ensures { λ r. ⌜ r ≡ cond (isNumber (now (s .entry))) 0 1 ⌝ }
-{
-    if number(s) { 0 } else { 1 }
 }
 
 // The bytes of the token at a place.
