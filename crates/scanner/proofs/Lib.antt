@@ -1,4 +1,3 @@
-pub mod ClassLaws
 pub mod KeywordLaws
 pub mod InsideLaws
 pub mod StepLaws

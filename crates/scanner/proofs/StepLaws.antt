@@ -1,39 +1,32 @@
 -- What a step answers, check by check.
 use Prim.Native.Nat.{ℕ, _≤_, _<_}
-use mathlib.Core.Path.{_≡_, refl, sym, ap, ap₂, subst, _∙_}
+use mathlib.Core.Path.{_≡_, refl, sym, ap, ap₂, _∙_}
 use mathlib.Core.Bool.{Bool, true, false, _||_}
 use mathlib.Core.List.{List}
 use mathlib.Core.Option.{Option·map}
 use lib.ListN.{length}
 use lib.Dec.{ltb}
 use native.Mathlib.Omega.{arith}
-use borrow.Author.Tests.{lt-ltb, le-ltb, ltb-false}
-use Rattle.table.proofs.Every.{both-false}
+use borrow.Author.Tests.{lt-ltb, le-ltb}
 use Rattle.table.specs.Answer.{Answer, given, refused, refusedAt, refuseIf, andThen}
 use Rattle.file_fields.specs.Offsets.{keywordsFrom}
-use Rattle.grammar_file.specs.File.{Contents, keywords, fieldsOf, fileAnswer, KeywordsStand, numbers as fileNumbers}
-use Rattle.grammar_file.specs.declared.FileRead.{FileRead}
-use Rattle.grammar_file.specs.declared.FileRead.the-variants.{Read, Refused as FileRefused}
+use Rattle.grammar_file.specs.File.{Contents, keywords, fieldsOf, fileAnswer}
 use Rattle.table.proofs.AnswerLaws.{first-refuses, first-passes}
 use Rattle.scanner.specs.Tokens.{tokenOf}
-use Rattle.scanner.specs.Scan.{mostBytes, fails8}
+use Rattle.scanner.specs.Scan.{fails8}
 use Rattle.places.specs.Moves.{Position, nextIn, nextWithin, moveOf}
 use Rattle.scanner.specs.Steps.{stepFails8, stepFails9, stepAnswer, standing, numbers, positionOf}
 use Rattle.places.specs.InternalFind.{Room}
 use Rattle.scanner.specs.InternalFind.{Ready, HandsOut}
-use Rattle.scanner.specs.FirstChecks.{firstAnswer, Passed, Checks, refuses, passed}
-use Rattle.scanner.specs.declared.Checked.{Checked}
-use Rattle.scanner.specs.declared.Checked.the-variants.{Keywords, Refused as NotChecked}
+use Rattle.report_checks.specs.FirstChecks.{firstAnswer, Passed, Checks}
+use Rattle.report_checks.specs.declared.Checked.{Checked}
+use Rattle.report_checks.specs.declared.Checked.the-variants.{Refused as NotChecked}
+use Rattle.report_checks.proofs.CheckLaws.{refused-of}
 use Rattle.scanner.specs.declared.Step.{Step}
 use Rattle.scanner.specs.declared.Handed.the-variants.{Refused}
 use Rattle.places.specs.declared.Found.{Found}
 use Rattle.places.proofs.FindLaws.{with-room}
 use Rattle.scanner.proofs.InsideLaws.{found-inside}
-
--- A report that number 8 passes is not over length.
-pub short-report : (text : List ℕ) → false ≡ fails8 text → length text ≤ mostBytes
-unfolding fails8
-short-report text e = ltb-false mostBytes (length text) (both-false (ltb mostBytes (length text)) _ (sym e) .0)
 
 -- The checks that a step begins with, then its own number 8.
 step-then :
@@ -43,39 +36,6 @@ step-then (given c) true x y next = refl
 step-then (given c) false x y next = refl
 step-then (refused n) b x y next = refl
 step-then (refusedAt n node) b x y next = refl
-
--- What the file was read as, and what number 8 says of the report.
-module _ (file text : List ℕ) {r : FileRead} (e : fileNumbers r ≡ fileAnswer file) where
-  pub checks-file : {n : ℕ} → r ≡ FileRefused n → Checks file text (NotChecked n)
-  unfolding firstAnswer
-  checks-file told = refuses (first-refuses _ (ap fileNumbers (sym told) ∙ e))
-
-  module _ {n l k s m : ℕ} (told : r ≡ Read n l k s m) {b : Bool} (t : b ≡ fails8 text) where
-    behind : {v : Bool} → b ≡ v → refuseIf v 8 (given tt) ≡ firstAnswer file text
-    unfolding firstAnswer
-    behind w = ap (λ (v : Bool). refuseIf {A = Unit} v 8 (given tt)) (sym w ∙ t) ∙ first-passes _ (ap fileNumbers (sym told) ∙ e)
-
-    pub checks-8 : b ≡ true → Checks file text (NotChecked 8)
-    checks-8 w = refuses (behind w)
-
-    pub checks-on : KeywordsStand file r → b ≡ false → Checks file text (Keywords k)
-    checks-on s w =
-        let stand = subst (KeywordsStand file) told s in
-        passed (record { passes = behind w; stands = stand .0; few = stand .1; short = short-report text (sym w ∙ t) })
-
--- What the first checks came to.
-module _ {file text : List ℕ} where
-  on-passed : {k : ℕ} → Checks file text (Keywords k) → Passed file text k
-  on-passed (passed p) = p
-
-  on-refused : {n : ℕ} → Checks file text (NotChecked n) → refused n ≡ firstAnswer file text
-  on-refused (refuses e) = e
-
-  pub passed-of : {o : Checked} {k : ℕ} → Checks file text o → o ≡ Keywords k → Passed file text k
-  passed-of h told = on-passed (subst (Checks file text) told h)
-
-  pub refused-of : {o : Checked} {n : ℕ} → Checks file text o → o ≡ NotChecked n → refused n ≡ firstAnswer file text
-  refused-of h told = on-refused (subst (Checks file text) told h)
 
 -- One step.
 module _ (file text : List ℕ) (p : Position) where

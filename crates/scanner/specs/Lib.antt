@@ -2,5 +2,4 @@ pub mod Places
 pub mod Tokens
 pub mod Scan
 pub mod Steps
-pub mod FirstChecks
 pub mod InternalFind

@@ -1,36 +1,16 @@
 -- Numbers 8, 9 and 10, and what a whole scan answers (01, "The scanner" and "Turned-down calls").
 use Prim.Native.Nat.{ℕ, _*_}
-use mathlib.Core.Bool.{Bool, true, false, not, _||_}
+use mathlib.Core.Bool.{Bool, false, _||_}
 use mathlib.Core.List.{List, [], _∷_}
-use lib.ListN.{length, getD}
+use lib.ListN.{length}
 use lib.Dec.{ltb}
 use Rattle.table.specs.Limits.{mostTokens, mostColumn}
 use Rattle.table.specs.Answer.{Answer, given, refuseIf, andThen}
-use Rattle.table.specs.Every.{every}
-use Rattle.byte_class.specs.Bytes.{classOf}
 use Rattle.grammar_file.specs.File.{keywords, fieldsOf, fileAnswer}
-use Rattle.byte_class.specs.declared.Class.{Class}
-use Rattle.byte_class.specs.declared.Class.the-variants.{Break, Tab, Blank, Single, Digit, Run, Refused as RefusedByte}
+pub use Rattle.report_checks.specs.Report.{mostBytes, refusedClass, fails8}
 use Rattle.places.specs.Places.{Place}
 use Rattle.scanner.specs.Places.{places}
 use Rattle.scanner.specs.Tokens.{Token, tokens}
-
--- "a report of at most 65,535 bytes"
-abbrev pub mostBytes : ℕ
-mostBytes = 65535
-
-abbrev pub refusedClass : Class → Bool
-refusedClass Break = false
-refusedClass Tab = false
-refusedClass Blank = false
-refusedClass Single = false
-refusedClass Digit = false
-refusedClass Run = false
-refusedClass RefusedByte = true
-
--- 8: "report over length or refused byte"
-unfoldable pub fails8 : List ℕ → Bool
-fails8 text = ltb mostBytes (length text) || not (every (length text) (λ i. not (refusedClass (classOf (getD text i 0)))))
 
 -- 9: "a token's column over 65,535"
 unfoldable pub overColumn : List Place → Bool

@@ -1,30 +1,23 @@
 // The step of the report scanner: from a position in a report to its next token (numbers 1 to 5, 8 and 9).
-mod classes;
 mod terminals;
 
 ghost use mathlib.Core.Path.{_≡_};
-ghost use mathlib.Core.Bool.{true, cond};
+ghost use mathlib.Core.Bool.{true};
 ghost use Prim.Native.Nat.{_+_, _≤_};
 ghost use lib.ListN.{length, take, drop};
 ghost use Rattle.file_fields.specs.Offsets.{keywordsFrom};
 ghost use Rattle.places.specs.Moves.{position, moveOf};
-ghost use Rattle.scanner.specs.Tokens.{isNumber};
-ghost use Rattle.scanner.specs.Scan.{fails8};
 ghost use Rattle.scanner.specs.Steps.{stepFails9, stepAnswer, standing, positionOf};
 ghost use Rattle.scanner.specs.Steps.{numbers as stepNumbers};
-ghost use Rattle.scanner.specs.FirstChecks.{Checks};
 ghost use Rattle.scanner.specs.InternalFind.{terminalOf, Ready, HandsOut};
-use classes::is_refused;
-use grammar_file::FileRead;
 use places::Found;
 use places::find;
+use report_checks::Checked;
+use report_checks::first_checks;
 use table::refusals;
-use terminals::number;
 use terminals::terminal;
 
-// The most bytes of a report, and the last column of a step.
-const BYTES: usize = 65535;
-
+// The last column of a step.
 const LAST_STEP: u32 = 524280;
 
 // The last column of a token.
@@ -50,12 +43,6 @@ pub struct Step {
     pub mark: bool,
 }
 
-// How many keywords a grammar file has, or the number of the first check that fails.
-pub enum Checked {
-    Keywords(usize),
-    Refused(u8),
-}
-
 // The next token of a report from an offset, a column and a mark on, and the position behind it.
 pub fn next_token(file: &[u8], report: &[u8], at: usize, column: u32, mark: bool) -> Step
     ensures { λ r. ⌜
@@ -78,28 +65,6 @@ pub fn next_token(file: &[u8], report: &[u8], at: usize, column: u32, mark: bool
                 return stay(refusals::COLUMN, at, column, mark);
             }
             hand_out(file, keywords, report, f)
-        }
-    }
-}
-
-// 1 to 5 of a grammar file and 8 of a report.
-pub fn first_checks(file: &[u8], report: &[u8]) -> Checked
-    ensures { λ r. ⌜ Checks (now (file .entry)) (now (report .entry)) r ⌝ }
-{
-    let read = grammar_file::check(file);
-    match read {
-        FileRead::Refused(n) => Checked::Refused(n),
-        FileRead::Read {
-            nodes: _,
-            rules: _,
-            keywords,
-            start: _,
-            mode: _,
-        } => {
-            if refused(report) {
-                return Checked::Refused(refusals::REPORT);
-            }
-            Checked::Keywords(keywords)
         }
     }
 }
@@ -162,13 +127,6 @@ fn terminal_at(file: &[u8], keywords: usize, report: &[u8], f: Found) -> u32
     terminal(file, keywords, bytes_at(report, f))
 }
 
-// The terminal of a spelling that no keyword has.
-pub fn no_keyword(s: &[u8]) -> u32
-    ensures { λ r. ⌜ r ≡ cond (isNumber (now (s .entry))) 0 1 ⌝ }
-{
-    if number(s) { 0 } else { 1 }
-}
-
 // The bytes of the token at a place.
 fn bytes_at(report: &[u8], f: Found) -> &[u8]
     requires { ⌜ f .offset + f .length ≤ length (now report) ⌝ }
@@ -177,21 +135,4 @@ fn bytes_at(report: &[u8], f: Found) -> &[u8]
     let from = f.offset;
     let end = from + f.length;
     &report[from..end]
-}
-
-// Number 8 of a report.
-fn refused(report: &[u8]) -> bool
-    ensures { λ r. ⌜ r ≡ fails8 (now (report .entry)) ⌝ }
-{
-    if report.len() > BYTES {
-        return true;
-    }
-    let mut i = 0;
-    while i < report.len() {
-        if is_refused(report[i]) {
-            return true;
-        }
-        i += 1;
-    }
-    false
 }

@@ -22,7 +22,7 @@ use Rattle.places.specs.Moves.{Position, position, nextIn}
 use Rattle.scanner.specs.Steps.{stepFails8, stepFails9, stepAnswer, standing, handOn, handedOut}
 use Rattle.places.specs.InternalFind.{Room}
 use Rattle.token_words.proofs.PlaceLaws.{listed, placesFrom, onward, places-from}
-use Rattle.scanner.proofs.StepLaws.{short-report}
+use Rattle.report_checks.proofs.CheckLaws.{short-report}
 
 -- Number 8 of a step passes.
 step-passes8 : (text : List ℕ) (p : Position) → fails8 text ≡ false → p .offset ≤ length text → p .column ≤ 524280 → stepFails8 text p ≡ false

@@ -15,10 +15,10 @@ use Rattle.grammar_file.specs.File.{Contents, keywords, fieldsOf, fileAnswer}
 use Rattle.scanner.specs.Places.{places}
 use Rattle.scanner.specs.Tokens.{tokenOf, tokens, tokenWords, wordsOf}
 use Rattle.scanner.specs.Scan.{fails8, fails9, fails10, scanTokens, scanAnswer}
-use Rattle.scanner.specs.FirstChecks.{firstAnswer, Passed, Checks}
-use Rattle.scanner.specs.declared.Checked.{Checked}
-use Rattle.scanner.specs.declared.Checked.the-variants.{Refused as NotChecked}
-use Rattle.scanner.proofs.StepLaws.{refused-of}
+use Rattle.report_checks.specs.FirstChecks.{firstAnswer, Passed, Checks}
+use Rattle.report_checks.specs.declared.Checked.{Checked}
+use Rattle.report_checks.specs.declared.Checked.the-variants.{Refused as NotChecked}
+use Rattle.report_checks.proofs.CheckLaws.{refused-of}
 use Rattle.token_words.specs.InternalScan.{Measured}
 use Rattle.token_words.specs.declared.Tally.{Tally}
 

@@ -4,8 +4,9 @@ use Rattle.scanner.proofs.next_token.Statement.{statement}
 use Rattle.scanner.proofs.next_token.Tie as tie
 use mathlib.Core.Path.{sym, _∙_}
 use Rattle.places.specs.Moves.{Position, position}
-use Rattle.scanner.specs.FirstChecks.{Passed}
-use Rattle.scanner.proofs.StepLaws.{passed-of, step-first, step-offset, step-column, step-9, step-ready, step-on}
+use Rattle.report_checks.specs.FirstChecks.{Passed}
+use Rattle.report_checks.proofs.CheckLaws.{passed-of}
+use Rattle.scanner.proofs.StepLaws.{step-first, step-offset, step-column, step-9, step-ready, step-on}
 
 -- Where the first checks passed: the position that the step begins at, and what they give.
 abbrev from : tie.After-first2 → Position

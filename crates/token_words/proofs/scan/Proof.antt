@@ -5,8 +5,8 @@ use Rattle.token_words.proofs.scan.Tie as tie
 use native.Mathlib.Omega.{arith}
 use mathlib.Core.Path.{refl}
 use Rattle.file_fields.specs.Offsets.{keywordsFrom}
-use Rattle.scanner.specs.FirstChecks.{Passed}
-use Rattle.scanner.proofs.StepLaws.{passed-of}
+use Rattle.report_checks.specs.FirstChecks.{Passed}
+use Rattle.report_checks.proofs.CheckLaws.{passed-of}
 use Rattle.token_words.proofs.ScanLaws.{scan-first, scan-9, scan-many, scan-short, scan-on, words-after}
 
 -- What the first checks give where they passed.

@@ -1,4 +1,4 @@
--- `scanner::refused` meets its contract. The loop's invariant: none of the bytes before `i` is refused.
+-- `report_checks::refused` meets its contract. The loop's invariant: none of the bytes before `i` is refused.
 use Prim.Native.Nat.{_-_, _≤_}
 use mathlib.Core.Path.{_≡_, refl, sym, ap, ap₂, _∙_}
 use mathlib.Core.Bool.{true, not, _||_}
@@ -8,9 +8,9 @@ use lib.ListN.{length, getD}
 use Rattle.table.specs.Every.{every}
 use Rattle.table.proofs.Every.{every-more, every-fails}
 use Rattle.byte_class.specs.Bytes.{classOf}
-use Rattle.scanner.specs.Scan.{refusedClass, fails8}
-use Rattle.scanner.proofs.refused.Statement.{statement}
-use Rattle.scanner.proofs.refused.Tie as tie
+use Rattle.report_checks.specs.Report.{refusedClass, fails8}
+use Rattle.report_checks.proofs.refused.Statement.{statement}
+use Rattle.report_checks.proofs.refused.Tie as tie
 
 abbrev Inv-loop : tie.InvT-loop
 Inv-loop report i₀ i = (i ≤ length report) × (every i (λ k. not (refusedClass (classOf (getD report k 0)))) ≡ true)

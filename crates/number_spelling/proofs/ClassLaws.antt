@@ -1,4 +1,4 @@
--- The classes of digits and of refused bytes, for `search classes` at each arm of a match on a class.
+-- The class of digits, for `search classes` at each arm of a match on a class.
 use Prim.Native.Nat.{ℕ}
 use mathlib.Core.Path.{_≡_, refl, ap, _∙_}
 use mathlib.Core.Bool.{Bool, false}
@@ -8,8 +8,7 @@ use types.Run.{miss}
 use Rattle.byte_class.specs.Bytes.{classOf}
 use Rattle.byte_class.specs.declared.Class.{Class}
 use Rattle.places.proofs.ClassLaws.{Others, each-class, by-class}
-use Rattle.scanner.specs.Tokens.{digitClass, isDigit}
-use Rattle.scanner.specs.Scan.{refusedClass}
+use Rattle.number_spelling.specs.Number.{digitClass, isDigit}
 
 pub digit-others : (b : ℕ) {r : Class} → r ≡ classOf b → Others (0 ∷ 1 ∷ 2 ∷ 3 ∷ 5 ∷ 6 ∷ []) r → false ≡ isDigit b
 unfolding isDigit
@@ -18,18 +17,9 @@ digit-others b {r} e q =
     (λ _. refl) (λ h. absurd (miss (0 ∷ 1 ∷ 2 ∷ 3 ∷ 5 ∷ 6 ∷ []) 4 tt h)) (λ _. refl) (λ _. refl) r q
     ∙ ap digitClass e
 
-pub refused-others : (b : ℕ) {r : Class} → r ≡ classOf b → Others (0 ∷ 1 ∷ 2 ∷ 3 ∷ 4 ∷ 5 ∷ []) r → false ≡ refusedClass (classOf b)
-refused-others b {r} e q =
-    each-class (λ k. Others (0 ∷ 1 ∷ 2 ∷ 3 ∷ 4 ∷ 5 ∷ []) k → false ≡ refusedClass k) (λ _. refl) (λ _. refl) (λ _. refl)
-    (λ _. refl) (λ _. refl) (λ _. refl) (λ h. absurd (miss (0 ∷ 1 ∷ 2 ∷ 3 ∷ 4 ∷ 5 ∷ []) 6 tt h)) r q
-    ∙ ap refusedClass e
-
 module _ (b : ℕ) {r k : Class} (e : r ≡ classOf b) (told : r ≡ k) where
   pub digit-class : {v : Bool} → digitClass k ≡ v → v ≡ isDigit b
   unfolding isDigit
   digit-class w = by-class b e told digitClass w
 
-  pub refused-class : {v : Bool} → refusedClass k ≡ v → v ≡ refusedClass (classOf b)
-  refused-class w = by-class b e told refusedClass w
-
-pub ruleset classes = (needs, digit-class, refused-class)
+pub ruleset classes = (needs, digit-class)

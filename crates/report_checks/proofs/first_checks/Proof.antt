@@ -1,8 +1,8 @@
--- `scanner::first_checks` meets its contract.
+-- `report_checks::first_checks` meets its contract.
 use borrow.Author.Needs.{needs}
-use Rattle.scanner.proofs.first_checks.Statement.{statement}
-use Rattle.scanner.proofs.first_checks.Tie as tie
-use Rattle.scanner.proofs.StepLaws.{checks-file, checks-8, checks-on}
+use Rattle.report_checks.proofs.first_checks.Statement.{statement}
+use Rattle.report_checks.proofs.first_checks.Tie as tie
+use Rattle.report_checks.proofs.CheckLaws.{checks-file, checks-8, checks-on}
 
 returns : tie.Need-returns
 returns c =

@@ -1,4 +1,4 @@
--- `scanner::terminals::minus` meets its contract.
+-- `number_spelling::minus` meets its contract.
 use Prim.Native.Nat.{ℕ, _<_}
 use mathlib.Core.Path.{_≡_, refl}
 use mathlib.Core.List.{List, [], _∷_}
@@ -6,9 +6,9 @@ use native.Mathlib.Omega.{arith}
 use borrow.Author.Needs.{needs}
 use borrow.Author.Tests.{eq-eqb, ne-eqb}
 use lib.ListN.{length, getD, drop, List·getD-eq-default}
-use Rattle.scanner.specs.Tokens.{unsigned}
-use Rattle.scanner.proofs.terminals.minus.Statement.{statement}
-use Rattle.scanner.proofs.terminals.minus.Tie as tie
+use Rattle.number_spelling.specs.Number.{unsigned}
+use Rattle.number_spelling.proofs.minus.Statement.{statement}
+use Rattle.number_spelling.proofs.minus.Tie as tie
 
 -- A minus is left out.
 signed : (s : List ℕ) → 0 < length s → getD s 0 0 ≡ 45 → drop 1 s ≡ unsigned s

@@ -1,7 +1,7 @@
--- `scanner::no_keyword` meets its contract.
+-- `number_spelling::no_keyword` meets its contract.
 use borrow.Author.Needs.{needs}
-use Rattle.scanner.proofs.no_keyword.Statement.{statement}
-use Rattle.scanner.proofs.no_keyword.Tie as tie
+use Rattle.number_spelling.proofs.no_keyword.Statement.{statement}
+use Rattle.number_spelling.proofs.no_keyword.Tie as tie
 use mathlib.Core.Path.{refl}
 
 number-requires : tie.Need-number-requires

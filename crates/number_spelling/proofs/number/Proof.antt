@@ -1,4 +1,4 @@
--- `scanner::terminals::number` meets its contract.
+-- `number_spelling::number` meets its contract.
 use Prim.Native.Nat.{ℕ, suc, _+_, _≤_, _<_}
 use mathlib.Core.Path.{_≡_, refl, sym, ap, _∙_}
 use mathlib.Core.Bool.{Bool, true, false, cond, _&&_}
@@ -12,9 +12,9 @@ use borrow.Author.Tests.{eq-eqb, ne-eqb}
 use lib.ListN.{length, getD, drop, length-drop, drop-of-length-le}
 use lib.Seq.{drop-cons}
 use lib.Dec.{eqb}
-use Rattle.scanner.specs.Tokens.{isDigit, afterDigits, digitFirst, isEmpty, fraction, unsigned, isNumber}
-use Rattle.scanner.proofs.terminals.number.Statement.{statement}
-use Rattle.scanner.proofs.terminals.number.Tie as tie
+use Rattle.number_spelling.specs.Number.{isDigit, afterDigits, digitFirst, isEmpty, fraction, unsigned, isNumber}
+use Rattle.number_spelling.proofs.number.Statement.{statement}
+use Rattle.number_spelling.proofs.number.Tie as tie
 
 -- What is left behind the digits is no longer than the whole.
 no-longer : (l : List ℕ) → length (afterDigits l) ≤ length l

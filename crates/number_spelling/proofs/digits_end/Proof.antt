@@ -1,4 +1,4 @@
--- `scanner::terminals::digits_end` meets its contract. The loop's invariant: what is left behind the digits from
+-- `number_spelling::digits_end` meets its contract. The loop's invariant: what is left behind the digits from
 -- `from` on is what is left behind those from `i` on.
 use Prim.Native.Nat.{ℕ, _+_, _-_, _≤_, _<_}
 use mathlib.Core.Path.{_≡_, refl, sym, _∙_}
@@ -9,9 +9,9 @@ use native.Mathlib.Numerals.{add-one}
 use borrow.Author.Tests.{not-true, not-false}
 use lib.ListN.{length, getD, drop, drop-of-length-le}
 use lib.Seq.{drop-cons}
-use Rattle.scanner.specs.Tokens.{isDigit, afterDigits}
-use Rattle.scanner.proofs.terminals.digits_end.Statement.{statement}
-use Rattle.scanner.proofs.terminals.digits_end.Tie as tie
+use Rattle.number_spelling.specs.Number.{isDigit, afterDigits}
+use Rattle.number_spelling.proofs.digits_end.Statement.{statement}
+use Rattle.number_spelling.proofs.digits_end.Tie as tie
 
 -- A byte that is no digit ends the digits.
 stop : (s : List ℕ) (i : ℕ) → i < length s → isDigit (getD s i 0) ≡ false → afterDigits (drop i s) ≡ drop i s

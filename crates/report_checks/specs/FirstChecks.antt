@@ -6,9 +6,9 @@ use lib.ListN.{length}
 use Rattle.table.specs.Answer.{Answer, given, refused, refuseIf, andThen}
 use Rattle.file_fields.specs.Offsets.{keywordsFrom}
 use Rattle.grammar_file.specs.File.{keywords, fieldsOf, fileAnswer}
-use Rattle.scanner.specs.Scan.{fails8}
-use Rattle.scanner.specs.declared.Checked.{Checked}
-use Rattle.scanner.specs.declared.Checked.the-variants.{Keywords, Refused}
+use Rattle.report_checks.specs.Report.{fails8}
+use Rattle.report_checks.specs.declared.Checked.{Checked}
+use Rattle.report_checks.specs.declared.Checked.the-variants.{Keywords, Refused}
 
 unfoldable pub firstAnswer : List ℕ → List ℕ → Answer Unit
 firstAnswer file text = andThen (fileAnswer file) (refuseIf (fails8 text) 8 (given tt))
