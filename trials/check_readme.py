@@ -1,0 +1,67 @@
+#!/usr/bin/env python3
+"""Tries the first page of README.md: its report and its rules are those of examples/, the builder builds the grammar file
+that stands there, and the program prints what the page says of both reports.
+
+    python3 trials/check_readme.py target/bin/reader
+"""
+
+import pathlib
+import re
+import subprocess
+import sys
+import tempfile
+
+ROOT = pathlib.Path(__file__).resolve().parent.parent
+EXAMPLES = ROOT / "examples"
+
+
+def blocks(text):
+    """The blocks of a page: lines behind four blanks."""
+    found = re.findall(r"(?:^    .*\n)+", text, re.MULTILINE)
+    return [re.sub(r"^    ", "", block, flags=re.MULTILINE) for block in found]
+
+
+def rules(grammar):
+    """The rules of a grammar in words, each on one line with single blanks."""
+    lines = [line for line in grammar.splitlines() if not line.startswith("#")]
+    found = re.findall(r"^\w+ *=.*(?:\n +\S.*)*", "\n".join(lines), re.MULTILINE)
+    return [" ".join(rule.split()) for rule in found]
+
+
+def printed(reader, report):
+    """What the program prints of a report, where the examples stand."""
+    with open(EXAMPLES / report, "rb") as text:
+        return subprocess.run([reader], cwd=EXAMPLES, stdin=text, stdout=subprocess.PIPE, check=True).stdout.decode()
+
+
+def built():
+    """The grammar file that the builder builds from the example."""
+    with tempfile.TemporaryDirectory() as name:
+        file = pathlib.Path(name) / "grammar.bin"
+        build = [sys.executable, ROOT / "tools/build.py", EXAMPLES / "splices.grammar", file]
+        subprocess.run(build, check=True, stdout=subprocess.DEVNULL)
+        return file.read_bytes()
+
+
+def main():
+    if len(sys.argv) != 2:
+        sys.exit("usage: check_readme.py READER")
+    reader = pathlib.Path(sys.argv[1]).resolve()
+    text = (ROOT / "README.md").read_text(encoding="utf-8")
+    report, grammar, _, _, answer = blocks(text)[:5]
+    told = re.search(r"With `misplaced\.txt`.*?it prints `(\w+)`", text)
+    compared = {
+        "its report": (report, (EXAMPLES / "report.txt").read_text(encoding="utf-8")),
+        "its rules": (rules(grammar), rules((EXAMPLES / "splices.grammar").read_text(encoding="utf-8"))),
+        "examples/grammar.bin": ((EXAMPLES / "grammar.bin").read_bytes(), built()),
+        "the answer to report.txt": (answer, printed(reader, "report.txt")),
+        "the answer to misplaced.txt": (told and told[1] + "\n", printed(reader, "misplaced.txt")),
+    }
+    for name, (written, found) in compared.items():
+        if written != found:
+            sys.exit(f"README.md: {name} differs:\n{written!r}\n{found!r}")
+    print(f"README.md: {len(rules(grammar))} rules, {answer}", end="")
+
+
+if __name__ == "__main__":
+    main()
