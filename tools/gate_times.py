@@ -3,8 +3,9 @@
 
     bash .ci/run | tee LOG; python3 tools/gate_times.py LOG
 
-For each crate the seconds of its check, its must-fail edits, their seconds and the longest of them. These are seconds of
-single checks; two run at a time, so the whole run takes about half their sum. With `--edits` a line for each edit too.
+For each crate the seconds of its check, its must-fail edits, their seconds and the longest of them. Several checks run at
+a time (`RT_JOBS`), so each takes longer than alone, and the whole run takes less than their sum. With `--edits` a line for
+each crate's edits too.
 """
 
 import collections
@@ -46,7 +47,7 @@ def main():
     print("\n".join(table(checks, edits)))
     if "--edits" in sys.argv:
         for crate in filter(edits.get, list(edits)):
-            print("\n" + crate + ": " + ", ".join(f"{name} {seconds}" for name, seconds in edits[crate].items()))
+            print(f"- `{crate}`: " + ", ".join(f"{name} {seconds}" for name, seconds in edits[crate].items()))
 
 
 if __name__ == "__main__":
