@@ -9,7 +9,7 @@ nothing, may succeed reading something, may fail. X, Y and Z are rules, a and b 
 
 import faults
 from records import Cases, Payloads, wide
-from table_nodes import EMPTY, align, choice, flat, indent, not_, over, position, repeat, rule, seq, terminal
+from table_nodes import EMPTY, align, choice, flat, indent, not_, over, position, repeat, rule, sequence, terminal
 
 CASES = Cases("well_formed_cases")
 BEFORE = Payloads()
@@ -74,7 +74,7 @@ def moved(nodes, by):
 # "j. Check: repeat of empty .. repeat of not-empty .. bad at node 3."
 bad("case j, repeat of empty", 1, [EMPTY, repeat(0)])
 passes("case j, repeat of not-empty", [EMPTY, not_(0), repeat(1)])
-bad("case j, X = (a / empty) X", 3, [A, EMPTY, choice(0, 1), rule(0), seq(2, 3)], [4])
+bad("case j, X = (a / empty) X", 3, [A, EMPTY, choice(0, 1), rule(0), sequence(2, 3)], [4])
 
 # The column "small input", rows 3, 4, 5 and 7.
 refused("small 3, no node", 3, [])
@@ -166,7 +166,7 @@ refused("kind 10 as node 511", 4, [EMPTY] * 511 + [(10, 0, 0, 0)])
 refused("kind 10 as node 0 of 512", 4, [(10, 0, 0, 0)] + [EMPTY] * 511)
 passes("align of 510 as node 511", [EMPTY] * 511 + [align(510)])
 refused("align of 511 as node 511", 4, [EMPTY] * 511 + [align(511)])
-refused("sequence of 0 and 511 as node 511", 4, [EMPTY] * 511 + [seq(0, 511)])
+refused("sequence of 0 and 511 as node 511", 4, [EMPTY] * 511 + [sequence(0, 511)])
 refused("indent of relation 4 as node 511", 4, [EMPTY] * 511 + [indent(0, 4)])
 
 
@@ -275,13 +275,13 @@ passes("(align a)*", [A, align(0), repeat(1)])
 bad("X = empty, X*", 2, [EMPTY, rule(0), repeat(1)], [0])
 passes("X = a, X*", [A, rule(0), repeat(1)], [0])
 # "Sequence: nothing if both".
-bad("(empty empty)*", 2, [EMPTY, seq(0, 0), repeat(1)])
-passes("(empty a)*", [EMPTY, A, seq(0, 1), repeat(2)])
-passes("(a empty)*", [EMPTY, A, seq(1, 0), repeat(2)])
-passes("(a a)*", [A, seq(0, 0), repeat(1)])
-bad("(a* a*)*", 3, [A, repeat(0), seq(1, 1), repeat(2)])
-passes("(a* a)*", [A, repeat(0), seq(1, 0), repeat(2)])
-passes("(a a*)*", [A, repeat(0), seq(0, 1), repeat(2)])
+bad("(empty empty)*", 2, [EMPTY, sequence(0, 0), repeat(1)])
+passes("(empty a)*", [EMPTY, A, sequence(0, 1), repeat(2)])
+passes("(a empty)*", [EMPTY, A, sequence(1, 0), repeat(2)])
+passes("(a a)*", [A, sequence(0, 0), repeat(1)])
+bad("(a* a*)*", 3, [A, repeat(0), sequence(1, 1), repeat(2)])
+passes("(a* a)*", [A, repeat(0), sequence(1, 0), repeat(2)])
+passes("(a a*)*", [A, repeat(0), sequence(0, 1), repeat(2)])
 # "Choice: a's successes, and if a may fail all of b's facts."
 bad("(a / empty)*", 3, [A, EMPTY, choice(0, 1), repeat(2)])
 bad("(empty / a)*", 3, [A, EMPTY, choice(1, 0), repeat(2)])
@@ -290,7 +290,7 @@ passes("(not empty / a)*", [EMPTY, A, not_(0), choice(2, 1), repeat(3)])
 bad("(not empty / empty)*", 3, [EMPTY, not_(0), choice(1, 0), repeat(2)])
 # empty / b and a* / b may not fail, as a may not, so b's "may fail" does not count.
 passes("(not (empty / b))*", [EMPTY, B, choice(0, 1), not_(2), repeat(3)])
-bad("(not (b / empty b))*", 5, [EMPTY, B, seq(0, 1), choice(1, 2), not_(3), repeat(4)])
+bad("(not (b / empty b))*", 5, [EMPTY, B, sequence(0, 1), choice(1, 2), not_(3), repeat(4)])
 passes("(not (a* / b))*", [A, B, repeat(0), choice(2, 1), not_(3), repeat(4)])
 passes("(not (a* / empty))*", [A, EMPTY, repeat(0), choice(2, 1), not_(3), repeat(4)])
 bad("(a* / empty)*", 4, [A, EMPTY, repeat(0), choice(2, 1), repeat(3)])
@@ -305,40 +305,40 @@ bad("((empty)*)*", 1, [EMPTY, repeat(0), repeat(1)])
 
 # "a sequence whose a is, and b too .."; "Well formed is also least". A rule that comes back to itself
 # with nothing read has no ground to stand on.
-bad("X = X a", 1, [A, rule(0), seq(1, 0)], [2])
-passes("X = a X", [A, rule(0), seq(0, 1)], [2])
-passes("X = a X b", [A, B, rule(0), seq(2, 1), seq(0, 3)], [4])
-bad("X = empty X", 1, [EMPTY, rule(0), seq(0, 1)], [2])
-bad("X = X empty", 1, [EMPTY, rule(0), seq(1, 0)], [2])
-bad("X = X X", 0, [rule(0), seq(0, 0)], [1])
-passes("X = a (X X)", [A, rule(0), seq(1, 1), seq(0, 2)], [3])
-bad("X = (X X) a", 1, [A, rule(0), seq(1, 1), seq(2, 0)], [3])
-bad("X = a* X", 2, [A, repeat(0), rule(0), seq(1, 2)], [3])
-bad("X = (not a) X", 2, [A, not_(0), rule(0), seq(1, 2)], [3])
+bad("X = X a", 1, [A, rule(0), sequence(1, 0)], [2])
+passes("X = a X", [A, rule(0), sequence(0, 1)], [2])
+passes("X = a X b", [A, B, rule(0), sequence(2, 1), sequence(0, 3)], [4])
+bad("X = empty X", 1, [EMPTY, rule(0), sequence(0, 1)], [2])
+bad("X = X empty", 1, [EMPTY, rule(0), sequence(1, 0)], [2])
+bad("X = X X", 0, [rule(0), sequence(0, 0)], [1])
+passes("X = a (X X)", [A, rule(0), sequence(1, 1), sequence(0, 2)], [3])
+bad("X = (X X) a", 1, [A, rule(0), sequence(1, 1), sequence(2, 0)], [3])
+bad("X = a* X", 2, [A, repeat(0), rule(0), sequence(1, 2)], [3])
+bad("X = (not a) X", 2, [A, not_(0), rule(0), sequence(1, 2)], [3])
 # Not empty may not succeed at all, so what stands behind it is not asked.
-passes("X = (not empty) X", [EMPTY, not_(0), rule(0), seq(1, 2)], [3])
-bad("X = (not not a) X", 3, [A, not_(0), not_(1), rule(0), seq(2, 3)], [4])
-bad("X = (not not empty) X", 3, [EMPTY, not_(0), not_(1), rule(0), seq(2, 3)], [4])
-passes("X = (not a*) X", [A, repeat(0), not_(1), rule(0), seq(2, 3)], [4])
-bad("X = (empty / a) X", 3, [EMPTY, A, choice(0, 1), rule(0), seq(2, 3)], [4])
-passes("X = (a / b) X", [A, B, choice(0, 1), rule(0), seq(2, 3)], [4])
-bad("X = (a / b*) X", 4, [A, B, repeat(1), choice(0, 2), rule(0), seq(3, 4)], [5])
-passes("X = (not empty / a) X", [EMPTY, A, not_(0), choice(2, 1), rule(0), seq(3, 4)], [5])
-bad("X = (not empty / empty) X", 3, [EMPTY, not_(0), choice(1, 0), rule(0), seq(2, 3)], [4])
-passes("X = (a* b) X", [A, B, repeat(0), seq(2, 1), rule(0), seq(3, 4)], [5])
-bad("X = (a* b*) X", 5, [A, B, repeat(0), repeat(1), seq(2, 3), rule(0), seq(4, 5)], [6])
+passes("X = (not empty) X", [EMPTY, not_(0), rule(0), sequence(1, 2)], [3])
+bad("X = (not not a) X", 3, [A, not_(0), not_(1), rule(0), sequence(2, 3)], [4])
+bad("X = (not not empty) X", 3, [EMPTY, not_(0), not_(1), rule(0), sequence(2, 3)], [4])
+passes("X = (not a*) X", [A, repeat(0), not_(1), rule(0), sequence(2, 3)], [4])
+bad("X = (empty / a) X", 3, [EMPTY, A, choice(0, 1), rule(0), sequence(2, 3)], [4])
+passes("X = (a / b) X", [A, B, choice(0, 1), rule(0), sequence(2, 3)], [4])
+bad("X = (a / b*) X", 4, [A, B, repeat(1), choice(0, 2), rule(0), sequence(3, 4)], [5])
+passes("X = (not empty / a) X", [EMPTY, A, not_(0), choice(2, 1), rule(0), sequence(3, 4)], [5])
+bad("X = (not empty / empty) X", 3, [EMPTY, not_(0), choice(1, 0), rule(0), sequence(2, 3)], [4])
+passes("X = (a* b) X", [A, B, repeat(0), sequence(2, 1), rule(0), sequence(3, 4)], [5])
+bad("X = (a* b*) X", 5, [A, B, repeat(0), repeat(1), sequence(2, 3), rule(0), sequence(4, 5)], [6])
 # Bracketed the other way: a* (b X) has b before X.
-passes("X = a* (b X)", [A, B, repeat(0), rule(0), seq(1, 3), seq(2, 4)], [5])
-bad("X = a* (b* X)", 4, [A, B, repeat(0), repeat(1), rule(0), seq(3, 4), seq(2, 5)], [6])
+passes("X = a* (b X)", [A, B, repeat(0), rule(0), sequence(1, 3), sequence(2, 4)], [5])
+bad("X = a* (b* X)", 4, [A, B, repeat(0), repeat(1), rule(0), sequence(3, 4), sequence(2, 5)], [6])
 # "a choice of two": both, whatever a's facts are.
 bad("X = X / a", 1, [A, rule(0), choice(1, 0)], [2])
 bad("X = a / X", 1, [A, rule(0), choice(0, 1)], [2])
 bad("X = empty / X", 1, [EMPTY, rule(0), choice(0, 1)], [2])
 bad("X = X / X", 0, [rule(0), choice(0, 0)], [1])
-passes("X = a X / empty", [A, rule(0), seq(0, 1), EMPTY, choice(2, 3)], [4])
-passes("X = empty / a X", [EMPTY, A, rule(0), seq(1, 2), choice(0, 3)], [4])
-bad("X = a X / X b", 2, [A, B, rule(0), seq(0, 2), seq(2, 1), choice(3, 4)], [5])
-bad("X = X a / b", 2, [A, B, rule(0), seq(2, 0), choice(3, 1)], [4])
+passes("X = a X / empty", [A, rule(0), sequence(0, 1), EMPTY, choice(2, 3)], [4])
+passes("X = empty / a X", [EMPTY, A, rule(0), sequence(1, 2), choice(0, 3)], [4])
+bad("X = a X / X b", 2, [A, B, rule(0), sequence(0, 2), sequence(2, 1), choice(3, 4)], [5])
+bad("X = X a / b", 2, [A, B, rule(0), sequence(2, 0), choice(3, 1)], [4])
 # "else the child": not, indent, position, align and rule; a repeat asks for its child too.
 bad("X = not X", 0, [rule(0), not_(0)], [1])
 bad("X = X*", 0, [rule(0), repeat(0)], [1])
@@ -346,28 +346,28 @@ bad("X = align X", 0, [rule(0), align(0)], [1])
 for relation in (0, 1, 2, 3):
     bad(f"X = indent {relation} X", 0, [rule(0), indent(0, relation)], [1])
     bad(f"X = position {relation} X", 0, [rule(0), position(0, relation)], [1])
-bad("X = (not X) a", 1, [A, rule(0), not_(1), seq(2, 0)], [3])
-bad("X = X* a", 1, [A, rule(0), repeat(1), seq(2, 0)], [3])
+bad("X = (not X) a", 1, [A, rule(0), not_(1), sequence(2, 0)], [3])
+bad("X = X* a", 1, [A, rule(0), repeat(1), sequence(2, 0)], [3])
 for said, form in FORMS:
-    bad(f"X = ({said} X) a", 1, [A, rule(0), form(1), seq(2, 0)], [3])
-passes("X = a (not X)", [A, rule(0), not_(1), seq(0, 2)], [3])
+    bad(f"X = ({said} X) a", 1, [A, rule(0), form(1), sequence(2, 0)], [3])
+passes("X = a (not X)", [A, rule(0), not_(1), sequence(0, 2)], [3])
 # a X* : X may fail and reads something where it succeeds, so the repeat stands.
-passes("X = a X*", [A, rule(0), repeat(1), seq(0, 2)], [3])
+passes("X = a X*", [A, rule(0), repeat(1), sequence(0, 2)], [3])
 for said, form in FORMS:
-    passes(f"X = a ({said} X)", [A, rule(0), form(1), seq(0, 2)], [3])
+    passes(f"X = a ({said} X)", [A, rule(0), form(1), sequence(0, 2)], [3])
 for said, form in FORMS:
-    bad(f"X = ({said} empty) X", 2, [EMPTY, form(0), rule(0), seq(1, 2)], [3])
+    bad(f"X = ({said} empty) X", 2, [EMPTY, form(0), rule(0), sequence(1, 2)], [3])
 for said, form in FORMS:
-    passes(f"X = ({said} a) X", [A, form(0), rule(0), seq(1, 2)], [3])
+    passes(f"X = ({said} a) X", [A, form(0), rule(0), sequence(1, 2)], [3])
 bad("X = align indent position X", 0, [rule(0), position(0), indent(1), align(2)], [3])
 bad("X = a / align indent position (empty X)", 2,
-    [A, EMPTY, rule(0), seq(1, 2), position(3), indent(4), align(5), choice(0, 6)], [7])
+    [A, EMPTY, rule(0), sequence(1, 2), position(3), indent(4), align(5), choice(0, 6)], [7])
 # (a X / empty)* as X: the choice may read nothing, so the repeat, node 5, is bad; rule X, node 1,
 # stands for it and is lower. The sequence, node 2, passes.
-bad("X = (a X / empty)*", 1, [A, rule(0), seq(0, 1), EMPTY, choice(2, 3), repeat(4)], [5])
+bad("X = (a X / empty)*", 1, [A, rule(0), sequence(0, 1), EMPTY, choice(2, 3), repeat(4)], [5])
 # (a X)* : a X reads something or fails.
-passes("X = (a X)*", [A, rule(0), seq(0, 1), repeat(2)], [3])
-passes("X = (a X / b)*", [A, rule(0), seq(0, 1), B, choice(2, 3), repeat(4)], [5])
+passes("X = (a X)*", [A, rule(0), sequence(0, 1), repeat(2)], [3])
+passes("X = (a X / b)*", [A, rule(0), sequence(0, 1), B, choice(2, 3), repeat(4)], [5])
 
 
 # --- Rules among themselves ----------------------------------------------------------------------
@@ -376,44 +376,44 @@ bad("X = Y, Y = X", 0, [rule(1), rule(0)], [0, 1])
 bad("X = Y, Y = Y", 0, [rule(1), rule(1)], [0, 1])
 passes("X = Y, Y = a", [rule(1), A], [0, 1])
 passes("X = a, Y = X", [A, rule(0)], [0, 1])
-passes("X = a Y, Y = X", [A, rule(1), seq(0, 1), rule(0)], [2, 3])
-passes("X = a Y, Y = b X", [A, B, rule(1), rule(0), seq(0, 2), seq(1, 3)], [4, 5])
-bad("X = Y a, Y = X b", 2, [A, B, rule(1), rule(0), seq(2, 0), seq(3, 1)], [4, 5])
+passes("X = a Y, Y = X", [A, rule(1), sequence(0, 1), rule(0)], [2, 3])
+passes("X = a Y, Y = b X", [A, B, rule(1), rule(0), sequence(0, 2), sequence(1, 3)], [4, 5])
+bad("X = Y a, Y = X b", 2, [A, B, rule(1), rule(0), sequence(2, 0), sequence(3, 1)], [4, 5])
 # Y = b X rests on b alone, and X on Y.
-passes("X = Y a, Y = b X", [A, B, rule(1), rule(0), seq(2, 0), seq(1, 3)], [4, 5])
-passes("X = Y / a, Y = b X", [A, B, rule(1), rule(0), choice(2, 0), seq(1, 3)], [4, 5])
-bad("X = Y / a, Y = b* X", 3, [A, B, repeat(1), rule(1), rule(0), choice(3, 0), seq(2, 4)], [5, 6])
+passes("X = Y a, Y = b X", [A, B, rule(1), rule(0), sequence(2, 0), sequence(1, 3)], [4, 5])
+passes("X = Y / a, Y = b X", [A, B, rule(1), rule(0), choice(2, 0), sequence(1, 3)], [4, 5])
+bad("X = Y / a, Y = b* X", 3, [A, B, repeat(1), rule(1), rule(0), choice(3, 0), sequence(2, 4)], [5, 6])
 # Facts through the other rule: Y = empty lets X's second part come first.
-bad("X = Y X, Y = empty", 1, [rule(1), rule(0), seq(0, 1), EMPTY], [2, 3])
-passes("X = Y X, Y = a", [rule(1), rule(0), seq(0, 1), A], [2, 3])
-bad("X = Y X, Y = a / empty", 1, [rule(1), rule(0), seq(0, 1), A, EMPTY, choice(3, 4)], [2, 5])
-bad("X = Y X, Y = a Y / empty", 1, [rule(1), rule(0), seq(0, 1), A, seq(3, 0), EMPTY, choice(4, 5)], [2, 6])
-passes("X = Y X, Y = a Y / b", [rule(1), rule(0), seq(0, 1), A, seq(3, 0), B, choice(4, 5)], [2, 6])
+bad("X = Y X, Y = empty", 1, [rule(1), rule(0), sequence(0, 1), EMPTY], [2, 3])
+passes("X = Y X, Y = a", [rule(1), rule(0), sequence(0, 1), A], [2, 3])
+bad("X = Y X, Y = a / empty", 1, [rule(1), rule(0), sequence(0, 1), A, EMPTY, choice(3, 4)], [2, 5])
+bad("X = Y X, Y = a Y / empty", 1, [rule(1), rule(0), sequence(0, 1), A, sequence(3, 0), EMPTY, choice(4, 5)], [2, 6])
+passes("X = Y X, Y = a Y / b", [rule(1), rule(0), sequence(0, 1), A, sequence(3, 0), B, choice(4, 5)], [2, 6])
 # Y = a Y may only fail: it succeeds by no finite reading, and the facts "are the least ones".
-passes("X = Y X, Y = a Y", [rule(1), rule(0), seq(0, 1), A, seq(3, 0)], [2, 4])
-bad("X = (not Y) X, Y = a Y", 2, [rule(1), not_(0), rule(0), seq(1, 2), A, seq(4, 0)], [3, 5])
-passes("X = (not not Y) X, Y = a Y", [rule(1), not_(0), not_(1), rule(0), seq(2, 3), A, seq(5, 0)], [4, 6])
+passes("X = Y X, Y = a Y", [rule(1), rule(0), sequence(0, 1), A, sequence(3, 0)], [2, 4])
+bad("X = (not Y) X, Y = a Y", 2, [rule(1), not_(0), rule(0), sequence(1, 2), A, sequence(4, 0)], [3, 5])
+passes("X = (not not Y) X, Y = a Y", [rule(1), not_(0), not_(1), rule(0), sequence(2, 3), A, sequence(5, 0)], [4, 6])
 # Three rules: X = Y, Y = Z, Z = X, with one step that reads, in each place.
 bad("X = Y, Y = Z, Z = X", 0, [rule(1), rule(2), rule(0)], [0, 1, 2])
-passes("X = Y, Y = Z, Z = a X", [rule(1), rule(2), A, rule(0), seq(2, 3)], [0, 1, 4])
-passes("X = Y, Y = a Z, Z = X", [rule(1), A, rule(2), seq(1, 2), rule(0)], [0, 3, 4])
-passes("X = a Y, Y = Z, Z = X", [A, rule(1), seq(0, 1), rule(2), rule(0)], [2, 3, 4])
-bad("X = Y, Y = Z, Z = empty X", 0, [rule(1), rule(2), EMPTY, rule(0), seq(2, 3)], [0, 1, 4])
-bad("X = Y, Y = a* Z, Z = X", 0, [rule(1), A, repeat(1), rule(2), seq(2, 3), rule(0)], [0, 4, 5])
+passes("X = Y, Y = Z, Z = a X", [rule(1), rule(2), A, rule(0), sequence(2, 3)], [0, 1, 4])
+passes("X = Y, Y = a Z, Z = X", [rule(1), A, rule(2), sequence(1, 2), rule(0)], [0, 3, 4])
+passes("X = a Y, Y = Z, Z = X", [A, rule(1), sequence(0, 1), rule(2), rule(0)], [2, 3, 4])
+bad("X = Y, Y = Z, Z = empty X", 0, [rule(1), rule(2), EMPTY, rule(0), sequence(2, 3)], [0, 1, 4])
+bad("X = Y, Y = a* Z, Z = X", 0, [rule(1), A, repeat(1), rule(2), sequence(2, 3), rule(0)], [0, 4, 5])
 # X = a Y passes, but Y = Z a with Z = Y does not; node 1 is rule Y.
-bad("X = a Y, Y = Z a, Z = Y", 1, [A, rule(1), seq(0, 1), rule(2), seq(3, 0)], [2, 4, 1])
+bad("X = a Y, Y = Z a, Z = Y", 1, [A, rule(1), sequence(0, 1), rule(2), sequence(3, 0)], [2, 4, 1])
 # Two ways back to Z, each behind a step that reads.
-passes("Z = X / Y, X = a Z, Y = b Z", [rule(1), rule(2), choice(0, 1), A, B, rule(0), seq(3, 5), seq(4, 5)], [2, 6, 7])
+passes("Z = X / Y, X = a Z, Y = b Z", [rule(1), rule(2), choice(0, 1), A, B, rule(0), sequence(3, 5), sequence(4, 5)], [2, 6, 7])
 # Rule X, node 0, passes by its a; rule Y, node 1, needs Z, and Z needs Y.
-bad("Z = X / Y, X = a Z, Y = Z b", 1, [rule(1), rule(2), choice(0, 1), A, B, rule(0), seq(3, 5), seq(5, 4)], [2, 6, 7])
+bad("Z = X / Y, X = a Z, Y = Z b", 1, [rule(1), rule(2), choice(0, 1), A, B, rule(0), sequence(3, 5), sequence(5, 4)], [2, 6, 7])
 # X = not Y, Y = a X: Y may fail, so X may read nothing; then Y succeeds, and X may fail.
-passes("X = not Y, Y = a X", [rule(1), not_(0), A, rule(0), seq(2, 3)], [1, 4])
-bad("(X)*, X = not Y, Y = a X", 5, [rule(1), not_(0), A, rule(0), seq(2, 3), repeat(1)], [1, 4])
-bad("(not X)*, X = not Y, Y = a X", 6, [rule(1), not_(0), A, rule(0), seq(2, 3), not_(1), repeat(5)], [1, 4])
+passes("X = not Y, Y = a X", [rule(1), not_(0), A, rule(0), sequence(2, 3)], [1, 4])
+bad("(X)*, X = not Y, Y = a X", 5, [rule(1), not_(0), A, rule(0), sequence(2, 3), repeat(1)], [1, 4])
+bad("(not X)*, X = not Y, Y = a X", 6, [rule(1), not_(0), A, rule(0), sequence(2, 3), not_(1), repeat(5)], [1, 4])
 # A grammar of sums: sum = product + sum / product, product = unit * product / unit, unit = a / ( sum ).
 SUMS = [
-    (1, 4, 0, 0), (1, 5, 0, 0), (1, 6, 0, 0), (1, 7, 0, 0), A, rule(0), rule(1), rule(2), seq(0, 5), seq(6, 8),
-    choice(9, 6), seq(1, 6), seq(7, 11), choice(12, 7), seq(5, 3), seq(2, 14), choice(4, 15),
+    (1, 4, 0, 0), (1, 5, 0, 0), (1, 6, 0, 0), (1, 7, 0, 0), A, rule(0), rule(1), rule(2), sequence(0, 5), sequence(6, 8),
+    choice(9, 6), sequence(1, 6), sequence(7, 11), choice(12, 7), sequence(5, 3), sequence(2, 14), choice(4, 15),
 ]
 passes("sums", SUMS, [10, 13, 16])
 # The same with unit = a / sum ): sum, product and unit stand on each other, from node 5 on.
@@ -422,10 +422,10 @@ bad("sums, unit = a / sum )", 5, SUMS[:15] + [choice(4, 14)], [10, 13, 15])
 passes("sums, unit = a* / ( sum )", SUMS + [repeat(4), choice(17, 15)], [10, 13, 18])
 # sum = sum + product / product: the textbook left recursion; product and unit refer to sum only
 # behind (, and pass. Node 5 is rule sum.
-bad("sums, left recursive", 5, SUMS[:8] + [seq(0, 6), seq(5, 8), choice(9, 6)] + SUMS[11:], [10, 13, 16])
+bad("sums, left recursive", 5, SUMS[:8] + [sequence(0, 6), sequence(5, 8), choice(9, 6)] + SUMS[11:], [10, 13, 16])
 # Unused rules, and two rules for one node.
 passes("unused rules", [A, EMPTY, repeat(0)], [2, 1, 0])
-passes("two rules for one node", [A, rule(0), rule(1), seq(1, 2)], [0, 0])
+passes("two rules for one node", [A, rule(0), rule(1), sequence(1, 2)], [0, 0])
 bad("unused rule of a bad node", 1, [EMPTY, repeat(0), A], [2, 1])
 bad("X = X unused", 1, [A, rule(0)], [1, 0])
 passes("rule 127 named, all of node 0", [A, rule(127), repeat(1)], [0] * 128)
@@ -438,24 +438,24 @@ passes("rule 126 named, rule 127 empty", [A, rule(126), repeat(1), EMPTY], [0] *
 
 # "if every node does, reachable or not; otherwise the lowest ..".
 bad("unreachable (empty)*", 2, [A, EMPTY, repeat(1)], [0])
-bad("unreachable (empty)* before the rest", 1, [EMPTY, repeat(0), A, seq(2, 2)], [3])
-bad("unreachable X X = X X", 2, [A, EMPTY, rule(1), seq(2, 2)], [0, 3])
+bad("unreachable (empty)* before the rest", 1, [EMPTY, repeat(0), A, sequence(2, 2)], [3])
+bad("unreachable X X = X X", 2, [A, EMPTY, rule(1), sequence(2, 2)], [0, 3])
 bad("two bad repeats", 1, [EMPTY, repeat(0), repeat(0)])
 bad("bad repeats 2 and 4", 2, [A, EMPTY, repeat(1), not_(0), repeat(3)])
-bad("bad repeat under good forms", 1, [EMPTY, repeat(0), A, seq(2, 1), choice(3, 2), align(4)])
+bad("bad repeat under good forms", 1, [EMPTY, repeat(0), A, sequence(2, 1), choice(3, 2), align(4)])
 bad("repeat 2, X = X 3", 2, [A, EMPTY, repeat(1), rule(0)], [3])
 bad("X = X 2, repeat 3", 2, [A, EMPTY, rule(0), repeat(1)], [2])
-bad("bad last of many", 6, [A, EMPTY, B, choice(0, 2), repeat(3), seq(0, 4), repeat(1)])
+bad("bad last of many", 6, [A, EMPTY, B, choice(0, 2), repeat(3), sequence(0, 4), repeat(1)])
 # A rule that stands for a bad higher node is bad itself: "else the child".
 bad("X, X = (empty)*", 0, [rule(0), EMPTY, repeat(1)], [2])
-bad("a X, X = (empty)*", 1, [A, rule(0), seq(0, 1), EMPTY, repeat(3)], [4])
+bad("a X, X = (empty)*", 1, [A, rule(0), sequence(0, 1), EMPTY, repeat(3)], [4])
 # A sequence can pass while its b does not; then b itself is named. Node 0 stands for the sequence
 # and passes with it where a reads; node 2 is b.
-bad("a X passes as Y, X = (empty)*", 2, [rule(1), A, rule(0), seq(1, 2), EMPTY, repeat(4)], [5, 3])
-bad("empty X as Y, X = (empty)*", 0, [rule(1), EMPTY, rule(0), seq(1, 2), repeat(1)], [4, 3])
-bad("a* X as Y, X = (empty)*", 0, [rule(1), A, repeat(1), rule(0), seq(2, 3), EMPTY, repeat(5)], [6, 4])
-bad("(not empty) X passes as Y, X = (empty)*", 3, [rule(1), EMPTY, not_(1), rule(0), seq(2, 3), repeat(1)], [5, 4])
-bad("X a as Y, X = (empty)*", 0, [rule(1), A, rule(0), seq(2, 1), EMPTY, repeat(4)], [5, 3])
+bad("a X passes as Y, X = (empty)*", 2, [rule(1), A, rule(0), sequence(1, 2), EMPTY, repeat(4)], [5, 3])
+bad("empty X as Y, X = (empty)*", 0, [rule(1), EMPTY, rule(0), sequence(1, 2), repeat(1)], [4, 3])
+bad("a* X as Y, X = (empty)*", 0, [rule(1), A, repeat(1), rule(0), sequence(2, 3), EMPTY, repeat(5)], [6, 4])
+bad("(not empty) X passes as Y, X = (empty)*", 3, [rule(1), EMPTY, not_(1), rule(0), sequence(2, 3), repeat(1)], [5, 4])
+bad("X a as Y, X = (empty)*", 0, [rule(1), A, rule(0), sequence(2, 1), EMPTY, repeat(4)], [5, 3])
 # "a choice of two": bad with either.
 bad("a / X as Y, X = (empty)*", 0, [rule(1), A, rule(0), choice(1, 2), EMPTY, repeat(4)], [5, 3])
 bad("empty / X as Y, X = (empty)*", 0, [rule(1), EMPTY, rule(0), choice(1, 2), repeat(1)], [4, 3])
@@ -467,16 +467,16 @@ for said, form in (
     ("indent", indent(0)),
     ("position", position(0)),
     ("align", align(0)),
-    ("sequence", seq(0, 0)),
+    ("sequence", sequence(0, 0)),
     ("choice", choice(0, 0)),
 ):
-    nodes = [rule(1), form, A, rule(0), seq(2, 3), EMPTY, repeat(5)]
+    nodes = [rule(1), form, A, rule(0), sequence(2, 3), EMPTY, repeat(5)]
     bad(f"{said} of a X passes, X = (empty)*", 3, nodes, [6, 4])
     # With empty for a, node 0 is bad at once.
-    nodes = [rule(1), form, EMPTY, rule(0), seq(2, 3), EMPTY, repeat(5)]
+    nodes = [rule(1), form, EMPTY, rule(0), sequence(2, 3), EMPTY, repeat(5)]
     bad(f"{said} of empty X, X = (empty)*", 0, nodes, [6, 4])
 # Only node 3, rule X, and the repeat are bad: b stands before X, and a before b.
-bad("Y = a (b X), X = (empty)*", 3, [rule(1), A, B, rule(0), seq(2, 3), seq(1, 4), EMPTY, repeat(6)], [7, 5])
+bad("Y = a (b X), X = (empty)*", 3, [rule(1), A, B, rule(0), sequence(2, 3), sequence(1, 4), EMPTY, repeat(6)], [7, 5])
 
 
 # --- Ford's rules fact by fact -------------------------------------------------------------------
@@ -511,7 +511,7 @@ def shown(label, facts, last, number):
     yield f"({label})*", "N" in facts, last + 1, [repeat(last)], []
     yield f"(not ({label}))*", "F" in facts, last + 2, [not_(last), repeat(last + 1)], []
     yield f"(not not ({label}))*", succeeds, last + 3, [not_(last), not_(last + 1), repeat(last + 2)], []
-    yield f"Z = ({label}) Z", "N" in facts, last + 1, [rule(number), seq(last, last + 1)], [last + 2]
+    yield f"Z = ({label}) Z", "N" in facts, last + 1, [rule(number), sequence(last, last + 1)], [last + 2]
 
 
 def seen(label, facts, nodes, rules=()):
@@ -545,7 +545,7 @@ CHOICE = (
 )
 for (a, said_a, _), row, row_choice in zip(SETS, SEQUENCE, CHOICE):
     for (b, said_b, _), facts, facts_choice in zip(SETS, row, row_choice):
-        seen(f"[{said_a}] then [{said_b}]", facts, BASE + [seq(a, b)])
+        seen(f"[{said_a}] then [{said_b}]", facts, BASE + [sequence(a, b)])
         seen(f"[{said_a}] or [{said_b}]", facts_choice, BASE + [choice(a, b)])
 
 # "Not: nothing if the child may fail; fails if it may succeed.", once, twice and three times.
@@ -564,7 +564,7 @@ seen("repeat of [not empty]", "N", BASE + [repeat(2)])
 for number in (0, 3, 4, 5):
     bad(f"repeat of node {number} of the six", 6, BASE + [repeat(number)])
     bad(f"not of repeat of node {number} of the six", 6, BASE + [repeat(number), not_(6)])
-    bad(f"a, then repeat of node {number} of the six", 6, BASE + [repeat(number), seq(1, 6)])
+    bad(f"a, then repeat of node {number} of the six", 6, BASE + [repeat(number), sequence(1, 6)])
 
 # "Rule, indent, position, align: those of their child."
 for a, said, facts in SETS:
@@ -596,37 +596,37 @@ for number, said, facts in SETS:
 # Facts of rules that name themselves, each a well-formed rule X of these nodes; the last is X.
 for said, facts, nodes in (
     # a X may succeed only if X may: by least facts it only fails.
-    ("a X", "F", [A, rule(0), seq(0, 1)]),
-    ("(a X) b", "F", [A, B, rule(0), seq(0, 2), seq(3, 1)]),
+    ("a X", "F", [A, rule(0), sequence(0, 1)]),
+    ("(a X) b", "F", [A, B, rule(0), sequence(0, 2), sequence(3, 1)]),
     # N of empty; then a X may succeed. Empty may not fail, so X may not.
-    ("a X / empty", "NS", [A, rule(0), seq(0, 1), EMPTY, choice(2, 3)]),
+    ("a X / empty", "NS", [A, rule(0), sequence(0, 1), EMPTY, choice(2, 3)]),
     # empty may not fail, so a X counts for nothing.
-    ("empty / a X", "N", [A, rule(0), seq(0, 1), EMPTY, choice(3, 2)]),
-    ("a X / b", "SF", [A, rule(0), seq(0, 1), B, choice(2, 3)]),
+    ("empty / a X", "N", [A, rule(0), sequence(0, 1), EMPTY, choice(3, 2)]),
+    ("a X / b", "SF", [A, rule(0), sequence(0, 1), B, choice(2, 3)]),
     # S of b; then a X may succeed too, and both may fail.
-    ("b / a X", "SF", [A, rule(0), seq(0, 1), B, choice(3, 2)]),
+    ("b / a X", "SF", [A, rule(0), sequence(0, 1), B, choice(3, 2)]),
     # S of a X once not b gives N; F as both may fail.
-    ("a X / not b", "NSF", [A, rule(0), seq(0, 1), B, not_(3), choice(2, 4)]),
+    ("a X / not b", "NSF", [A, rule(0), sequence(0, 1), B, not_(3), choice(2, 4)]),
     # Both sides only fail.
-    ("a X / b X", "F", [A, rule(0), seq(0, 1), B, seq(3, 1), choice(2, 4)]),
+    ("a X / b X", "F", [A, rule(0), sequence(0, 1), B, sequence(3, 1), choice(2, 4)]),
     # a X may fail, so X has N; with N, a X succeeds, and X may fail.
-    ("not (a X)", "NF", [A, rule(0), seq(0, 1), not_(2)]),
+    ("not (a X)", "NF", [A, rule(0), sequence(0, 1), not_(2)]),
     # a X may fail, so not (a X) has N, and X may fail. X succeeds only if a X does, and so only if X
     # does: never, by least facts.
-    ("not not (a X)", "F", [A, rule(0), seq(0, 1), not_(2), not_(3)]),
+    ("not not (a X)", "F", [A, rule(0), sequence(0, 1), not_(2), not_(3)]),
     # a (not X): X may fail by a; so not X has N, and X has S.
-    ("a (not X)", "SF", [A, rule(0), not_(1), seq(0, 2)]),
+    ("a (not X)", "SF", [A, rule(0), not_(1), sequence(0, 2)]),
     # a X* : X may fail by a; so X* has N, and X has S.
-    ("a X*", "SF", [A, rule(0), repeat(1), seq(0, 2)]),
+    ("a X*", "SF", [A, rule(0), repeat(1), sequence(0, 2)]),
     # a X may fail, so (a X)* has N; then a X has S, and (a X)* too. No repeat may fail.
-    ("(a X)*", "NS", [A, rule(0), seq(0, 1), repeat(2)]),
+    ("(a X)*", "NS", [A, rule(0), sequence(0, 1), repeat(2)]),
     # not empty only fails, and X behind it adds nothing.
-    ("(not empty) X", "F", [EMPTY, not_(0), rule(0), seq(1, 2)]),
+    ("(not empty) X", "F", [EMPTY, not_(0), rule(0), sequence(1, 2)]),
     # The first of the choice only fails: X has b's facts.
-    ("(not empty) X / b", "SF", [EMPTY, not_(0), rule(0), seq(1, 2), B, choice(3, 4)]),
+    ("(not empty) X / b", "SF", [EMPTY, not_(0), rule(0), sequence(1, 2), B, choice(3, 4)]),
     # Indent, position and align on the way change no fact.
-    ("align (a (indent X)) / empty", "NS", [A, rule(0), indent(1), seq(0, 2), align(3), EMPTY, choice(4, 5)]),
-    ("position (a X / b)", "SF", [A, rule(0), seq(0, 1), B, choice(2, 3), position(4, 2)]),
+    ("align (a (indent X)) / empty", "NS", [A, rule(0), indent(1), sequence(0, 2), align(3), EMPTY, choice(4, 5)]),
+    ("position (a X / b)", "SF", [A, rule(0), sequence(0, 1), B, choice(2, 3), position(4, 2)]),
 ):
     seen(f"X = {said}, X", facts, nodes, [len(nodes) - 1])
 
@@ -645,9 +645,9 @@ def ill_formed(label, facts, nodes):
     whole = front + nodes
     last = len(whole) - 1
     node = 3 if "N" in facts or "S" in facts else 5
-    bad(f"a E, E = {label}", node, whole + [seq(4, 5)], [last + 1, last])
+    bad(f"a E, E = {label}", node, whole + [sequence(4, 5)], [last + 1, last])
     node = 3 if "F" in facts else 5
-    bad(f"a (not E), E = {label}", node, whole + [not_(5), seq(4, last + 1)], [last + 2, last])
+    bad(f"a (not E), E = {label}", node, whole + [not_(5), sequence(4, last + 1)], [last + 2, last])
 
 
 # a is node 4, and rule E is node 5.
@@ -658,37 +658,37 @@ for said, facts, nodes in (
     ("not E", "", [E, not_(5)]),
     ("not not E", "", [E, not_(5), not_(6)]),
     ("E*", "", [E, repeat(5)]),
-    ("E E", "", [E, seq(5, 5)]),
+    ("E E", "", [E, sequence(5, 5)]),
     ("E / E", "", [E, choice(5, 5)]),
     ("align E", "", [E, align(5)]),
     ("indent E", "", [E, indent(5)]),
     ("position E", "", [E, position(5)]),
     # "both may succeed": E may not; "a may fail, or a may succeed and b fail": E may neither.
-    ("E a", "", [E, seq(5, 4)]),
-    ("E empty", "", [E, EMPTY, seq(5, 6)]),
+    ("E a", "", [E, sequence(5, 4)]),
+    ("E empty", "", [E, EMPTY, sequence(5, 6)]),
     # empty E has E's facts, so none.
-    ("empty E", "", [E, EMPTY, seq(6, 5)]),
+    ("empty E", "", [E, EMPTY, sequence(6, 5)]),
     # a* may not fail; a* E fails only if E does, and succeeds only if E does.
-    ("a* E", "", [E, repeat(4), seq(6, 5)]),
+    ("a* E", "", [E, repeat(4), sequence(6, 5)]),
     # "fails if a may fail": not a may.
-    ("(not a) E", "F", [E, not_(4), seq(6, 5)]),
+    ("(not a) E", "F", [E, not_(4), sequence(6, 5)]),
     # "if a may fail all of b's facts": E may not fail, so a does not count.
     ("E / a", "", [E, choice(5, 4)]),
-    ("E a / a", "", [E, seq(5, 4), choice(6, 4)]),
-    ("empty E / a", "", [E, EMPTY, seq(6, 5), choice(7, 4)]),
+    ("E a / a", "", [E, sequence(5, 4), choice(6, 4)]),
+    ("empty E / a", "", [E, EMPTY, sequence(6, 5), choice(7, 4)]),
     # S of a. a may fail, so E's facts are E's: "may fail" is not among the least.
     ("a / E", "S", [E, choice(4, 5)]),
     # S of a; then E E may succeed. It fails only if E does.
-    ("a / E E", "S", [E, seq(5, 5), choice(4, 6)]),
+    ("a / E E", "S", [E, sequence(5, 5), choice(4, 6)]),
     # S of a; then E a may succeed in E and fail in a.
-    ("a / E a", "SF", [E, seq(5, 4), choice(4, 6)]),
+    ("a / E a", "SF", [E, sequence(5, 4), choice(4, 6)]),
     # E may fail by its first part; then a counts: S and F.
-    ("(not a) E / a", "SF", [E, not_(4), seq(6, 5), choice(7, 4)]),
+    ("(not a) E / a", "SF", [E, not_(4), sequence(6, 5), choice(7, 4)]),
     ("empty / E", "N", [E, EMPTY, choice(6, 5)]),
     # N of not a, which may fail; then E's facts, and no F among the least.
     ("(not a) / E", "N", [E, not_(4), choice(6, 5)]),
     # not E has no fact, so neither has the sequence.
-    ("(not E) a", "", [E, not_(5), seq(6, 4)]),
+    ("(not E) a", "", [E, not_(5), sequence(6, 4)]),
     # S of a; then not E may fail ("fails if it may succeed"), and so may E.
     ("a / not E", "NSF", [E, not_(5), choice(4, 6)]),
     # S of a, so S of E*. No repeat may fail, so E may not, and E* has no N.
@@ -712,15 +712,15 @@ for said, facts, nodes in (
     ("not not (empty)*", "", [E, EMPTY, repeat(6), not_(7), not_(8)]),
     ("(empty)* / a", "", [E, EMPTY, repeat(6), choice(7, 4)]),
     ("a / (empty)*", "S", [E, EMPTY, repeat(6), choice(4, 7)]),
-    ("(empty)* a", "", [E, EMPTY, repeat(6), seq(7, 4)]),
+    ("(empty)* a", "", [E, EMPTY, repeat(6), sequence(7, 4)]),
     # A bad repeat with S only: not of it fails and does not succeed.
     ("not (a*)*", "F", [E, repeat(4), repeat(6), not_(7)]),
     ("not not (a*)*", "N", [E, repeat(4), repeat(6), not_(7), not_(8)]),
-    ("(a*)* a", "SF", [E, repeat(4), repeat(6), seq(7, 4)]),
+    ("(a*)* a", "SF", [E, repeat(4), repeat(6), sequence(7, 4)]),
     ("(a*)* / a", "S", [E, repeat(4), repeat(6), choice(7, 4)]),
     # empty may only read nothing, so the sequence has the facts of the repeat: none.
-    ("empty (empty)*", "", [E, EMPTY, repeat(6), seq(6, 7)]),
-    ("(not a) (empty)*", "F", [E, EMPTY, repeat(6), not_(4), seq(8, 7)]),
+    ("empty (empty)*", "", [E, EMPTY, repeat(6), sequence(6, 7)]),
+    ("(not a) (empty)*", "F", [E, EMPTY, repeat(6), not_(4), sequence(8, 7)]),
 ):
     ill_formed(said, facts, nodes)
 
@@ -739,7 +739,7 @@ def reads_something(label, facts, form):
 for (a, said_a, _), row, row_choice in zip(SETS, SEQUENCE, CHOICE):
     for (b, said_b, _), facts, facts_choice in zip(SETS, row, row_choice):
         if facts in ("N", "NS"):
-            reads_something(f"([{said_a}] then [{said_b}])*", facts, seq(a, b))
+            reads_something(f"([{said_a}] then [{said_b}])*", facts, sequence(a, b))
         if facts_choice in ("N", "NS"):
             reads_something(f"([{said_a}] or [{said_b}])*", facts_choice, choice(a, b))
 for a, said, facts in SETS:
@@ -758,9 +758,9 @@ reads_something("(not [not empty])*", "N", not_(2))
 # "1 to 512 nodes, 0 to 128 rules." 127 rules that no node names fill up the rules.
 UNUSED = [4 * i + 3 for i in range(127)]
 # The core: X = a X / empty, where X stands for the last node of all.
-CORE = [A, rule(0), seq(0, 1), EMPTY, choice(2, 3)]
+CORE = [A, rule(0), sequence(0, 1), EMPTY, choice(2, 3)]
 # empty X instead: X comes back with nothing read. Node 0 is empty, node 1 rule X, the lowest bad one.
-CORE_BAD = [EMPTY, rule(0), seq(0, 1), EMPTY, choice(2, 3)]
+CORE_BAD = [EMPTY, rule(0), sequence(0, 1), EMPTY, choice(2, 3)]
 
 
 def any_indent(i):
@@ -789,23 +789,23 @@ for said, form in (
     bad(f"X = 507 {said} over (empty X / empty)", 1, over(CORE_BAD, form), [511])
     bad(f"X = 507 {said} over (empty X / empty), 128 rules", 1, over(CORE_BAD, form), [511] + UNUSED)
     # a* X and (not a) X: hidden behind what may read nothing; rule X is node 2.
-    core = [A, repeat(0), rule(0), seq(1, 2), EMPTY, choice(3, 4)]
+    core = [A, repeat(0), rule(0), sequence(1, 2), EMPTY, choice(3, 4)]
     bad(f"X = 506 {said} over (a* X / empty)", 2, over(core, form), [511])
-    core = [A, not_(0), rule(0), seq(1, 2), EMPTY, choice(3, 4)]
+    core = [A, not_(0), rule(0), sequence(1, 2), EMPTY, choice(3, 4)]
     bad(f"X = 506 {said} over ((not a) X / empty)", 2, over(core, form), [511])
     # (not empty) X: X is never reached.
-    core = [EMPTY, not_(0), rule(0), seq(1, 2), choice(3, 0)]
+    core = [EMPTY, not_(0), rule(0), sequence(1, 2), choice(3, 0)]
     passes(f"X = 507 {said} over ((not empty) X / empty)", over(core, form), [511])
     # The forms between the rule and the rest: bad at the rule.
     bad(f"X = 511 {said} over X", 0, over([rule(0)], form), [511])
-    bad(f"X = (509 {said} over X) a", 1, over([A, rule(0)], form, 511) + [seq(510, 0)], [511])
-    passes(f"X = a (509 {said} over X)", over([A, rule(0)], form, 511) + [seq(0, 510)], [511])
-    bad(f"X = empty (509 {said} over X)", 1, over([EMPTY, rule(0)], form, 511) + [seq(0, 510)], [511])
+    bad(f"X = (509 {said} over X) a", 1, over([A, rule(0)], form, 511) + [sequence(510, 0)], [511])
+    passes(f"X = a (509 {said} over X)", over([A, rule(0)], form, 511) + [sequence(0, 510)], [511])
+    bad(f"X = empty (509 {said} over X)", 1, over([EMPTY, rule(0)], form, 511) + [sequence(0, 510)], [511])
     bad(f"X = a / (509 {said} over X)", 1, over([A, rule(0)], form, 511) + [choice(0, 510)], [511])
     # 255 forms over a, then rule X as node 256 and 254 forms over it.
     half = over(over([A], form, 256) + [rule(0)], form, 511)
     bad(f"X = a / (254 {said} over X), X is node 256", 256, half + [choice(0, 510)], [511])
-    passes(f"X = a (254 {said} over X), X is node 256", half + [seq(0, 510)], [511])
+    passes(f"X = a (254 {said} over X), X is node 256", half + [sequence(0, 510)], [511])
 
 # A repeat at the end shows the facts through 510 forms: those of the child.
 for said, form in (("aligns", align), ("indents", any_indent), ("positions", any_position)):
@@ -831,16 +831,16 @@ bad("511 repeats of empty", 1, [EMPTY] + [repeat(0)] * 511)
 bad("node 511 a repeat of empty", 511, [EMPTY] * 511 + [repeat(510)])
 
 # Sequences and choices in a row, with a repeat as node 511.
-passes("a (a (a ..))", over([A], lambda i: seq(0, i)))
-passes("((a a) a) ..", over([A], lambda i: seq(i, 0)))
-passes("repeat of 510 sequences of a", over([A], lambda i: seq(i, i), 511) + [repeat(510)])
-bad("repeat of 510 sequences of empty", 511, over([EMPTY], lambda i: seq(i, i), 511) + [repeat(510)])
+passes("a (a (a ..))", over([A], lambda i: sequence(0, i)))
+passes("((a a) a) ..", over([A], lambda i: sequence(i, 0)))
+passes("repeat of 510 sequences of a", over([A], lambda i: sequence(i, i), 511) + [repeat(510)])
+bad("repeat of 510 sequences of empty", 511, over([EMPTY], lambda i: sequence(i, i), 511) + [repeat(510)])
 passes("repeat of 510 choices of a", over([A], lambda i: choice(i, i), 511) + [repeat(510)])
 bad("repeat of 510 choices of empty", 511, over([EMPTY], lambda i: choice(i, i), 511) + [repeat(510)])
 # a* (a* (.. a)) reads something or fails; a* (a* (.. a*)) may read nothing.
-nodes = over([A, repeat(0), seq(1, 0)], lambda i: seq(1, i), 511)
+nodes = over([A, repeat(0), sequence(1, 0)], lambda i: sequence(1, i), 511)
 passes("repeat of a* (a* (.. a))", nodes + [repeat(510)])
-nodes = over([A, repeat(0), seq(1, 1)], lambda i: seq(1, i), 511)
+nodes = over([A, repeat(0), sequence(1, 1)], lambda i: sequence(1, i), 511)
 bad("repeat of a* (a* (.. a*))", 511, nodes + [repeat(510)])
 # a / (a / (.. empty)) may read nothing; from the left likewise.
 nodes = over([A, EMPTY, choice(0, 1)], lambda i: choice(0, i), 511)
@@ -848,12 +848,12 @@ bad("repeat of a / (.. / empty)", 511, nodes + [repeat(510)])
 nodes = over([A, EMPTY, choice(1, 0)], lambda i: choice(i, 0), 511)
 bad("repeat of (empty / a) / ..", 511, nodes + [repeat(510)])
 # Sequences over rule X first: X = ((X a) a) .. is bad, X = a (a (.. X)) passes.
-bad("X = ((X a) a) ..", 1, over([A, rule(0)], lambda i: seq(i, 0)), [511])
-passes("X = a (a (.. X))", over([A, rule(0)], lambda i: seq(0, i)), [511])
-bad("X = empty (empty (.. X))", 1, over([EMPTY, rule(0)], lambda i: seq(0, i)), [511])
+bad("X = ((X a) a) ..", 1, over([A, rule(0)], lambda i: sequence(i, 0)), [511])
+passes("X = a (a (.. X))", over([A, rule(0)], lambda i: sequence(0, i)), [511])
+bad("X = empty (empty (.. X))", 1, over([EMPTY, rule(0)], lambda i: sequence(0, i)), [511])
 bad("X = (.. (X / a) ..) / a", 1, over([A, rule(0)], lambda i: choice(i, 0)), [511])
 # (not a) X needs X, and X passes by the a at its start.
-passes("X = a ((not a) (.. ((not a) X)))", over([A, not_(0), rule(0)], lambda i: seq(1, i), 511) + [seq(0, 510)], [511])
+passes("X = a ((not a) (.. ((not a) X)))", over([A, not_(0), rule(0)], lambda i: sequence(1, i), 511) + [sequence(0, 510)], [511])
 
 # Leaves and rules only.
 passes("512 terminals", [(1, i % 256, 0, 0) for i in range(512)], list(range(384, 512)))
@@ -918,9 +918,9 @@ for said, chain, top in (("upward", upward, 0), ("downward", downward, 127)):
 ROUND = [rule((i + 1) % 128) for i in range(128)]
 for k in (0, 1, 64, 126, 127):
     rules = NEXT[:k] + [129] + NEXT[k + 1 :]
-    passes(f"128 rules in a cycle, a before at {k}", [A] + ROUND + [seq(0, 1 + k)], rules)
-    bad(f"128 rules in a cycle, empty before at {k}", 1, [EMPTY] + ROUND + [seq(0, 1 + k)], rules)
-    bad(f"128 rules in a cycle, a behind at {k}", 1, [A] + ROUND + [seq(1 + k, 0)], rules)
+    passes(f"128 rules in a cycle, a before at {k}", [A] + ROUND + [sequence(0, 1 + k)], rules)
+    bad(f"128 rules in a cycle, empty before at {k}", 1, [EMPTY] + ROUND + [sequence(0, 1 + k)], rules)
+    bad(f"128 rules in a cycle, a behind at {k}", 1, [A] + ROUND + [sequence(1 + k, 0)], rules)
     bad(f"128 rules in a cycle, a or at {k}", 1, [A] + ROUND + [choice(0, 1 + k)], rules)
     bad(f"128 rules in a cycle, not at {k}", 1, [A] + ROUND + [not_(1 + k)], rules)
     bad(f"128 rules in a cycle, align at {k}", 1, [A] + ROUND + [align(1 + k)], rules)
@@ -952,12 +952,12 @@ def leaf(at, node):
 
 def before(at, node, number):
     """The node, then rule `number`, in a sequence under align."""
-    return [node, rule(number), seq(at, at + 1), align(at + 2)]
+    return [node, rule(number), sequence(at, at + 1), align(at + 2)]
 
 
 def repeated(at, number):
     """a* and rule `number` behind it."""
-    return [A, repeat(at), rule(number), seq(at + 1, at + 2)]
+    return [A, repeat(at), rule(number), sequence(at + 1, at + 2)]
 
 
 UPWARD = blocks(lambda at, i: named(at, (i + 1) % 128))
@@ -1010,8 +1010,8 @@ def waves(extra=0, first=A):
     """
     nodes = blocks(lambda at, i: named(at, i + 1))[: 503 - extra] + [rule(127)]
     at = len(nodes)
-    nodes += [first, rule(0), not_(at + 1), seq(at, at + 2)]
-    nodes += [seq(at, at + 1), not_(at + 4), not_(at + 5), choice(at + 3, at + 6)]
+    nodes += [first, rule(0), not_(at + 1), sequence(at, at + 2)]
+    nodes += [sequence(at, at + 1), not_(at + 4), not_(at + 5), choice(at + 3, at + 6)]
     return nodes, LAST[:125] + [502 - extra, at - 1, at + 7], at
 
 
@@ -1027,7 +1027,7 @@ bad("three waves of facts, not not rule 0 repeated", 511, nodes + [not_(at + 2),
 # 125 names rule 127 instead.
 nodes, rules, at = waves(2)
 nodes[at - 2 : at] = [rule(127), align(at - 2)]
-bad("three waves of facts, Z = X Z", 510, nodes + [rule(126), seq(at + 1, 510)], rules[:126] + [511, at + 7])
+bad("three waves of facts, Z = X Z", 510, nodes + [rule(126), sequence(at + 1, 510)], rules[:126] + [511, at + 7])
 # empty for a: rule 0 stands on itself through all the rules.
 nodes, rules, at = waves(0, EMPTY)
 bad("three waves, empty for a", 0, nodes, rules)
