@@ -412,8 +412,8 @@ bad("Z = X / Y; X = a Z; Y = Z b", 1,
     [rule(1), rule(2), choice(0, 1), A, B, rule(0), sequence(3, 5), sequence(5, 4)], [2, 6, 7])
 # X = !Y; Y = a X: Y may fail, so X may read nothing; then Y succeeds, and X may fail.
 passes("X = !Y; Y = a X", [rule(1), not_(0), A, rule(0), sequence(2, 3)], [1, 4])
-bad("X* where X = !Y; Y = a X", 5, [rule(1), not_(0), A, rule(0), sequence(2, 3), repeat(1)], [1, 4])
-bad("(!X)* where X = !Y; Y = a X", 6, [rule(1), not_(0), A, rule(0), sequence(2, 3), not_(1), repeat(5)], [1, 4])
+bad("(!Y)* where X = !Y; Y = a X", 5, [rule(1), not_(0), A, rule(0), sequence(2, 3), repeat(1)], [1, 4])
+bad("(!!Y)* where X = !Y; Y = a X", 6, [rule(1), not_(0), A, rule(0), sequence(2, 3), not_(1), repeat(5)], [1, 4])
 # A grammar of sums: sum = product "+" sum / product, product = unit "*" product / unit, unit = a / "(" sum ")".
 SUMS = [
     (1, 4, 0, 0), (1, 5, 0, 0), (1, 6, 0, 0), (1, 7, 0, 0), A, rule(0), rule(1), rule(2), sequence(0, 5), sequence(6, 8),
@@ -639,7 +639,7 @@ for said, facts, nodes in (
     ("align (a (indent greater X)) / empty", "NS", [A, rule(0), indent(1), sequence(0, 2), align(3), EMPTY, choice(4, 5)]),
     ("position at-least (a X / b)", "SF", [A, rule(0), sequence(0, 1), B, choice(2, 3), position(4, 2)]),
 ):
-    seen("X", facts, nodes, [len(nodes) - 1], f" where X = {said}")
+    seen(said, facts, nodes, [len(nodes) - 1], f" where X = {said}")
 
 
 # --- Facts of nodes that are not well formed -----------------------------------------------------
