@@ -1,66 +1,33 @@
 """Expressions as trees, how they are written, and how a table is laid out from them.
 
-How they are written: a to z are terminals, a the first one said, else 1; `number`, `word` and `eol` are terminals 0
-to 2, as the scanner has them; capitals, also with a prime, are rules; `empty` is empty; p q, p / q, !p and p* as in
-001; p^R is an indent, p_R a position and [p] an align, where R is =, >, >= or any.
+They are written in the notation of `tools/build.py` and bind as there (README.md, "How expressions are written"). Two
+things are shorter: a letter from a to z needs no quotes, and the name of a rule may end in a prime.
 """
 
 import re
+import string
 
 import table_nodes
 
-RELATIONS = {"=": 0, ">": 1, ">=": 2, "any": 3}
-
-EPS = ("empty",)
-
-
-def t(number):
-    return ("terminal", number)
-
-
-PLAIN = {"empty": EPS, "number": t(0), "word": t(1), "eol": t(2)}
+RELATIONS = {
+    "equal": table_nodes.EQUAL,
+    "greater": table_nodes.GREATER,
+    "at-least": table_nodes.AT_LEAST,
+    "any": table_nodes.ANY,
+}
 
 
-def r(name):
-    return ("rule", name)
+def numbered(names, first=0):
+    """Terminals by their names, numbered in this order."""
+    return {name: number for number, name in enumerate(names, first)}
 
 
-def seq(first, *rest):
-    """A sequence, grouped to the right."""
-    return ("seq", first, seq(*rest)) if rest else first
+# Plain terminals a to z.
+LETTERS = numbered(string.ascii_lowercase, 1)
+# The terminals of the scanner, before those of the keywords.
+SCANNED = ("number", "word", "eol")
 
-
-def alt(first, *rest):
-    """An ordered choice, grouped to the right."""
-    return ("choice", first, alt(*rest)) if rest else first
-
-
-def no(e):
-    return ("not", e)
-
-
-def star(e):
-    return ("repeat", e)
-
-
-def plus(e):
-    return seq(e, star(e))
-
-
-def opt(e):
-    return alt(e, EPS)
-
-
-def ind(relation, e):
-    return ("indent", e, relation)
-
-
-def pos(relation, e):
-    return ("position", e, relation)
-
-
-def al(e):
-    return ("align", e)
+EMPTY = ("empty",)
 
 
 class Table:
@@ -73,7 +40,7 @@ class Table:
         "empty": lambda: table_nodes.EMPTY,
         "terminal": table_nodes.terminal,
         "rule": table_nodes.rule,
-        "seq": table_nodes.seq,
+        "sequence": table_nodes.sequence,
         "choice": table_nodes.choice,
         "not": table_nodes.not_,
         "repeat": table_nodes.repeat,
@@ -106,10 +73,10 @@ class Table:
 class Written:
     """A written expression, read word by word."""
 
-    WORDS = re.compile(r"\s*(empty|number|word|eol|any|>=|[=>/!*^_()\[\]]|[a-z]|[A-Z]'?)")
+    WORDS = re.compile(r"""\s*("[^"]*"|[A-Za-z][\w-]*'?|[/!*+?()])""")
 
-    def __init__(self, text, first):
-        self.first = first
+    def __init__(self, text, terminals):
+        self.terminals = terminals
         self.left = self.WORDS.findall(text)
         assert "".join(self.left) == re.sub(r"\s", "", text), text
         self.tree = self.choice()
@@ -123,40 +90,56 @@ class Written:
 
     def choice(self):
         first = self.sequence()
-        return alt(first, self.choice()) if self.take("/") else first
+        return ("choice", first, self.choice()) if self.take("/") else first
 
     def sequence(self):
-        first = self.prefix()
-        return seq(first, self.sequence()) if self.left and self.left[0] not in "/)]" else first
+        first = self.prefixed()
+        return ("sequence", first, self.sequence()) if self.left and self.left[0] not in "/)" else first
 
-    def prefix(self):
+    def prefixed(self):
+        """`!`, `align`, `indent` and `position` before an expression."""
         if self.take("!"):
-            return no(self.prefix())
-        tree = self.primary()
-        while sign := self.take("*", "^", "_"):
-            tree = star(tree) if sign == "*" else (ind if sign == "^" else pos)(RELATIONS[self.take()], tree)
+            return ("not", self.prefixed())
+        if self.take("align"):
+            return ("align", self.prefixed())
+        if form := self.take("indent", "position"):
+            relation = RELATIONS[self.take()]
+            return (form, self.prefixed(), relation)
+        return self.postfixed()
+
+    def postfixed(self):
+        """`*`, `+` and `?` behind an expression."""
+        tree = self.single()
+        while sign := self.take("*", "+", "?"):
+            if sign == "?":
+                tree = ("choice", tree, EMPTY)
+            else:
+                tree = ("repeat", tree) if sign == "*" else ("sequence", tree, ("repeat", tree))
         return tree
 
-    def primary(self):
+    def single(self):
         word = self.take()
-        if word in PLAIN:
-            return PLAIN[word]
-        if word in ("(", "["):
+        if word == "(":
             tree = self.choice()
-            assert self.take() == {"(": ")", "[": "]"}[word]
-            return tree if word == "(" else al(tree)
+            assert self.take() == ")"
+            return tree
+        if word == "empty":
+            return EMPTY
+        if word in SCANNED or word in LETTERS or word.startswith('"'):
+            return ("terminal", self.terminals[word.strip('"')])
         assert word[:1].isalpha(), word
-        return r(word) if word[0].isupper() else t(ord(word) - ord("a") + self.first)
+        return ("rule", word)
 
 
-def written(text, first=1):
-    return Written(text, first).tree
+def written(text, terminals=LETTERS):
+    return Written(text, terminals).tree
 
 
-def written_rules(text, first=1):
-    """Rules written as `X = a X / empty; Y = b`, in their order."""
-    named = [rule.split("=", 1) for rule in text.split(";")] if text else []
-    return {name.strip(): written(body, first) for name, body in named}
+def written_rules(rules, terminals=LETTERS):
+    """Rules by their names, in their order. They may also be written in a row, as `X = a X / empty; Y = b`."""
+    if isinstance(rules, str):
+        rules = dict(map(str.strip, rule.split("=")) for rule in rules.split(";") if rule)
+    return {name: written(body, terminals) for name, body in rules.items()}
 
 
 def named_columns(text):

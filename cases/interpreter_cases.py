@@ -5,19 +5,19 @@ Nothing here runs a grammar. Each call has its answer written beside it, worked 
 calls has one answer for all, or the rule that gives each, in its loop or function. A comment quotes the
 words of document 01 or names the clause of document 001 that decide it.
 
-Expressions are written as expressions.py says: a to z are terminals 1 to 26. A token is a letter and a column. An
+Expressions are written as README.md says: a to z are terminals 1 to 26. A token is a letter and a column. An
 interval is its two ends, and an answer the tokens read, the interval and the flag.
 """
 
 import faults
 from expressions import RELATIONS, Table, named_columns, written, written_rules
 from records import Cases, Payloads, begin, wide
-from table_nodes import EMPTY, align, choice, flat, indent, not_, over, position, repeat, rule, seq, terminal
+from table_nodes import EMPTY, align, choice, flat, indent, not_, over, position, repeat, rule, sequence, terminal
 
 CASES = Cases("interpreter_cases")
 TABLE_BYTES, TOKEN_BYTES = Payloads(), Payloads(100, (4, 16, 32))
 
-MODES = ("=", ">", ">=", "any")
+MODES = ("equal", "greater", "at-least", "any")
 
 # Words 2 and 3 of a token. "The interpreter uses only the first two words": these break the limits of both.
 REST = (70000, 300)
@@ -113,32 +113,32 @@ def by_mode(*rows):
 
 # "Cases a to j .. Start interval 0 without end and flag clear unless said".
 # "a. Align of a b under greater .. a2 b3 .."
-given("[a b]^>", ">=", "a2 b3", "2 0 1 clear", name="case a")
+given("indent greater (align (a b))", "at-least", "a2 b3", "2 0 1 clear", name="case a")
 # "b. a, mode greater: a5 gives 0 to 4; a0 fails."
-given("a", ">", "a5", "1 0 4 clear", name="case b")
-given("a", ">", "a0", "failure", name="case b")
+given("a", "greater", "a5", "1 0 4 clear", name="case b")
+given("a", "greater", "a0", "failure", name="case b")
 # "c. a, mode at least, a0: 0 to 0."
-given("a", ">=", "a0", "1 0 0 clear", name="case c")
+given("a", "at-least", "a0", "1 0 0 clear", name="case c")
 # "d. a, flag set, mode greater, a5: 5 to 5."
-given("a", ">", "a5", "1 5 5 clear", flag="set", name="case d")
+given("a", "greater", "a5", "1 5 5 clear", flag="set", name="case d")
 # "e. No tokens: a fails; empty succeeds, state unchanged."
 for mode in MODES:
     for flag in ("clear", "set"):
         given("a", mode, "", "failure", flag=flag, name="case e")
         given("empty", mode, "", f"0 0 inf {flag}", flag=flag, name="case e")
 # "f. a, then (b under greater, or empty) .. a1 b2 .. a3 b2 .."
-given("a (b^> / empty)", "=", "a1 b2", "2 1 1 clear", name="case f")
-given("a (b^> / empty)", "=", "a3 b2", "1 3 3 clear", name="case f")
+given("a (indent greater b / empty)", "equal", "a1 b2", "2 1 1 clear", name="case f")
+given("a (indent greater b / empty)", "equal", "a3 b2", "1 3 3 clear", name="case f")
 # "g. a, then b under any .. a3 b0 .."
-given("a b^any", "=", "a3 b0", "2 3 3 clear", name="case g")
+given("a indent any b", "equal", "a3 b0", "2 3 3 clear", name="case g")
 # "h. Align of empty, then a, mode greater, a5: 0 to 4."
-given("[empty] a", ">", "a5", "1 0 4 clear", name="case h")
+given("(align empty) a", "greater", "a5", "1 0 4 clear", name="case h")
 # "i. Align of (a under greater) .. from 1 to 1, a4 .."
-given("[a^>]", "=", "a4", "1 1 1 clear", start="1 1", name="case i")
+given("align (indent greater a)", "equal", "a4", "1 1 1 clear", start="1 1", name="case i")
 
 # 001, after Theorem 2.3: "(ab)^>, △ ⊢ (a1b2, N, ff) → ⊥" and "a^> b^>, △ ⊢ (a1b2, N, ff) → ⊤(ε, {0}, ff)".
-given("(a b)^>", "=", "a1 b2", "failure", name="case of 001")
-given("a^> b^>", "=", "a1 b2", "2 0 0 clear", name="case of 001")
+given("indent greater (a b)", "equal", "a1 b2", "failure", name="case of 001")
+given("(indent greater a) (indent greater b)", "equal", "a1 b2", "2 0 0 clear", name="case of 001")
 
 
 # --- Number 3 ------------------------------------------------------------------------------------
@@ -170,7 +170,7 @@ for node in (
 ):
     refused(f"node 2 is {node}", 4, [A, B, node], [0, 1], "a2")
 # The same with nothing wrong: a at 2 in mode at least leaves 0 to 2.
-for node in (EMPTY, A, (1, 255, 0, 0), rule(1), seq(1, 0), choice(0, 1), not_(1), repeat(1), indent(1, 3),
+for node in (EMPTY, A, (1, 255, 0, 0), rule(1), sequence(1, 0), choice(0, 1), not_(1), repeat(1), indent(1, 3),
              position(1, 3), align(1)):
     runs(f"node 2 is {node}", "1 0 2 clear", [A, B, node], [0, 1], "a2")
 refused("node 511 a kind 10", 4, [EMPTY] * 511 + [KIND_10])
@@ -197,16 +197,16 @@ bad("small 7, rule 0 = node 0 = rule 0", 0, [rule(0)], [0])
 # succeeds in the old state.
 bad("case j, repeat of empty", 1, [EMPTY, repeat(0)])
 bad("case j, repeat of empty, started at it", 1, [EMPTY, repeat(0)], node=1)
-given("(!empty)*", ">", "a5", "0 0 inf clear", name="case j")
-bad("case j, X = (a / empty) X", 3, [A, EMPTY, choice(0, 1), rule(0), seq(2, 3)], [4])
+given("(!empty)*", "greater", "a5", "0 0 inf clear", name="case j")
+bad("case j, X = (a / empty) X", 3, [A, EMPTY, choice(0, 1), rule(0), sequence(2, 3)], [4])
 # "a repeat whose child is and may not succeed reading nothing"
 bad("two repeats of empty", 1, [EMPTY, repeat(0), repeat(0)])
-bad("repeat of not a", 2, [A, not_(0), repeat(1)], tokens="a2")
-bad("repeat of repeat of a", 2, [A, repeat(0), repeat(1)], tokens="a2")
-bad("repeat of align of empty", 2, [EMPTY, align(0), repeat(1)])
+bad("(!a)*", 2, [A, not_(0), repeat(1)], tokens="a2")
+bad("(a*)*", 2, [A, repeat(0), repeat(1)], tokens="a2")
+bad("(align empty)*", 2, [EMPTY, align(0), repeat(1)])
 # "a sequence whose a is, and b too ..": X = X a needs X before it.
-bad("X = X a", 0, [rule(0), A, seq(0, 1)], [2])
-bad("a, then X = X a", 1, [A, rule(0), seq(1, 0)], [2])
+bad("X = X a", 0, [rule(0), A, sequence(0, 1)], [2])
+bad("a, then X = X a", 1, [A, rule(0), sequence(1, 0)], [2])
 bad("repeat of empty as node 511", 511, [EMPTY] * 511 + [repeat(0)], node=5)
 bad("every node of 511 a repeat of empty", 1, [EMPTY] + [repeat(0)] * 511)
 
@@ -251,7 +251,7 @@ refused("4097 tokens, a", 11, [A], tokens=LONG + token_words("a7"))
 # "The interpreter uses only the first two words": a b in mode at least, a2 b3, leaves 0 to 2 whatever words 2
 # and 3 are.
 for rest in ((0, 0), (0, 1), (1, 0), (3, 2), (256, 256), (65536, 65536), (U32, 0), (0, U32), (U32, U32)):
-    runs(f"words 2 and 3 are {rest}", "2 0 2 clear", [A, B, seq(0, 1)], tokens=token_words("a2 b3", rest), node=2)
+    runs(f"words 2 and 3 are {rest}", "2 0 2 clear", [A, B, sequence(0, 1)], tokens=token_words("a2 b3", rest), node=2)
 
 
 # --- Number 12 -----------------------------------------------------------------------------------
@@ -409,7 +409,7 @@ for first, starts in ((0, TERMINAL), (65532, HIGH)):
     for start, rows in starts.items():
         for mode in MODES:
             row("a", mode, start, rows[mode], first=first)
-            row("a", mode, start, rows["="], flag="set", first=first)
+            row("a", mode, start, rows["equal"], flag="set", first=first)
 
 # "A terminal also fails at the token count and at another terminal".
 for mode in MODES:
@@ -430,13 +430,13 @@ runs("terminal 4 at a token of terminal 3 at column 4", "failure", [(1, 4, 0, 0)
 # the outer one; with the flag set the inner mode says nothing either.
 for inner in MODES:
     for outer in MODES:
-        row(f"a_{inner}", outer, "3 6", TERMINAL["3 6"][inner])
-        row(f"a_{inner}", outer, "3 6", TERMINAL["3 6"]["="], flag="set")
-    row(f"a_{inner}", "=", "3 inf", TERMINAL["3 inf"][inner])
+        row(f"position {inner} a", outer, "3 6", TERMINAL["3 6"][inner])
+        row(f"position {inner} a", outer, "3 6", TERMINAL["3 6"]["equal"], flag="set")
+    row(f"position {inner} a", "equal", "3 inf", TERMINAL["3 inf"][inner])
 # The inner of two positions counts (001, Theorem 2.4, "Cancellation of outer token modes").
 for inner in MODES:
     for outer in MODES:
-        row(f"a_{inner}_{outer}", ">=", "5 5", TERMINAL["5 5"][inner])
+        row(f"position {outer} (position {inner} a)", "at-least", "5 5", TERMINAL["5 5"][inner])
 
 
 # --- Indent (001, clause 8) ----------------------------------------------------------------------
@@ -444,166 +444,166 @@ for inner in MODES:
 # "Indent: the child gets the inner set of S .." Rows for a at columns 0 to 9. An indent by equal changes
 # nothing (001, Theorem 2.4, "Identity indentation law").
 #
-# From 3 to 6. Greater: inside 4 on. Mode = leaves i to i, outside 0 to i-1; mode > leaves 4 to i-1, outside 0
-# to i-2; mode >= leaves 4 to i, outside 0 to i-1; mode any leaves 4 on, "without end less 1 is without end".
-# At least: inside 3 on. Mode = leaves i to i, mode > 3 to i-1, mode >= 3 to i, mode any 3 on; outside 0 to
-# the same upper end. Any: inside 0 on, outside 0 on. Each is met with 3 to 6.
+# From 3 to 6. Greater: inside 4 on. Mode equal leaves i to i, outside 0 to i-1; mode greater leaves 4 to i-1,
+# outside 0 to i-2; mode at least leaves 4 to i, outside 0 to i-1; mode any leaves 4 on, "without end less 1 is
+# without end". At least: inside 3 on. Mode equal leaves i to i, mode greater 3 to i-1, mode at least 3 to i, mode
+# any 3 on; outside 0 to the same upper end. Any: inside 0 on, outside 0 on. Each is met with 3 to 6.
 for relation, mode, answers in (
-    (">", "=", "- - - - 3-3 3-4 3-5 3-6 3-6 3-6"),
-    (">", ">", "- - - - - 3-3 3-4 3-5 3-6 3-6"),
-    (">", ">=", "- - - - 3-3 3-4 3-5 3-6 3-6 3-6"),
-    (">", "any", "3-6 " * 10),
-    (">=", "=", "- - - 3-3 3-4 3-5 3-6 3-6 3-6 3-6"),
-    (">=", ">", "- - - - 3-3 3-4 3-5 3-6 3-6 3-6"),
-    (">=", ">=", "- - - 3-3 3-4 3-5 3-6 3-6 3-6 3-6"),
-    (">=", "any", "3-6 " * 10),
-    ("any", "=", "3-6 " * 10),
-    ("any", ">", "- 3-6 3-6 3-6 3-6 3-6 3-6 3-6 3-6 3-6"),
-    ("any", ">=", "3-6 " * 10),
+    ("greater", "equal", "- - - - 3-3 3-4 3-5 3-6 3-6 3-6"),
+    ("greater", "greater", "- - - - - 3-3 3-4 3-5 3-6 3-6"),
+    ("greater", "at-least", "- - - - 3-3 3-4 3-5 3-6 3-6 3-6"),
+    ("greater", "any", "3-6 " * 10),
+    ("at-least", "equal", "- - - 3-3 3-4 3-5 3-6 3-6 3-6 3-6"),
+    ("at-least", "greater", "- - - - 3-3 3-4 3-5 3-6 3-6 3-6"),
+    ("at-least", "at-least", "- - - 3-3 3-4 3-5 3-6 3-6 3-6 3-6"),
+    ("at-least", "any", "3-6 " * 10),
+    ("any", "equal", "3-6 " * 10),
+    ("any", "greater", "- 3-6 3-6 3-6 3-6 3-6 3-6 3-6 3-6 3-6"),
+    ("any", "at-least", "3-6 " * 10),
     ("any", "any", "3-6 " * 10),
 ):
-    row(f"a^{relation}", mode, "3 6", answers)
+    row(f"indent {relation} a", mode, "3 6", answers)
 for mode in MODES:
-    row("a^=", mode, "3 6", TERMINAL["3 6"][mode])
+    row("indent equal a", mode, "3 6", TERMINAL["3 6"][mode])
 
 # With the flag set the token must lie in the inner set and leaves i to i, in every mode: under greater 4 on
 # and outside 0 to i-1, under at least 3 on and outside 0 to i, under any 0 on and outside 0 on. Align outside
 # or inside the indent is the same (001, Theorem 2.4, "Distributivity of indentation and alignment").
 for relation, answers in (
-    ("=", "- - - 3-3 4-4 5-5 6-6 - - -"),
-    (">", "- - - - 3-3 3-4 3-5 3-6 3-6 3-6"),
-    (">=", "- - - 3-3 3-4 3-5 3-6 3-6 3-6 3-6"),
+    ("equal", "- - - 3-3 4-4 5-5 6-6 - - -"),
+    ("greater", "- - - - 3-3 3-4 3-5 3-6 3-6 3-6"),
+    ("at-least", "- - - 3-3 3-4 3-5 3-6 3-6 3-6 3-6"),
     ("any", "3-6 " * 10),
 ):
     for mode in MODES:
-        row(f"a^{relation}", mode, "3 6", answers, flag="set")
-    for mode in (">", "any"):
-        row(f"[a]^{relation}", mode, "3 6", answers)
-        row(f"[a^{relation}]", mode, "3 6", answers)
+        row(f"indent {relation} a", mode, "3 6", answers, flag="set")
+    for mode in ("greater", "any"):
+        row(f"indent {relation} (align a)", mode, "3 6", answers)
+        row(f"align (indent {relation} a)", mode, "3 6", answers)
 
 # From 3 on: the same without the old upper end.
 for relation, mode, answers in (
-    (">", "=", "- - - - 3-3 3-4 3-5 3-6 3-7 3-8"),
-    (">", ">", "- - - - - 3-3 3-4 3-5 3-6 3-7"),
-    (">", ">=", "- - - - 3-3 3-4 3-5 3-6 3-7 3-8"),
-    (">", "any", "3-inf " * 10),
-    (">=", "=", "- - - 3-3 3-4 3-5 3-6 3-7 3-8 3-9"),
-    (">=", ">", "- - - - 3-3 3-4 3-5 3-6 3-7 3-8"),
-    (">=", ">=", "- - - 3-3 3-4 3-5 3-6 3-7 3-8 3-9"),
-    (">=", "any", "3-inf " * 10),
-    ("any", "=", "3-inf " * 10),
-    ("any", ">", "- 3-inf 3-inf 3-inf 3-inf 3-inf 3-inf 3-inf 3-inf 3-inf"),
-    ("any", ">=", "3-inf " * 10),
+    ("greater", "equal", "- - - - 3-3 3-4 3-5 3-6 3-7 3-8"),
+    ("greater", "greater", "- - - - - 3-3 3-4 3-5 3-6 3-7"),
+    ("greater", "at-least", "- - - - 3-3 3-4 3-5 3-6 3-7 3-8"),
+    ("greater", "any", "3-inf " * 10),
+    ("at-least", "equal", "- - - 3-3 3-4 3-5 3-6 3-7 3-8 3-9"),
+    ("at-least", "greater", "- - - - 3-3 3-4 3-5 3-6 3-7 3-8"),
+    ("at-least", "at-least", "- - - 3-3 3-4 3-5 3-6 3-7 3-8 3-9"),
+    ("at-least", "any", "3-inf " * 10),
+    ("any", "equal", "3-inf " * 10),
+    ("any", "greater", "- 3-inf 3-inf 3-inf 3-inf 3-inf 3-inf 3-inf 3-inf 3-inf"),
+    ("any", "at-least", "3-inf " * 10),
     ("any", "any", "3-inf " * 10),
 ):
-    row(f"a^{relation}", mode, "3 inf", answers)
+    row(f"indent {relation} a", mode, "3 inf", answers)
 for mode in MODES:
-    row("a^=", mode, "3 inf", TERMINAL["3 inf"][mode])
+    row("indent equal a", mode, "3 inf", TERMINAL["3 inf"][mode])
 
 # From 5 to 5: what succeeds leaves 5 to 5. From 0 to 0: what succeeds leaves 0 to 0; "greater" on the way out
 # of 1 to 1 is 0 to 0.
 for relation, mode, answers in (
-    (">", "=", "- - - - - - 5-5 5-5 5-5 5-5"),
-    (">", ">", "- - - - - - - 5-5 5-5 5-5"),
-    (">", ">=", "- - - - - - 5-5 5-5 5-5 5-5"),
-    (">", "any", "5-5 " * 10),
-    (">=", "=", "- - - - - 5-5 5-5 5-5 5-5 5-5"),
-    (">=", ">", "- - - - - - 5-5 5-5 5-5 5-5"),
-    (">=", ">=", "- - - - - 5-5 5-5 5-5 5-5 5-5"),
-    (">=", "any", "5-5 " * 10),
-    ("any", "=", "5-5 " * 10),
-    ("any", ">", "- 5-5 5-5 5-5 5-5 5-5 5-5 5-5 5-5 5-5"),
+    ("greater", "equal", "- - - - - - 5-5 5-5 5-5 5-5"),
+    ("greater", "greater", "- - - - - - - 5-5 5-5 5-5"),
+    ("greater", "at-least", "- - - - - - 5-5 5-5 5-5 5-5"),
+    ("greater", "any", "5-5 " * 10),
+    ("at-least", "equal", "- - - - - 5-5 5-5 5-5 5-5 5-5"),
+    ("at-least", "greater", "- - - - - - 5-5 5-5 5-5 5-5"),
+    ("at-least", "at-least", "- - - - - 5-5 5-5 5-5 5-5 5-5"),
+    ("at-least", "any", "5-5 " * 10),
+    ("any", "equal", "5-5 " * 10),
+    ("any", "greater", "- 5-5 5-5 5-5 5-5 5-5 5-5 5-5 5-5 5-5"),
 ):
-    row(f"a^{relation}", mode, "5 5", answers)
+    row(f"indent {relation} a", mode, "5 5", answers)
 for relation, mode, answers in (
-    (">", "=", "- 0-0 0-0 0-0"),
-    (">", ">", "- - 0-0 0-0"),
-    (">", ">=", "- 0-0 0-0 0-0"),
-    (">", "any", "0-0 0-0 0-0 0-0"),
-    (">=", "=", "0-0 0-0 0-0 0-0"),
-    (">=", ">", "- 0-0 0-0 0-0"),
-    (">=", ">=", "0-0 0-0 0-0 0-0"),
-    (">=", "any", "0-0 0-0 0-0 0-0"),
-    ("any", "=", "0-0 0-0 0-0 0-0"),
-    ("any", ">", "- 0-0 0-0 0-0"),
+    ("greater", "equal", "- 0-0 0-0 0-0"),
+    ("greater", "greater", "- - 0-0 0-0"),
+    ("greater", "at-least", "- 0-0 0-0 0-0"),
+    ("greater", "any", "0-0 0-0 0-0 0-0"),
+    ("at-least", "equal", "0-0 0-0 0-0 0-0"),
+    ("at-least", "greater", "- 0-0 0-0 0-0"),
+    ("at-least", "at-least", "0-0 0-0 0-0 0-0"),
+    ("at-least", "any", "0-0 0-0 0-0 0-0"),
+    ("any", "equal", "0-0 0-0 0-0 0-0"),
+    ("any", "greater", "- 0-0 0-0 0-0"),
 ):
-    row(f"a^{relation}", mode, "0 0", answers)
-row("a^>", "=", "0 0", "- 0-0 0-0 0-0", flag="set")
-row("a^any", ">", "0 0", "0-0 0-0 0-0 0-0", flag="set")
+    row(f"indent {relation} a", mode, "0 0", answers)
+row("indent greater a", "equal", "0 0", "- 0-0 0-0 0-0", flag="set")
+row("indent any a", "greater", "0 0", "0-0 0-0 0-0 0-0", flag="set")
 
 # From 0 on, greater on the way out down to 0.
-row("a^>", "=", "0 inf", "- 0-0 0-1 0-2")
-row("a^>", ">", "0 inf", "- - 0-0 0-1")
-row("a^>", ">=", "0 inf", "- 0-0 0-1 0-2")
-row("a^>", "any", "0 inf", "0-inf 0-inf 0-inf 0-inf")
-row("a^>=", "=", "0 inf", "0-0 0-1 0-2 0-3")
-row("a^>=", ">", "0 inf", "- 0-0 0-1 0-2")
+row("indent greater a", "equal", "0 inf", "- 0-0 0-1 0-2")
+row("indent greater a", "greater", "0 inf", "- - 0-0 0-1")
+row("indent greater a", "at-least", "0 inf", "- 0-0 0-1 0-2")
+row("indent greater a", "any", "0 inf", "0-inf 0-inf 0-inf 0-inf")
+row("indent at-least a", "equal", "0 inf", "0-0 0-1 0-2 0-3")
+row("indent at-least a", "greater", "0 inf", "- 0-0 0-1 0-2")
 
 # A child that reads nothing leaves its set; outside, S is met with the outer set of the inner set of S, which
 # holds S. The flag is "as it left it".
 for relation in MODES:
     for start in ("3 6", "3 inf", "5 5", "0 0", "0 inf", "65535 65535", "65535 inf"):
         for flag in ("clear", "set"):
-            given(f"empty^{relation}", ">", "a0", f"0 {start} {flag}", start=start, flag=flag)
-given("(!a)^>", ">", "b0", "0 3 6 set", start="3 6", flag="set")
-given("(a*)^>", ">", "a2", "0 3 6 set", start="3 6", flag="set")
-given("(a*)^>", ">", "a2", "0 3 6 clear", start="3 6")
+            given(f"indent {relation} empty", "greater", "a0", f"0 {start} {flag}", start=start, flag=flag)
+given("indent greater !a", "greater", "b0", "0 3 6 set", start="3 6", flag="set")
+given("indent greater a*", "greater", "a2", "0 3 6 set", start="3 6", flag="set")
+given("indent greater a*", "greater", "a2", "0 3 6 clear", start="3 6")
 
-# Nested indents; the last one written is the outer one.
+# Nested indents; the first one written is the outer one.
 # From 0 on: 1 on, 2 on; i to i; met 1 to i-1; met 0 to i-2.
-row("a^>^>", "=", "0 inf", "- - 0-0 0-1 0-2 0-3")
+row("indent greater (indent greater a)", "equal", "0 inf", "- - 0-0 0-1 0-2 0-3")
 # Mode greater needs 3 or more: 2 to i-1; 1 to i-2; 0 to i-3.
-row("a^>^>", ">", "0 inf", "- - - 0-0 0-1 0-2")
+row("indent greater (indent greater a)", "greater", "0 inf", "- - - 0-0 0-1 0-2")
 # 3 on inside; 3 to i; 2 to i-1; 1 to i-2; 0 to i-3.
-row("a^>^>^>", ">=", "0 inf", "- - - 0-0 0-1 0-2")
-row("a^>^>^>", "any", "0 inf", "0-inf 0-inf 0-inf 0-inf")
+row("indent greater (indent greater (indent greater a))", "at-least", "0 inf", "- - - 0-0 0-1 0-2")
+row("indent greater (indent greater (indent greater a))", "any", "0 inf", "0-inf 0-inf 0-inf 0-inf")
 # From 3 to 6. Inside 4 on in both, mode equal: i to i; then greater and at least, in either order, 0 to i-1.
-row("a^>^>=", "=", "3 6", "- - - - 3-3 3-4 3-5 3-6 3-6")
-row("a^>=^>", "=", "3 6", "- - - - 3-3 3-4 3-5 3-6 3-6")
+row("indent at-least (indent greater a)", "equal", "3 6", "- - - - 3-3 3-4 3-5 3-6 3-6")
+row("indent greater (indent at-least a)", "equal", "3 6", "- - - - 3-3 3-4 3-5 3-6 3-6")
 # Greater then any: inside 0 on; the any leaves 4 on; outside 0 on less 1.
-row("a^any^>", "=", "3 6", "3-6 " * 9)
+row("indent greater (indent any a)", "equal", "3 6", "3-6 " * 9)
 # Any then greater: inside 1 on; greater leaves 0 to i-1; any 0 on.
-row("a^>^any", "=", "3 6", "- 3-6 3-6 3-6 3-6 3-6 3-6 3-6 3-6")
+row("indent any (indent greater a)", "equal", "3 6", "- 3-6 3-6 3-6 3-6 3-6 3-6 3-6 3-6")
 # At least twice is at least (001, "Composition law of indentations").
-row("a^>=^>=", "=", "3 6", "- - - 3-3 3-4 3-5 3-6 3-6 3-6")
+row("indent at-least (indent at-least a)", "equal", "3 6", "- - - 3-3 3-4 3-5 3-6 3-6 3-6")
 # Equal in between changes nothing.
-row("a^=^>^=", "=", "3 6", "- - - - 3-3 3-4 3-5 3-6 3-6")
+row("indent equal (indent greater (indent equal a))", "equal", "3 6", "- - - - 3-3 3-4 3-5 3-6 3-6")
 # With the flag set, inside 5 on; i to i; met 4 to i-1; met 3 to i-2.
-row("a^>^>", ">", "3 6", "- - - - - 3-3 3-4 3-5 3-6", flag="set")
+row("indent greater (indent greater a)", "greater", "3 6", "- - - - - 3-3 3-4 3-5 3-6", flag="set")
 # A position may stand on either side of an indent (001, Theorem 2.3).
-row("a^>_=", ">", "3 6", "- - - - 3-3 3-4 3-5 3-6 3-6")
-row("a_=^>", ">", "3 6", "- - - - 3-3 3-4 3-5 3-6 3-6")
+row("position equal (indent greater a)", "greater", "3 6", "- - - - 3-3 3-4 3-5 3-6 3-6")
+row("indent greater (position equal a)", "greater", "3 6", "- - - - 3-3 3-4 3-5 3-6 3-6")
 
 # More than one token in an indent: one baseline for both.
 # Inside 1 on; 3 to 3; 3 to 3; outside 0 to 2.
-given("(a b)^>", "=", "a3 b3", "2 0 2 clear")
-given("(a b)^>", "=", "a3 b4", "failure")
+given("indent greater (a b)", "equal", "a3 b3", "2 0 2 clear")
+given("indent greater (a b)", "equal", "a3 b4", "failure")
 # Inside 1 on; 1 to 3; 1 to 2; outside 0 to 1.
-given("(a b)^>", ">=", "a3 b2", "2 0 1 clear")
-given("(a b)^>", ">=", "a3 b1", "2 0 0 clear")
-given("(a b)^>", ">=", "a3 b0", "failure")
+given("indent greater (a b)", "at-least", "a3 b2", "2 0 1 clear")
+given("indent greater (a b)", "at-least", "a3 b1", "2 0 0 clear")
+given("indent greater (a b)", "at-least", "a3 b0", "failure")
 # Inside 1 on; 1 to 2; 1 to 1; outside 0 to 0.
-given("(a b)^>", ">", "a3 b2", "2 0 0 clear")
-given("(a b)^>", ">", "a3 b1", "failure")
+given("indent greater (a b)", "greater", "a3 b2", "2 0 0 clear")
+given("indent greater (a b)", "greater", "a3 b1", "failure")
 # Two indents have two baselines: 0 to 2, then inside 1 on, 1 to 1, 0 to 0.
-given("a^> b^>", "=", "a3 b1", "2 0 0 clear")
-given("a^> b^>", "=", "a1 b3", "2 0 0 clear")
+given("(indent greater a) (indent greater b)", "equal", "a3 b1", "2 0 0 clear")
+given("(indent greater a) (indent greater b)", "equal", "a1 b3", "2 0 0 clear")
 # 0 to 2; then b on its own in mode equal.
-given("a^> b", "=", "a3 b2", "2 2 2 clear")
-given("a^> b", "=", "a3 b0", "2 0 0 clear")
-given("a^> b", "=", "a3 b3", "failure")
+given("(indent greater a) b", "equal", "a3 b2", "2 2 2 clear")
+given("(indent greater a) b", "equal", "a3 b0", "2 0 0 clear")
+given("(indent greater a) b", "equal", "a3 b3", "failure")
 # b at the baseline, then a right of it, then b at it again.
-given("b a^> b", "=", "b2 a3 b2", "3 2 2 clear")
-given("b a^> b", "=", "b2 a2 b2", "failure")
-given("b a^> b", "=", "b2 a3 b3", "failure")
+given("b (indent greater a) b", "equal", "b2 a3 b2", "3 2 2 clear")
+given("b (indent greater a) b", "equal", "b2 a2 b2", "failure")
+given("b (indent greater a) b", "equal", "b2 a3 b3", "failure")
 # 2 to 2; inside 3 on: 4 to 4, outside met 3 to 3; then in the inner block b at 3; out 0 to 2 met 2 to 2.
-given("b (a^> b)^>", "=", "b2 a4 b3", "3 2 2 clear")
-given("b (a^> b)^>", "=", "b2 a4 b4", "failure")
-given("b (a^> b)^>", "=", "b2 a3 b3", "failure")
+given("b indent greater ((indent greater a) b)", "equal", "b2 a4 b3", "3 2 2 clear")
+given("b indent greater ((indent greater a) b)", "equal", "b2 a4 b4", "failure")
+given("b indent greater ((indent greater a) b)", "equal", "b2 a3 b3", "failure")
 # "Any other child's failure is its parent's."
-given("a^>", ">", "b5", "failure")
-given("a^>", ">", "", "failure")
-given("(a b)^any", "=", "a3 b4", "failure")
+given("indent greater a", "greater", "b5", "failure")
+given("indent greater a", "greater", "", "failure")
+given("indent any (a b)", "equal", "a3 b4", "failure")
 
 
 # --- Empty and rule (001, clauses 1 and 3) -------------------------------------------------------
@@ -611,53 +611,53 @@ given("(a b)^any", "=", "a3 b4", "failure")
 # "Empty changes nothing."
 for start in ("0 inf", "3 6", "5 5", "65535 inf"):
     for flag in ("clear", "set"):
-        given("empty", "=", "a9", f"0 {start} {flag}", start=start, flag=flag)
+        given("empty", "equal", "a9", f"0 {start} {flag}", start=start, flag=flag)
 # "A rule is its node."
-given("X", ">", "a5", "1 0 4 clear", rules="X = a")
-given("X", ">", "a5", "1 5 5 clear", rules="X = a", flag="set")
-given("X", ">", "b5", "failure", rules="X = a")
-given("X", ">", "a5", "0 0 inf set", rules="X = empty", flag="set")
-given("X", ">", "a5", "1 0 4 clear", rules="X = Y; Y = Z; Z = a")
-given("Z X Y", ">=", "c9 a4 b5", "3 0 4 clear", rules="X = a; Y = b; Z = c")
-given("Y X Z", ">=", "c9 a4 b5", "failure", rules="X = a; Y = b; Z = c")
+given("X", "greater", "a5", "1 0 4 clear", rules="X = a")
+given("X", "greater", "a5", "1 5 5 clear", rules="X = a", flag="set")
+given("X", "greater", "b5", "failure", rules="X = a")
+given("X", "greater", "a5", "0 0 inf set", rules="X = empty", flag="set")
+given("X", "greater", "a5", "1 0 4 clear", rules="X = Y; Y = Z; Z = a")
+given("Z X Y", "at-least", "c9 a4 b5", "3 0 4 clear", rules="X = a; Y = b; Z = c")
+given("Y X Z", "at-least", "c9 a4 b5", "failure", rules="X = a; Y = b; Z = c")
 # "Position changes the mode for its child, through rules too."
-given("X_>", "=", "a5", "1 0 4 clear", rules="X = a")
-given("X_any", "=", "a0", "1 3 6 clear", rules="X = a", start="3 6")
-given("X_>", "=", "a5 b3", "2 0 2 clear", rules="X = a Y; Y = b")
-given("X_>", "=", "a5 b3", "2 3 3 clear", rules="X = a Y; Y = b_=", start="3 inf")
-given("X_=", "any", "a5", "1 0 4 clear", rules="X = Y_>; Y = a")
-given("X_=_any", ">", "a5 b5", "2 5 5 clear", rules="X = Y Z; Y = a; Z = b")
-given("X_=_any", ">", "a5 b6", "failure", rules="X = Y Z; Y = a; Z = b")
+given("position greater X", "equal", "a5", "1 0 4 clear", rules="X = a")
+given("position any X", "equal", "a0", "1 3 6 clear", rules="X = a", start="3 6")
+given("position greater X", "equal", "a5 b3", "2 0 2 clear", rules="X = a Y; Y = b")
+given("position greater X", "equal", "a5 b3", "2 3 3 clear", rules="X = a Y; Y = position equal b", start="3 inf")
+given("position equal X", "any", "a5", "1 0 4 clear", rules="X = position greater Y; Y = a")
+given("position any (position equal X)", "greater", "a5 b5", "2 5 5 clear", rules="X = Y Z; Y = a; Z = b")
+given("position any (position equal X)", "greater", "a5 b6", "failure", rules="X = Y Z; Y = a; Z = b")
 # And only for its child.
-given("X b", "=", "a9 b3", "2 3 3 clear", rules="X = a_any", start="3 6")
-given("X b", "=", "a9 b9", "failure", rules="X = a_any", start="3 6")
-given("X_any Y", "=", "a9 b4", "2 4 4 clear", rules="X = a; Y = b", start="3 6")
-given("X_any X", "=", "a9 a4", "2 4 4 clear", rules="X = a", start="3 6")
-given("X X_any", "=", "a4 a9", "2 4 4 clear", rules="X = a", start="3 6")
+given("X b", "equal", "a9 b3", "2 3 3 clear", rules="X = position any a", start="3 6")
+given("X b", "equal", "a9 b9", "failure", rules="X = position any a", start="3 6")
+given("(position any X) Y", "equal", "a9 b4", "2 4 4 clear", rules="X = a; Y = b", start="3 6")
+given("(position any X) X", "equal", "a9 a4", "2 4 4 clear", rules="X = a", start="3 6")
+given("X position any X", "equal", "a4 a9", "2 4 4 clear", rules="X = a", start="3 6")
 # Indents and aligns through rules.
-given("X^>", "=", "a5", "1 0 4 clear", rules="X = a")
-given("[X]", ">", "a5", "1 5 5 clear", rules="X = Y; Y = a b / a")
-given("[X]^>", ">=", "a2 b3", "2 0 1 clear", rules="X = a Y; Y = b")
-given("Y^> b", "=", "a4 b3", "2 3 3 clear", rules="X = a; Y = [X]")
-given("X a", ">", "a5", "1 0 4 clear", rules="X = [empty]")
+given("indent greater X", "equal", "a5", "1 0 4 clear", rules="X = a")
+given("align X", "greater", "a5", "1 5 5 clear", rules="X = Y; Y = a b / a")
+given("indent greater (align X)", "at-least", "a2 b3", "2 0 1 clear", rules="X = a Y; Y = b")
+given("(indent greater Y) b", "equal", "a4 b3", "2 3 3 clear", rules="X = a; Y = align X")
+given("X a", "greater", "a5", "1 0 4 clear", rules="X = align empty")
 
 
 # --- Sequence (001, clause 4) --------------------------------------------------------------------
 
 # "Sequence: a, then b from where a ended."
-given("a b", "=", "a2 b2", "2 2 2 clear")
-given("a b", "=", "a2 b3", "failure")
-given("a b", ">", "a2 b3", "2 0 1 clear")
-given("a b", ">", "a3 b1", "2 0 0 clear")
-given("a b", ">", "a3 b0", "failure")
-given("a b", ">=", "a2 b3", "2 0 2 clear")
-given("a b", ">=", "a3 b2", "2 0 2 clear")
-given("a b", ">=", "a3 b0", "2 0 0 clear")
+given("a b", "equal", "a2 b2", "2 2 2 clear")
+given("a b", "equal", "a2 b3", "failure")
+given("a b", "greater", "a2 b3", "2 0 1 clear")
+given("a b", "greater", "a3 b1", "2 0 0 clear")
+given("a b", "greater", "a3 b0", "failure")
+given("a b", "at-least", "a2 b3", "2 0 2 clear")
+given("a b", "at-least", "a3 b2", "2 0 2 clear")
+given("a b", "at-least", "a3 b0", "2 0 0 clear")
 given("a b", "any", "a9 b0", "2 0 inf clear")
 given("a b", "any", "a9 b0", "2 3 6 clear", start="3 6")
-given("a b", ">=", "a9 b3", "2 3 3 clear", start="3 6")
-given("a b", ">=", "a9 b2", "failure", start="3 6")
-given("a b", ">", "a4 b9", "2 3 3 clear", start="3 6")
+given("a b", "at-least", "a9 b3", "2 3 3 clear", start="3 6")
+given("a b", "at-least", "a9 b2", "failure", start="3 6")
+given("a b", "greater", "a4 b9", "2 3 3 clear", start="3 6")
 # Failures of the first and of the second.
 given("a b", "any", "b1 b1", "failure")
 given("a b", "any", "a1 a1", "failure")
@@ -666,431 +666,436 @@ given("a b", "any", "", "failure")
 # More than what is read stays.
 given("a b", "any", "a1 b2 c3", "2 0 inf clear")
 # "The flag is then clear": only the first token is aligned. 2 to 2, then b by the mode.
-given("a b", "=", "a2 b2", "2 2 2 clear", flag="set")
-given("a b", ">", "a2 b3", "2 2 2 clear", flag="set")
-given("a b", ">", "a2 b2", "failure", flag="set")
-given("a b", ">=", "a2 b2", "2 2 2 clear", flag="set")
-given("a b", ">=", "a2 b1", "failure", flag="set")
+given("a b", "equal", "a2 b2", "2 2 2 clear", flag="set")
+given("a b", "greater", "a2 b3", "2 2 2 clear", flag="set")
+given("a b", "greater", "a2 b2", "failure", flag="set")
+given("a b", "at-least", "a2 b2", "2 2 2 clear", flag="set")
+given("a b", "at-least", "a2 b1", "failure", flag="set")
 given("a b", "any", "a2 b0", "2 2 2 clear", flag="set")
 given("a b", "any", "a2 b0", "failure", flag="set", start="3 6")
-given("empty a", ">", "a5", "1 5 5 clear", flag="set")
-given("a empty", ">", "a5", "1 0 4 clear")
-given("empty empty", ">", "a5", "0 3 6 set", flag="set", start="3 6")
+given("empty a", "greater", "a5", "1 5 5 clear", flag="set")
+given("a empty", "greater", "a5", "1 0 4 clear")
+given("empty empty", "greater", "a5", "0 3 6 set", flag="set", start="3 6")
 # Narrowing step by step: 0 to 9, 0 to 7, 0 to 7, 0 to 4; then 4 to 4.
-given("a_>= b_> c_> d_>=", "=", "a9 b8 c9 d4", "4 0 4 clear")
-given("a_>= b_> c_> d_>= e", "=", "a9 b8 c9 d4 e4", "5 4 4 clear")
-given("a_>= b_> c_> d_>= e", "=", "a9 b8 c9 d4 e5", "failure")
+NARROWING = "(position at-least a) (position greater b) (position greater c) (position at-least d)"
+given(NARROWING, "equal", "a9 b8 c9 d4", "4 0 4 clear")
+given(f"{NARROWING} e", "equal", "a9 b8 c9 d4 e4", "5 4 4 clear")
+given(f"{NARROWING} e", "equal", "a9 b8 c9 d4 e5", "failure")
 # Sequences nested to either side are the same.
-given("((a b) c) d", ">=", "a4 b3 c2 d7", "4 0 2 clear")
-given("a (b (c d))", ">=", "a4 b3 c2 d7", "4 0 2 clear")
+given("((a b) c) d", "at-least", "a4 b3 c2 d7", "4 0 2 clear")
+given("a (b (c d))", "at-least", "a4 b3 c2 d7", "4 0 2 clear")
 # The mode comes back after a position that failed or ended last in the first part.
-given("(a b_any) c", "=", "a3 b9 c3", "3 3 3 clear")
-given("(a b_any) c", "=", "a3 b9 c4", "failure")
+given("(a position any b) c", "equal", "a3 b9 c3", "3 3 3 clear")
+given("(a position any b) c", "equal", "a3 b9 c4", "failure")
 
 
 # --- Choice (001, clause 5) ----------------------------------------------------------------------
 
 # "Choice: a, or if a fails b from the old state."
-given("a / b", ">", "a5", "1 0 4 clear")
-given("a / b", ">", "b5", "1 0 4 clear")
-given("a / b", ">", "c5", "failure")
-given("a / b", ">", "", "failure")
-given("a / empty", ">", "b5", "0 0 inf clear")
-given("a / empty", ">", "b5", "0 3 6 set", start="3 6", flag="set")
-given("a / empty", "=", "a7", "0 3 6 clear", start="3 6")
-given("empty / a", ">", "a5", "0 0 inf clear")
-given("a / b / c", ">=", "c5", "1 0 5 clear")
-given("(a / b) / c", ">=", "b5", "1 0 5 clear")
+given("a / b", "greater", "a5", "1 0 4 clear")
+given("a / b", "greater", "b5", "1 0 4 clear")
+given("a / b", "greater", "c5", "failure")
+given("a / b", "greater", "", "failure")
+given("a / empty", "greater", "b5", "0 0 inf clear")
+given("a / empty", "greater", "b5", "0 3 6 set", start="3 6", flag="set")
+given("a / empty", "equal", "a7", "0 3 6 clear", start="3 6")
+given("empty / a", "greater", "a5", "0 0 inf clear")
+given("a / b / c", "at-least", "c5", "1 0 5 clear")
+given("(a / b) / c", "at-least", "b5", "1 0 5 clear")
 # The same terminal twice: the second may take what the first did not.
-given("a / a_any", "=", "a7", "1 3 6 clear", start="3 6")
-given("a_any / a", "=", "a4", "1 3 6 clear", start="3 6")
-given("a^> / a", "=", "a3", "1 3 3 clear", start="3 6")
+given("a / position any a", "equal", "a7", "1 3 6 clear", start="3 6")
+given("position any a / a", "equal", "a4", "1 3 6 clear", start="3 6")
+given("indent greater a / a", "equal", "a3", "1 3 3 clear", start="3 6")
 # A first part that succeeded is not gone back to.
 given("(a / a b) c", "any", "a1 b1 c1", "failure")
 given("(a b / a) c", "any", "a1 c1", "2 0 inf clear")
 given("(a b / a) c", "any", "a1 b1 c1", "3 0 inf clear")
 # "Trying the second alternative with the first one's narrowed interval": a leaves 2 to 2 and b fails; the
 # second starts from 0 on again.
-given("a b / a_any c", "=", "a2 c5", "2 5 5 clear")
-given("a b / (a c)_any", "=", "a2 c5", "2 0 inf clear")
-given("a b / (a c)_any", "=", "a4 c9", "2 3 6 clear", start="3 6")
-given("a b / empty", "=", "a2 c2", "0 0 inf clear")
-given("a b / empty", ">", "a5 c2", "0 3 6 clear", start="3 6")
-given("a_>= b / a_>= b_any", "=", "a4 b9", "2 0 4 clear")
-# The flag goes back too: a at 2 is aligned in both; a_> at 2 with a clear flag would leave 0 to 1.
-given("a b / a_> c", "=", "a2 c2", "2 2 2 clear", flag="set")
-given("a b / empty", "=", "a2 c2", "0 0 inf set", flag="set")
-given("a b / c", "=", "a2 c2", "failure", flag="set")
+given("a b / (position any a) c", "equal", "a2 c5", "2 5 5 clear")
+given("a b / position any (a c)", "equal", "a2 c5", "2 0 inf clear")
+given("a b / position any (a c)", "equal", "a4 c9", "2 3 6 clear", start="3 6")
+given("a b / empty", "equal", "a2 c2", "0 0 inf clear")
+given("a b / empty", "greater", "a5 c2", "0 3 6 clear", start="3 6")
+given("(position at-least a) b / (position at-least a) (position any b)", "equal", "a4 b9", "2 0 4 clear")
+# The flag goes back too: a at 2 is aligned in both; `position greater a` at 2 with a clear flag would leave 0 to 1.
+given("a b / (position greater a) c", "equal", "a2 c2", "2 2 2 clear", flag="set")
+given("a b / empty", "equal", "a2 c2", "0 0 inf set", flag="set")
+given("a b / c", "equal", "a2 c2", "failure", flag="set")
 # Align's flag does not stay: a at 5 in mode greater leaves 0 to 4.
-given("[a b] / a c", ">", "a5 c6", "2 0 4 clear")
-given("[a] / a", ">", "a2", "failure", start="3 6")
-given("[a] / a", ">", "a9", "1 3 6 clear", start="3 6")
+given("align (a b) / a c", "greater", "a5 c6", "2 0 4 clear")
+given("align a / a", "greater", "a2", "failure", start="3 6")
+given("align a / a", "greater", "a9", "1 3 6 clear", start="3 6")
 # The indent's interval does not stay: from 2 to 2 the inner set is 3 on.
-given("(a b)^> / a c", "=", "a2 c2", "2 2 2 clear", start="2 2")
-given("(a b)^> / a c", "=", "a3 c3", "failure", start="2 2")
-given("(a b)^> / (a c)^>", "=", "a3 c3", "2 2 2 clear", start="2 2")
+given("indent greater (a b) / a c", "equal", "a2 c2", "2 2 2 clear", start="2 2")
+given("indent greater (a b) / a c", "equal", "a3 c3", "failure", start="2 2")
+given("indent greater (a b) / indent greater (a c)", "equal", "a3 c3", "2 2 2 clear", start="2 2")
 # The position's mode does not stay: c must stand at 3.
-given("(a b)_any / a c", "=", "a3 c3", "2 3 3 clear")
-given("(a b)_any / a c", "=", "a3 c4", "failure")
-given("(a b)_any / a_any c", "=", "a3 c4", "2 4 4 clear")
+given("position any (a b) / a c", "equal", "a3 c3", "2 3 3 clear")
+given("position any (a b) / a c", "equal", "a3 c4", "failure")
+given("position any (a b) / (position any a) c", "equal", "a3 c4", "2 4 4 clear")
 # Narrowed by what came before the choice, not by its first part.
-given("a (b_>= c / b_any d)", ">=", "a9 b4 d1", "3 0 1 clear")
-given("a (b c / b_any)", ">=", "a9 b4 d1", "2 0 9 clear")
-given("a (b c / empty)", ">=", "a9 b4 d1", "1 0 9 clear")
+given("a ((position at-least b) c / (position any b) d)", "at-least", "a9 b4 d1", "3 0 1 clear")
+given("a (b c / position any b)", "at-least", "a9 b4 d1", "2 0 9 clear")
+given("a (b c / empty)", "at-least", "a9 b4 d1", "1 0 9 clear")
 # Three alternatives, two of them narrowing.
-given("a_= b / a_> c / a_any d", "=", "a5 d9", "2 9 9 clear")
-given("(a_= b / a_> c) / a_>= d", "=", "a5 d4", "2 4 4 clear")
-given("(a_= b / a_> c) / a_>= d", "=", "a5 d6", "failure")
+given("(position equal a) b / (position greater a) c / (position any a) d", "equal", "a5 d9", "2 9 9 clear")
+given("((position equal a) b / (position greater a) c) / (position at-least a) d", "equal", "a5 d4", "2 4 4 clear")
+given("((position equal a) b / (position greater a) c) / (position at-least a) d", "equal", "a5 d6", "failure")
 
 
 # --- Not (001, clause 6) -------------------------------------------------------------------------
 
 # "Not succeeds exactly if its child fails", "Not and failure hand the old state on."
-given("!a", ">", "b5", "0 0 inf clear")
-given("!a", ">", "a5", "failure")
-given("!a", ">", "a0", "0 0 inf clear")
-given("!a", ">", "", "0 0 inf clear")
-given("!a", "=", "a7", "0 3 6 clear", start="3 6")
-given("!a", "=", "a6", "failure", start="3 6")
+given("!a", "greater", "b5", "0 0 inf clear")
+given("!a", "greater", "a5", "failure")
+given("!a", "greater", "a0", "0 0 inf clear")
+given("!a", "greater", "", "0 0 inf clear")
+given("!a", "equal", "a7", "0 3 6 clear", start="3 6")
+given("!a", "equal", "a6", "failure", start="3 6")
 given("!a", "any", "a7", "0 3 6 set", start="3 6", flag="set")
 given("!a", "any", "a6", "failure", start="3 6", flag="set")
-given("!empty", ">", "", "failure")
-given("!!empty", ">", "", "0 0 inf clear")
-given("!!a", "=", "a2", "0 0 inf clear")
-given("!!a", "=", "a2", "0 0 inf set", flag="set")
-given("!!a", "=", "b2", "failure")
-given("!!!a", "=", "b2", "0 0 inf clear")
-given("!!a a", "=", "a2", "1 2 2 clear")
-given("!!a a", ">", "a2", "1 2 2 clear", flag="set")
-given("!!a a_any", "=", "a2", "1 0 inf clear")
-# A child that narrows before it fails: a leaves 2 to 2, b fails; a_any leaves 0 on, and c is at 5.
-given("!(a b) a_any c", "=", "a2 c5", "2 5 5 clear")
-given("!(a b) a c", "=", "a2 c5", "failure")
-given("!(a b)", "=", "a2 c5", "0 3 6 clear", start="3 6")
-given("!(a b)", "=", "a4 c5", "0 3 6 set", start="3 6", flag="set")
-given("!(a b) a", ">", "a4 c5", "1 4 4 clear", start="3 6", flag="set")
+given("!empty", "greater", "", "failure")
+given("!!empty", "greater", "", "0 0 inf clear")
+given("!!a", "equal", "a2", "0 0 inf clear")
+given("!!a", "equal", "a2", "0 0 inf set", flag="set")
+given("!!a", "equal", "b2", "failure")
+given("!!!a", "equal", "b2", "0 0 inf clear")
+given("!!a a", "equal", "a2", "1 2 2 clear")
+given("!!a a", "greater", "a2", "1 2 2 clear", flag="set")
+given("!!a position any a", "equal", "a2", "1 0 inf clear")
+# A child that narrows before it fails: a leaves 2 to 2, b fails; `position any a` leaves 0 on, and c is at 5.
+given("!(a b) (position any a) c", "equal", "a2 c5", "2 5 5 clear")
+given("!(a b) a c", "equal", "a2 c5", "failure")
+given("!(a b)", "equal", "a2 c5", "0 3 6 clear", start="3 6")
+given("!(a b)", "equal", "a4 c5", "0 3 6 set", start="3 6", flag="set")
+given("!(a b) a", "greater", "a4 c5", "1 4 4 clear", start="3 6", flag="set")
 # The child's align, indent and position are gone with it.
-given("![a] b", ">", "b5", "1 0 4 clear")
-given("!(a^>) a", "=", "a3", "1 3 3 clear", start="3 6")
-given("!(a^>) a", "=", "a4", "failure", start="3 6")
-given("!((a b)_any) a", "=", "a9 c9", "failure", start="3 6")
-given("!((a b)_any) a", "=", "a5 c9", "1 5 5 clear", start="3 6")
-given("!(a b_any) a c", "=", "a5 c9", "failure", start="3 6")
-given("!(a b_any) a c", "=", "a5 c5", "2 5 5 clear", start="3 6")
+given("!(align a) b", "greater", "b5", "1 0 4 clear")
+given("!(indent greater a) a", "equal", "a3", "1 3 3 clear", start="3 6")
+given("!(indent greater a) a", "equal", "a4", "failure", start="3 6")
+given("!(position any (a b)) a", "equal", "a9 c9", "failure", start="3 6")
+given("!(position any (a b)) a", "equal", "a5 c9", "1 5 5 clear", start="3 6")
+given("!(a position any b) a c", "equal", "a5 c9", "failure", start="3 6")
+given("!(a position any b) a c", "equal", "a5 c5", "2 5 5 clear", start="3 6")
 # Forms around a not.
-given("[!a]", ">", "b5", "0 3 6 clear", start="3 6")
-given("[!a]", ">", "a7", "0 3 6 clear", start="3 6")
-given("[!a]", ">", "a5", "failure", start="3 6")
-given("[!a]", ">", "b5", "0 3 6 set", start="3 6", flag="set")
-given("(!a)^>", "=", "a3", "0 3 6 clear", start="3 6")
-given("(!a)^>", "=", "a4", "failure", start="3 6")
-given("(!a)_any", "=", "a9", "failure", start="3 6")
-given("(!a b)*", ">=", "b4 b2 a9", "2 0 2 clear")
+given("align !a", "greater", "b5", "0 3 6 clear", start="3 6")
+given("align !a", "greater", "a7", "0 3 6 clear", start="3 6")
+given("align !a", "greater", "a5", "failure", start="3 6")
+given("align !a", "greater", "b5", "0 3 6 set", start="3 6", flag="set")
+given("indent greater !a", "equal", "a3", "0 3 6 clear", start="3 6")
+given("indent greater !a", "equal", "a4", "failure", start="3 6")
+given("position any !a", "equal", "a9", "failure", start="3 6")
+given("(!a b)*", "at-least", "b4 b2 a9", "2 0 2 clear")
 
 
 # --- Repeat (001, clause 7) ----------------------------------------------------------------------
 
 # "Repeat: success in the old state .. else the repeat again .."
-given("a*", ">", "", "0 0 inf clear")
-given("a*", ">", "b5", "0 0 inf clear")
-given("a*", ">", "b5", "0 3 6 set", start="3 6", flag="set")
-given("a*", "=", "a7", "0 3 6 clear", start="3 6")
-given("a*", "=", "a2", "1 2 2 clear")
+given("a*", "greater", "", "0 0 inf clear")
+given("a*", "greater", "b5", "0 0 inf clear")
+given("a*", "greater", "b5", "0 3 6 set", start="3 6", flag="set")
+given("a*", "equal", "a7", "0 3 6 clear", start="3 6")
+given("a*", "equal", "a2", "1 2 2 clear")
 # Each round narrows: at least 0 to 5, 0 to 3, 0 to 3; greater one less each; equal stops at the third.
-given("a*", ">=", "a5 a3 a4", "3 0 3 clear")
-given("a*", ">", "a5 a3 a4", "3 0 2 clear")
-given("a*", "=", "a2 a2 a3", "2 2 2 clear")
+given("a*", "at-least", "a5 a3 a4", "3 0 3 clear")
+given("a*", "greater", "a5 a3 a4", "3 0 2 clear")
+given("a*", "equal", "a2 a2 a3", "2 2 2 clear")
 given("a*", "any", "a5 a0 a9", "3 0 inf clear")
-given("a*", ">", "a5 a3 a1 a0", "3 0 0 clear")
-given("a*", ">=", "a5 a4 a3 a2 a1 a0", "6 0 0 clear")
-given("a*", ">=", "a5 a4 a3 a2 a1 a0", "3 3 3 clear", start="3 6")
-given("a*", ">", "a9 a8 a7 a6 a5 a4 a3", "6 3 3 clear", start="3 6")
+given("a*", "greater", "a5 a3 a1 a0", "3 0 0 clear")
+given("a*", "at-least", "a5 a4 a3 a2 a1 a0", "6 0 0 clear")
+given("a*", "at-least", "a5 a4 a3 a2 a1 a0", "3 3 3 clear", start="3 6")
+given("a*", "greater", "a9 a8 a7 a6 a5 a4 a3", "6 3 3 clear", start="3 6")
 # The flag is for the first token only: 2 to 2, then by the mode.
-given("a*", ">", "a2 a3 a2", "2 2 2 clear", flag="set")
-given("a*", ">=", "a2 a3 a2", "3 2 2 clear", flag="set")
+given("a*", "greater", "a2 a3 a2", "2 2 2 clear", flag="set")
+given("a*", "at-least", "a2 a3 a2", "3 2 2 clear", flag="set")
 given("a*", "any", "a7 a3 a2", "0 3 6 set", start="3 6", flag="set")
 # What follows starts where the last round ended.
-given("a* b", ">=", "a5 a3 b9", "3 0 3 clear")
-given("a* b", "=", "a5 a5 b5", "3 5 5 clear")
-given("a* b", "=", "a5 a5 b6", "failure")
-given("a* b", "=", "b6", "1 6 6 clear")
+given("a* b", "at-least", "a5 a3 b9", "3 0 3 clear")
+given("a* b", "equal", "a5 a5 b5", "3 5 5 clear")
+given("a* b", "equal", "a5 a5 b6", "failure")
+given("a* b", "equal", "b6", "1 6 6 clear")
 given("a* a", "any", "a1 a1", "failure")
-given("a* a_any", "=", "a1 a1 a2", "3 1 1 clear")
+given("a* position any a", "equal", "a1 a1 a2", "3 1 1 clear")
 # A round whose second part fails is gone back on: the second a would leave 0 to 3.
-given("(a_>= b_any)*", "=", "a5 b0 a3 c0", "2 0 5 clear")
-given("(a_>= b_any)* a_any c_any", "=", "a5 b0 a3 c0", "4 0 5 clear")
-given("(a_>= b_any)* a c_any", "=", "a5 b0 a3 c0", "4 3 3 clear")
-given("(a b)*", ">=", "a4 b3 a2 b1 a0 c0", "4 0 1 clear")
-given("(a b)*", ">=", "a4 c4", "0 0 inf set", flag="set")
-given("(a b)* a", "=", "a4 c4", "1 4 4 clear", flag="set")
-given("(a b)*", ">=", "a4 b4 a4", "2 0 4 clear")
-given("(a b)*", "=", "a4 b4 a4 b5", "2 4 4 clear")
-given("(a b / a c)*", ">=", "a4 b4 a3 c3 a2 d2", "4 0 3 clear")
-given("(a / b)*", ">", "a9 b7 b8 a3 c1", "4 0 2 clear")
+given("((position at-least a) (position any b))*", "equal", "a5 b0 a3 c0", "2 0 5 clear")
+given("((position at-least a) (position any b))* (position any a) (position any c)", "equal", "a5 b0 a3 c0", "4 0 5 clear")
+given("((position at-least a) (position any b))* a position any c", "equal", "a5 b0 a3 c0", "4 3 3 clear")
+given("(a b)*", "at-least", "a4 b3 a2 b1 a0 c0", "4 0 1 clear")
+given("(a b)*", "at-least", "a4 c4", "0 0 inf set", flag="set")
+given("(a b)* a", "equal", "a4 c4", "1 4 4 clear", flag="set")
+given("(a b)*", "at-least", "a4 b4 a4", "2 0 4 clear")
+given("(a b)*", "equal", "a4 b4 a4 b5", "2 4 4 clear")
+given("(a b / a c)*", "at-least", "a4 b4 a3 c3 a2 d2", "4 0 3 clear")
+given("(a / b)*", "greater", "a9 b7 b8 a3 c1", "4 0 2 clear")
 # Repeats in repeats.
-given("(a* b)*", ">=", "a9 a8 b7 b6 a5 b4 a3", "6 0 4 clear")
-given("(a b*)*", ">=", "a9 b8 b7 a6 a5 b4 c3", "6 0 4 clear")
-given("(a b*)*", "=", "a2 b2 b2 a2 b3 a2", "4 2 2 clear")
+given("(a* b)*", "at-least", "a9 a8 b7 b6 a5 b4 a3", "6 0 4 clear")
+given("(a b*)*", "at-least", "a9 b8 b7 a6 a5 b4 c3", "6 0 4 clear")
+given("(a b*)*", "equal", "a2 b2 b2 a2 b3 a2", "4 2 2 clear")
 # A position in a round holds for its child only: b must stand at 2 in every round.
-given("(b a_>)*", "=", "b2 a3 b2 a5", "4 2 2 clear")
-given("(b a_>)*", "=", "b2 a3 b3 a5", "2 2 2 clear")
-given("(a_> b)*", "=", "a3 b2 a5 b2", "4 2 2 clear")
-given("(a_> b)*", "=", "a3 b2 a2 b2", "2 2 2 clear")
-given("(b / a_>)*", "=", "b2 a3 b2 a5 b3", "4 2 2 clear")
-given("(a_any)* b", "=", "a9 a0 b4", "3 4 4 clear", start="3 6")
-given("((a b)_any)* a c", "=", "a9 b0 a4 c4", "4 4 4 clear", start="3 6")
-given("((a b)_any)* a c", "=", "a9 b0 a4 c5", "failure", start="3 6")
-given("((a b)^>)* a c", "=", "a4 b4 a4 c4", "failure", start="3 6")
-given("((a b)^>)* a c", "=", "a5 b5 a4 c4", "4 4 4 clear", start="3 6")
-given("([a b])* a c", ">", "a4 b5 a5 c6", "4 4 4 clear", start="3 6")
-given("([a b])* a c", ">", "a4 b5 a4 c6", "failure", start="3 6")
+given("(b position greater a)*", "equal", "b2 a3 b2 a5", "4 2 2 clear")
+given("(b position greater a)*", "equal", "b2 a3 b3 a5", "2 2 2 clear")
+given("((position greater a) b)*", "equal", "a3 b2 a5 b2", "4 2 2 clear")
+given("((position greater a) b)*", "equal", "a3 b2 a2 b2", "2 2 2 clear")
+given("(b / position greater a)*", "equal", "b2 a3 b2 a5 b3", "4 2 2 clear")
+given("(position any a)* b", "equal", "a9 a0 b4", "3 4 4 clear", start="3 6")
+given("(position any (a b))* a c", "equal", "a9 b0 a4 c4", "4 4 4 clear", start="3 6")
+given("(position any (a b))* a c", "equal", "a9 b0 a4 c5", "failure", start="3 6")
+given("(indent greater (a b))* a c", "equal", "a4 b4 a4 c4", "failure", start="3 6")
+given("(indent greater (a b))* a c", "equal", "a5 b5 a4 c4", "4 4 4 clear", start="3 6")
+given("(align (a b))* a c", "greater", "a4 b5 a5 c6", "4 4 4 clear", start="3 6")
+given("(align (a b))* a c", "greater", "a4 b5 a4 c6", "failure", start="3 6")
 # Indents in rounds: each has its own baseline, met outside. 0 to 4, then inside 1 on: 3 to 3, 0 to 2; then 7
 # to 7, 0 to 2.
-given("(a^>)*", "=", "a5 a3 a7", "3 0 2 clear")
-given("(a^>)*", "=", "a5 a1 a0", "2 0 0 clear")
-given("(a^>)*", ">", "a5 a3 a1", "2 0 1 clear")
+given("(indent greater a)*", "equal", "a5 a3 a7", "3 0 2 clear")
+given("(indent greater a)*", "equal", "a5 a1 a0", "2 0 0 clear")
+given("(indent greater a)*", "greater", "a5 a3 a1", "2 0 1 clear")
 # One indent around all rounds: inside 1 on; at least 1 to 5, 1 to 3, and a0 fails; outside 0 to 2.
-given("(a*)^>", ">=", "a5 a3 a0", "2 0 2 clear")
-given("(a*)^>", "=", "a5 a5 a3", "2 0 4 clear")
+given("indent greater a*", "at-least", "a5 a3 a0", "2 0 2 clear")
+given("indent greater a*", "equal", "a5 a5 a3", "2 0 4 clear")
 # An align in each round: each first token at the baseline.
-given("[a]*", ">", "a2 a2 a3", "2 2 2 clear")
-given("[a b*]*", ">", "a2 b4 b3 a2 b5", "5 2 2 clear")
-given("[a b*]*", ">", "a2 b4 b2 a2 b5", "2 2 2 clear")
-given("([a b*]*)^>", ">", "a2 b4 b3 a2 b5", "5 0 1 clear")
-given("([a b*]*)^>", ">", "a2 b4 b3 a2 b5", "0 2 inf clear", start="2 inf")
-given("([a b*]*)^>", ">", "a3 b4 b5 a3 b5", "5 2 2 clear", start="2 inf")
+given("(align a)*", "greater", "a2 a2 a3", "2 2 2 clear")
+given("(align (a b*))*", "greater", "a2 b4 b3 a2 b5", "5 2 2 clear")
+given("(align (a b*))*", "greater", "a2 b4 b2 a2 b5", "2 2 2 clear")
+given("indent greater (align (a b*))*", "greater", "a2 b4 b3 a2 b5", "5 0 1 clear")
+given("indent greater (align (a b*))*", "greater", "a2 b4 b3 a2 b5", "0 2 inf clear", start="2 inf")
+given("indent greater (align (a b*))*", "greater", "a3 b4 b5 a3 b5", "5 2 2 clear", start="2 inf")
 # The align that failed last does not leave its flag: b by the mode, greater than 2.
-given("[a]* b", ">", "a2 b3", "2 2 2 clear")
-given("[a]* b", ">", "a2 b2", "failure")
-given("[a]* b", ">", "b5", "1 0 4 clear")
-given("[a]* b", ">", "b5", "1 5 5 clear", flag="set")
+given("(align a)* b", "greater", "a2 b3", "2 2 2 clear")
+given("(align a)* b", "greater", "a2 b2", "failure")
+given("(align a)* b", "greater", "b5", "1 0 4 clear")
+given("(align a)* b", "greater", "b5", "1 5 5 clear", flag="set")
 
 
 # --- Align (001, clause 10) ----------------------------------------------------------------------
 
 # "Align sets the flag inside; after success .."
 for mode in MODES:
-    given("[a]", mode, "a5", "1 5 5 clear")
-    given("[a]", mode, "a5", "1 5 5 clear", start="3 6")
-    given("[a]", mode, "a5", "1 5 5 clear", start="3 6", flag="set")
-    given("[a]", mode, "a7", "failure", start="3 6")
-    given("[a]", mode, "a2", "failure", start="3 6")
-    given("[a]", mode, "b5", "failure")
-    given("[a]", mode, "", "failure")
-    given("[empty]", mode, "a5", "0 3 6 clear", start="3 6")
-    given("[empty]", mode, "a5", "0 3 6 set", start="3 6", flag="set")
+    given("align a", mode, "a5", "1 5 5 clear")
+    given("align a", mode, "a5", "1 5 5 clear", start="3 6")
+    given("align a", mode, "a5", "1 5 5 clear", start="3 6", flag="set")
+    given("align a", mode, "a7", "failure", start="3 6")
+    given("align a", mode, "a2", "failure", start="3 6")
+    given("align a", mode, "b5", "failure")
+    given("align a", mode, "", "failure")
+    given("align empty", mode, "a5", "0 3 6 clear", start="3 6")
+    given("align empty", mode, "a5", "0 3 6 set", start="3 6", flag="set")
 # "Leaving the flag set after an align that read nothing": empty, no round, a not, an alternative that reads
 # nothing, an indent over empty, an align over empty, a rule over empty.
-NOTHING = ("[empty]", "[b*]", "[!b]", "[b / empty]", "[empty^>]", "[[empty]]", "[empty empty]", "[(b*)_any]")
+NOTHING = (
+    "align empty", "align b*", "align !b", "align (b / empty)", "align (indent greater empty)", "align (align empty)",
+    "align (empty empty)", "align (position any b*)",
+)
 for nothing in NOTHING:
-    given(f"{nothing} a", ">", "a5", "1 0 4 clear", name=f"case h with {nothing}")
-    given(f"{nothing} a", ">", "a5", "1 5 5 clear", flag="set", name=f"case h with {nothing}")
-    given(f"{nothing} a", ">", "a7", "1 3 6 clear", start="3 6", name=f"case h with {nothing}")
-    given(f"{nothing} a", ">", "a7", "failure", start="3 6", flag="set", name=f"case h with {nothing}")
-given("[X] a", ">", "a5", "1 0 4 clear", rules="X = empty")
-given("[X] a", ">", "a5", "1 5 5 clear", rules="X = empty", flag="set")
+    given(f"({nothing}) a", "greater", "a5", "1 0 4 clear", name=f"case h with {nothing}")
+    given(f"({nothing}) a", "greater", "a5", "1 5 5 clear", flag="set", name=f"case h with {nothing}")
+    given(f"({nothing}) a", "greater", "a7", "1 3 6 clear", start="3 6", name=f"case h with {nothing}")
+    given(f"({nothing}) a", "greater", "a7", "failure", start="3 6", flag="set", name=f"case h with {nothing}")
+given("(align X) a", "greater", "a5", "1 0 4 clear", rules="X = empty")
+given("(align X) a", "greater", "a5", "1 5 5 clear", rules="X = empty", flag="set")
 # What reads nothing first leaves the flag set inside, for the next token there.
-for first in ("empty", "b*", "!b", "(b / empty)", "empty^>", "[empty]", "(b*)^any"):
-    given(f"[{first} a]", ">", "a5", "1 5 5 clear")
-    given(f"[{first} a]", ">", "a7", "failure", start="3 6")
+for first in ("empty", "b*", "!b", "(b / empty)", "(indent greater empty)", "(align empty)", "(indent any b*)"):
+    given(f"align ({first} a)", "greater", "a5", "1 5 5 clear")
+    given(f"align ({first} a)", "greater", "a7", "failure", start="3 6")
 # What reads something first takes the alignment: b at 3, then a by the mode.
-given("[b* a]", ">", "b3 a5", "2 3 3 clear")
-given("[b* a]", ">", "b3 a3", "failure")
-given("[(b / empty) a]", ">", "b3 a5", "2 3 3 clear")
+given("align (b* a)", "greater", "b3 a5", "2 3 3 clear")
+given("align (b* a)", "greater", "b3 a3", "failure")
+given("align ((b / empty) a)", "greater", "b3 a5", "2 3 3 clear")
 # Only the first token is aligned.
-given("[a b]", "=", "a2 b2", "2 2 2 clear")
-given("[a b]", "=", "a2 b3", "failure")
-given("[a b]", ">", "a2 b3", "2 2 2 clear")
-given("[a b]", ">", "a2 b2", "failure")
-given("[a b]", ">=", "a2 b2", "2 2 2 clear")
-given("[a b]", "any", "a2 b0", "2 2 2 clear")
-given("[a b]", "any", "a2 b0", "failure", start="3 6")
+given("align (a b)", "equal", "a2 b2", "2 2 2 clear")
+given("align (a b)", "equal", "a2 b3", "failure")
+given("align (a b)", "greater", "a2 b3", "2 2 2 clear")
+given("align (a b)", "greater", "a2 b2", "failure")
+given("align (a b)", "at-least", "a2 b2", "2 2 2 clear")
+given("align (a b)", "any", "a2 b0", "2 2 2 clear")
+given("align (a b)", "any", "a2 b0", "failure", start="3 6")
 # After an align that read something the flag is clear, also if it was set before.
-given("[a] b", ">", "a2 b3", "2 2 2 clear", flag="set")
-given("[a] b", ">", "a2 b2", "failure", flag="set")
-given("[a] b", ">", "a2 b2", "failure")
-given("[a] b", "any", "a2 b0", "2 2 2 clear")
+given("(align a) b", "greater", "a2 b3", "2 2 2 clear", flag="set")
+given("(align a) b", "greater", "a2 b2", "failure", flag="set")
+given("(align a) b", "greater", "a2 b2", "failure")
+given("(align a) b", "any", "a2 b0", "2 2 2 clear")
 # Aligns beside and in each other.
-given("[a] [b]", ">", "a2 b2", "2 2 2 clear")
-given("[a] [b]", ">", "a2 b3", "failure")
-given("[a [b]]", ">", "a2 b2", "2 2 2 clear")
-given("[a [b]]", ">", "a2 b3", "failure")
-given("[[a] b]", ">", "a2 b3", "2 2 2 clear")
-given("[[a] b]", ">", "a2 b2", "failure")
-given("[[a]]", ">", "a2", "1 2 2 clear")
-given("a_>= [b] c", ">", "a5 b4 c9", "3 4 4 clear")
-given("a_>= [b] c", ">", "a5 b6 c9", "failure")
-given("a [b]", ">", "a5 b4", "2 4 4 clear")
-given("a [b]", ">", "a5 b5", "failure")
+given("(align a) (align b)", "greater", "a2 b2", "2 2 2 clear")
+given("(align a) (align b)", "greater", "a2 b3", "failure")
+given("align (a align b)", "greater", "a2 b2", "2 2 2 clear")
+given("align (a align b)", "greater", "a2 b3", "failure")
+given("align ((align a) b)", "greater", "a2 b3", "2 2 2 clear")
+given("align ((align a) b)", "greater", "a2 b2", "failure")
+given("align (align a)", "greater", "a2", "1 2 2 clear")
+given("(position at-least a) (align b) c", "greater", "a5 b4 c9", "3 4 4 clear")
+given("(position at-least a) (align b) c", "greater", "a5 b6 c9", "failure")
+given("a align b", "greater", "a5 b4", "2 4 4 clear")
+given("a align b", "greater", "a5 b5", "failure")
 # Align of a choice is a choice of aligns (001, Theorem 2.3).
-given("[a / b]", ">", "b4", "1 4 4 clear")
-given("[a] / [b]", ">", "b4", "1 4 4 clear")
-given("[a b / a c]", ">", "a4 c5", "2 4 4 clear")
-given("[a b / a c]", ">", "a4 c4", "failure")
-given("[a b / empty] a c", ">", "a4 c4", "2 0 3 clear")
+given("align (a / b)", "greater", "b4", "1 4 4 clear")
+given("align a / align b", "greater", "b4", "1 4 4 clear")
+given("align (a b / a c)", "greater", "a4 c5", "2 4 4 clear")
+given("align (a b / a c)", "greater", "a4 c4", "failure")
+given("(align (a b / empty)) a c", "greater", "a4 c4", "2 0 3 clear")
 # A position in an align: the flag goes before the mode.
-given("[a_any]", "=", "a2", "failure", start="3 6")
-given("[a_any]", "=", "a4", "1 4 4 clear", start="3 6")
-given("[a]_any b", "=", "a4 b4", "2 4 4 clear", start="3 6")
-given("[a_any] b", "=", "a4 b9", "failure", start="3 6")
+given("align (position any a)", "equal", "a2", "failure", start="3 6")
+given("align (position any a)", "equal", "a4", "1 4 4 clear", start="3 6")
+given("(position any (align a)) b", "equal", "a4 b4", "2 4 4 clear", start="3 6")
+given("(align (position any a)) b", "equal", "a4 b9", "failure", start="3 6")
 # Indents in aligns: "Ignoring indentation under a set flag, as 000 does". From 1 to 1 the token must be right
 # of 1.
-given("[a^>]", "=", "a1", "failure", start="1 1")
-given("[a^>]", ">", "a2", "1 1 1 clear", start="1 1")
-given("a^>", "=", "a4", "1 1 1 clear", start="1 1", flag="set")
-given("a^>", "=", "a1", "failure", start="1 1", flag="set")
-given("[a^any]", "=", "a2", "1 5 5 clear", start="5 5")
-given("[a^>=]", "=", "a4", "failure", start="5 5")
-given("[a^>]", "=", "a4", "1 0 3 clear")
-given("[a^>]", "=", "a0", "failure")
+given("align (indent greater a)", "equal", "a1", "failure", start="1 1")
+given("align (indent greater a)", "greater", "a2", "1 1 1 clear", start="1 1")
+given("indent greater a", "equal", "a4", "1 1 1 clear", start="1 1", flag="set")
+given("indent greater a", "equal", "a1", "failure", start="1 1", flag="set")
+given("align (indent any a)", "equal", "a2", "1 5 5 clear", start="5 5")
+given("align (indent at-least a)", "equal", "a4", "failure", start="5 5")
+given("align (indent greater a)", "equal", "a4", "1 0 3 clear")
+given("align (indent greater a)", "equal", "a0", "failure")
 # 4 to 4, outside 0 to 3, flag clear; then b in mode greater.
-given("[a^> b]", ">", "a4 b2", "2 0 1 clear")
-given("[a^> b]", ">", "a4 b0", "failure")
-given("[a]^> b", ">", "a4 b2", "2 0 1 clear")
-given("[(a b)^>]", ">", "a4 b5", "2 0 3 clear")
-given("[(a b)^>]", ">", "a4 b4", "failure")
-given("[a b]^>", ">", "a2 b3", "2 0 1 clear")
-given("[a b]^>", ">", "a2 b2", "failure")
-given("[a b]^>", ">", "a0 b2", "failure")
-given("[a b]^>", ">=", "a3 b3", "failure", start="3 6")
-given("[a b]^>", ">=", "a5 b9", "2 3 4 clear", start="3 6")
+given("align ((indent greater a) b)", "greater", "a4 b2", "2 0 1 clear")
+given("align ((indent greater a) b)", "greater", "a4 b0", "failure")
+given("(indent greater (align a)) b", "greater", "a4 b2", "2 0 1 clear")
+given("align (indent greater (a b))", "greater", "a4 b5", "2 0 3 clear")
+given("align (indent greater (a b))", "greater", "a4 b4", "failure")
+given("indent greater (align (a b))", "greater", "a2 b3", "2 0 1 clear")
+given("indent greater (align (a b))", "greater", "a2 b2", "failure")
+given("indent greater (align (a b))", "greater", "a0 b2", "failure")
+given("indent greater (align (a b))", "at-least", "a3 b3", "failure", start="3 6")
+given("indent greater (align (a b))", "at-least", "a5 b9", "2 3 4 clear", start="3 6")
 # 0 to 3 and clear; then b aligned in 0 to 3.
-given("[a^> [b]]", ">", "a4 b3", "2 3 3 clear")
-given("[a^> [b]]", ">", "a4 b4", "failure")
+given("align ((indent greater a) (align b))", "greater", "a4 b3", "2 3 3 clear")
+given("align ((indent greater a) (align b))", "greater", "a4 b4", "failure")
 # No round under the indent: the flag stays set for b.
-given("[(a*)^> b]", ">", "b5", "1 5 5 clear")
-given("[(a*)^> b]", ">", "a6 b3", "2 0 2 clear")
-given("[(a*)^> b]", ">", "b7", "failure", start="3 6")
+given("align ((indent greater a*) b)", "greater", "b5", "1 5 5 clear")
+given("align ((indent greater a*) b)", "greater", "a6 b3", "2 0 2 clear")
+given("align ((indent greater a*) b)", "greater", "b7", "failure", start="3 6")
 # Indent in align in indent: from 0 on, 1 on, flag, 2 on; 5 to 5; 1 to 4; 0 to 3.
-given("[a^>]^>", "=", "a5", "1 0 3 clear")
-given("[[a]^>]^>", "=", "a1", "failure")
+given("indent greater (align (indent greater a))", "equal", "a5", "1 0 3 clear")
+given("indent greater (align (indent greater (align a)))", "equal", "a1", "failure")
 # Aligned lines under a head, from 2 to 2: inside 3 on; 5 to 5 for both; outside 0 to 4 met 2 to 2.
-given("h ([a] [a])^>", "=", "h2 a5 a5", "3 2 2 clear")
-given("h ([a] [a])^>", "=", "h2 a5 a6", "failure")
-given("h ([a] [a])^>", "=", "h2 a2 a2", "failure")
-given("h ([a] [a])^>=", "=", "h2 a2 a2", "3 2 2 clear")
+given("h indent greater ((align a) (align a))", "equal", "h2 a5 a5", "3 2 2 clear")
+given("h indent greater ((align a) (align a))", "equal", "h2 a5 a6", "failure")
+given("h indent greater ((align a) (align a))", "equal", "h2 a2 a2", "failure")
+given("h indent at-least ((align a) (align a))", "equal", "h2 a2 a2", "3 2 2 clear")
 
 
 # --- Recursion through rules ---------------------------------------------------------------------
 
 # "An expression may name a rule ..".
 LIST = "X = a X / empty"
-given("X", ">=", "", "0 0 inf clear", rules=LIST)
-given("X", ">=", "b1", "0 3 6 set", rules=LIST, start="3 6", flag="set")
-given("X", ">=", "a5 a3 a7", "3 0 3 clear", rules=LIST)
-given("X", ">", "a5 a3 a7", "3 0 2 clear", rules=LIST)
-given("X", "=", "a2 a2 a3", "2 2 2 clear", rules=LIST)
-given("X", ">", "a2 a3 a2", "2 2 2 clear", rules=LIST, flag="set")
-given("X b", ">=", "a5 a3 b9", "3 0 3 clear", rules=LIST)
-given("X_>=", "=", "a5 a3 b9", "2 0 3 clear", rules=LIST)
-given("X_>= X", "=", "a5 a3 a9", "3 0 3 clear", rules=LIST)
-given("[X] b", ">", "b5", "1 0 4 clear", rules=LIST)
-given("[X] b", ">", "a2 b3", "2 2 2 clear", rules=LIST)
+given("X", "at-least", "", "0 0 inf clear", rules=LIST)
+given("X", "at-least", "b1", "0 3 6 set", rules=LIST, start="3 6", flag="set")
+given("X", "at-least", "a5 a3 a7", "3 0 3 clear", rules=LIST)
+given("X", "greater", "a5 a3 a7", "3 0 2 clear", rules=LIST)
+given("X", "equal", "a2 a2 a3", "2 2 2 clear", rules=LIST)
+given("X", "greater", "a2 a3 a2", "2 2 2 clear", rules=LIST, flag="set")
+given("X b", "at-least", "a5 a3 b9", "3 0 3 clear", rules=LIST)
+given("position at-least X", "equal", "a5 a3 b9", "2 0 3 clear", rules=LIST)
+given("(position at-least X) X", "equal", "a5 a3 a9", "3 0 3 clear", rules=LIST)
+given("(align X) b", "greater", "b5", "1 0 4 clear", rules=LIST)
+given("(align X) b", "greater", "a2 b3", "2 2 2 clear", rules=LIST)
 # X = a X has no end: the a that is not there is everyone's failure.
-given("X", ">=", "a1 a1", "failure", rules="X = a X")
-given("X*", ">=", "a1 a1", "0 0 inf clear", rules="X = a X")
-given("X / a", ">=", "a1 a1", "1 0 1 clear", rules="X = a X")
-# X = (not empty) X: the first part fails before the rule is met again.
-given("X", ">=", "a1", "failure", rules="X = !empty X")
-given("X / a", ">=", "a1", "1 0 1 clear", rules="X = !empty X")
+given("X", "at-least", "a1 a1", "failure", rules="X = a X")
+given("X*", "at-least", "a1 a1", "0 0 inf clear", rules="X = a X")
+given("X / a", "at-least", "a1 a1", "1 0 1 clear", rules="X = a X")
+# X = !empty X: the first part fails before the rule is met again.
+given("X", "at-least", "a1", "failure", rules="X = !empty X")
+given("X / a", "at-least", "a1", "1 0 1 clear", rules="X = !empty X")
 # Each step one block deeper. a0: 0 to 0; inside 1 on: a1: 1 to 1; inside 2 on: a2: 2 to 2; then nothing.
-DEEPER = "X = a X^> / empty"
-given("X", "=", "a0 a1 a2", "3 0 0 clear", rules=DEEPER)
-given("X", "=", "a3 a5 a9", "3 3 3 clear", rules=DEEPER)
-given("X", "=", "a3 a5 a5", "2 3 3 clear", rules=DEEPER)
-given("X", "=", "a3 a3", "1 3 3 clear", rules=DEEPER)
+DEEPER = "X = a indent greater X / empty"
+given("X", "equal", "a0 a1 a2", "3 0 0 clear", rules=DEEPER)
+given("X", "equal", "a3 a5 a9", "3 3 3 clear", rules=DEEPER)
+given("X", "equal", "a3 a5 a5", "2 3 3 clear", rules=DEEPER)
+given("X", "equal", "a3 a3", "1 3 3 clear", rules=DEEPER)
 given("X", "any", "a0 a0 a0", "3 0 inf clear", rules=DEEPER)
 # At least: 0 to 9; inside 1 on: a4: 1 to 4; inside 2 on: a3: 2 to 3; out 0 to 2 met 1 to 4: 1 to 2; out 0 to
 # 1.
-given("X", ">=", "a9 a4 a3", "3 0 1 clear", rules=DEEPER)
-given("X", ">=", "a9 a4 a1", "2 0 3 clear", rules=DEEPER)
+given("X", "at-least", "a9 a4 a3", "3 0 1 clear", rules=DEEPER)
+given("X", "at-least", "a9 a4 a1", "2 0 3 clear", rules=DEEPER)
 # Greater: a9: 0 to 8; inside 1 on: a4: 1 to 3; inside 2 on: a3: 2 to 2; out 1 to 1; out 0 to 0.
-given("X", ">", "a9 a4 a3", "3 0 0 clear", rules=DEEPER)
-given("X", ">", "a9 a4 a2", "2 0 2 clear", rules=DEEPER)
+given("X", "greater", "a9 a4 a3", "3 0 0 clear", rules=DEEPER)
+given("X", "greater", "a9 a4 a2", "2 0 2 clear", rules=DEEPER)
 # A position on the way into the rule holds from there on: a at 2, the others anywhere.
-given("X", "=", "a2 a5 a0", "3 2 2 clear", rules="X = a X_any / empty")
-given("X", "=", "a2 a5 a5", "1 2 2 clear", rules="X = a X / empty")
+given("X", "equal", "a2 a5 a0", "3 2 2 clear", rules="X = a position any X / empty")
+given("X", "equal", "a2 a5 a5", "1 2 2 clear", rules="X = a X / empty")
 # Rules in turn. The second a is gone back on where its b is missing.
 TURN = "X = a Y / empty; Y = b X"
-given("X", ">=", "a4 b4 a3 b2", "4 0 2 clear", rules=TURN)
-given("X", ">=", "a4 b4 a3", "2 0 4 clear", rules=TURN)
-given("X", ">=", "a4 b4 a3 c1", "2 0 4 clear", rules=TURN)
-given("X", ">=", "a4 c4", "0 0 inf clear", rules=TURN)
-given("Y", ">=", "b5 a4 b4 a3", "3 0 4 clear", rules=TURN)
-given("Y", ">=", "a4 b4", "failure", rules=TURN)
-given("X", "=", "a4 b4 a4 b5", "2 4 4 clear", rules=TURN)
+given("X", "at-least", "a4 b4 a3 b2", "4 0 2 clear", rules=TURN)
+given("X", "at-least", "a4 b4 a3", "2 0 4 clear", rules=TURN)
+given("X", "at-least", "a4 b4 a3 c1", "2 0 4 clear", rules=TURN)
+given("X", "at-least", "a4 c4", "0 0 inf clear", rules=TURN)
+given("Y", "at-least", "b5 a4 b4 a3", "3 0 4 clear", rules=TURN)
+given("Y", "at-least", "a4 b4", "failure", rules=TURN)
+given("X", "equal", "a4 b4 a4 b5", "2 4 4 clear", rules=TURN)
 # As many b as a. With a b too few the outermost goes back to nothing.
 PAIRS = "X = a X b / empty"
-given("X", ">=", "a5 a4 b4 b2", "4 0 2 clear", rules=PAIRS)
-given("X", ">=", "a5 a4 b4", "0 0 inf clear", rules=PAIRS)
-given("X", ">=", "a5 a4 b4 b3 b2", "4 0 3 clear", rules=PAIRS)
-given("X", ">=", "b5", "0 0 inf clear", rules=PAIRS)
-given("!X", ">=", "b5", "failure", rules=PAIRS)
+given("X", "at-least", "a5 a4 b4 b2", "4 0 2 clear", rules=PAIRS)
+given("X", "at-least", "a5 a4 b4", "0 0 inf clear", rules=PAIRS)
+given("X", "at-least", "a5 a4 b4 b3 b2", "4 0 3 clear", rules=PAIRS)
+given("X", "at-least", "b5", "0 0 inf clear", rules=PAIRS)
+given("!X", "at-least", "b5", "failure", rules=PAIRS)
 # b stands in the block of its own a: a2 b2 outside, a4 b4 inside.
-NESTED = "X = a X^> b / empty"
-given("X", "=", "a2 a4 b4 b2", "4 2 2 clear", rules=NESTED)
-given("X", "=", "a2 a4 b2 b4", "0 0 inf clear", rules=NESTED)
-given("X", "=", "a2 a4 b4 b3", "0 0 inf clear", rules=NESTED)
-given("X", "=", "a2 b2 b2", "2 2 2 clear", rules=NESTED)
+NESTED = "X = a (indent greater X) b / empty"
+given("X", "equal", "a2 a4 b4 b2", "4 2 2 clear", rules=NESTED)
+given("X", "equal", "a2 a4 b2 b4", "0 0 inf clear", rules=NESTED)
+given("X", "equal", "a2 a4 b4 b3", "0 0 inf clear", rules=NESTED)
+given("X", "equal", "a2 b2 b2", "2 2 2 clear", rules=NESTED)
 # An outline: lines at one column, each with lines right of it. a0: 0 to 0; inside 1 on: a2 a2 at 2; inside 3
 # on: a4 at 4; out 2 to 2; out 0 to 0; then a0 again. a1 is at no open baseline.
-OUTLINE = "X = [a X^>]*"
-given("X", ">=", "a0 a2 a2 a4 a1", "4 0 0 clear", rules=OUTLINE)
-given("X", ">=", "a0 a2 a2 a4 a0", "5 0 0 clear", rules=OUTLINE)
+OUTLINE = "X = (align (a indent greater X))*"
+given("X", "at-least", "a0 a2 a2 a4 a1", "4 0 0 clear", rules=OUTLINE)
+given("X", "at-least", "a0 a2 a2 a4 a0", "5 0 0 clear", rules=OUTLINE)
 given("X", "any", "a0 a2 a2 a4 a2 a6 a0 a1", "8 0 0 clear", rules=OUTLINE)
-given("X", ">=", "a3 a5 a4 a3", "2 3 3 clear", rules=OUTLINE)
-given("X^>", ">=", "a3 a5 a3", "3 0 2 clear", rules=OUTLINE)
-given("X^>", ">=", "a3 a5 a3", "0 3 6 clear", rules=OUTLINE, start="3 6")
+given("X", "at-least", "a3 a5 a4 a3", "2 3 3 clear", rules=OUTLINE)
+given("indent greater X", "at-least", "a3 a5 a3", "3 0 2 clear", rules=OUTLINE)
+given("indent greater X", "at-least", "a3 a5 a3", "0 3 6 clear", rules=OUTLINE, start="3 6")
 # Statements under a head: d0: 0 to 0; inside 1 on: a2 a2 d2 at 2; under that d, inside 3 on: a4 a4; a2 ends
 # it, out 2 to 2; a2; out 0 to 0.
-BLOCK = "D = d L^>; L = [S] L / empty; S = D / a"
-given("D", ">=", "d0 a2 a2 d2 a4 a4 a2", "7 0 0 clear", rules=BLOCK)
-given("D", ">=", "d0 a2 a2 d2 a4 a4 a1", "6 0 0 clear", rules=BLOCK)
-given("D", ">=", "d0 a2 a3", "2 0 0 clear", rules=BLOCK)
-given("D", ">=", "d0 d1 d2 a3 a2", "5 0 0 clear", rules=BLOCK)
-given("D", ">=", "d0 d1 d2 a3 a1", "5 0 0 clear", rules=BLOCK)
-given("D", ">=", "d0 a0", "1 0 0 clear", rules=BLOCK)
-given("D", ">=", "a0", "failure", rules=BLOCK)
+BLOCK = "D = d indent greater L; L = (align S) L / empty; S = D / a"
+given("D", "at-least", "d0 a2 a2 d2 a4 a4 a2", "7 0 0 clear", rules=BLOCK)
+given("D", "at-least", "d0 a2 a2 d2 a4 a4 a1", "6 0 0 clear", rules=BLOCK)
+given("D", "at-least", "d0 a2 a3", "2 0 0 clear", rules=BLOCK)
+given("D", "at-least", "d0 d1 d2 a3 a2", "5 0 0 clear", rules=BLOCK)
+given("D", "at-least", "d0 d1 d2 a3 a1", "5 0 0 clear", rules=BLOCK)
+given("D", "at-least", "d0 a0", "1 0 0 clear", rules=BLOCK)
+given("D", "at-least", "a0", "failure", rules=BLOCK)
 # d3: 0 to 3. Inside 1 on: a2 at 2; out 0 to 1.
-given("D", ">=", "d3 a2 a2", "3 0 1 clear", rules=BLOCK)
+given("D", "at-least", "d3 a2 a2", "3 0 1 clear", rules=BLOCK)
 # Left to right over three rules with a mode each: 0 to 5, 0 to 3, then 2 to 2.
-given("X_>=", "any", "a5 b4 c2", "3 2 2 clear", rules="X = a Y_>; Y = b Z_=; Z = c")
+given("position at-least X", "any", "a5 b4 c2", "3 2 2 clear",
+      rules="X = a position greater Y; Y = b position equal Z; Z = c")
 
 
 # --- Places --------------------------------------------------------------------------------------
 
 # "Success answers the number of tokens read from that place on". Tokens before the place say nothing.
-given("b", ">=", "a2 b3", "1 0 3 clear", place=1)
-given("a", ">=", "a2 b3", "failure", place=1)
-given("a", ">=", "a2 b3", "failure", place=2)
-given("empty", ">=", "a2 b3", "0 0 inf clear", place=2)
-given("empty", ">=", "a2 b3", "0 3 6 set", place=1, start="3 6", flag="set")
-given("a b", ">=", "a2 b2 a4 b3 c1", "2 0 3 clear", place=2)
-given("a*", ">=", "a9 a5 a3 a4 b1", "3 0 3 clear", place=1)
-given("a*", ">=", "a9 a5 a3 a4 b1", "0 0 inf clear", place=4)
-given("a*", ">=", "a9 a5 a3 a4 b1", "0 0 inf set", place=5, flag="set")
-given("!a", ">=", "a9 a5 b3", "0 0 inf clear", place=2)
-given("!a", ">=", "a9", "0 0 inf clear", place=1)
-given("X", ">=", "a0 a1 a5 a3 a7", "3 0 3 clear", rules=LIST, place=2)
-given("a b / a c", ">=", "b0 a5 c4", "2 0 4 clear", place=1)
-given("[a b]^>", ">=", "c0 c0 a2 b3", "2 0 1 clear", place=2)
-given("a", ">", "a0 a5", "1 5 5 clear", place=1, flag="set")
+given("b", "at-least", "a2 b3", "1 0 3 clear", place=1)
+given("a", "at-least", "a2 b3", "failure", place=1)
+given("a", "at-least", "a2 b3", "failure", place=2)
+given("empty", "at-least", "a2 b3", "0 0 inf clear", place=2)
+given("empty", "at-least", "a2 b3", "0 3 6 set", place=1, start="3 6", flag="set")
+given("a b", "at-least", "a2 b2 a4 b3 c1", "2 0 3 clear", place=2)
+given("a*", "at-least", "a9 a5 a3 a4 b1", "3 0 3 clear", place=1)
+given("a*", "at-least", "a9 a5 a3 a4 b1", "0 0 inf clear", place=4)
+given("a*", "at-least", "a9 a5 a3 a4 b1", "0 0 inf set", place=5, flag="set")
+given("!a", "at-least", "a9 a5 b3", "0 0 inf clear", place=2)
+given("!a", "at-least", "a9", "0 0 inf clear", place=1)
+given("X", "at-least", "a0 a1 a5 a3 a7", "3 0 3 clear", rules=LIST, place=2)
+given("a b / a c", "at-least", "b0 a5 c4", "2 0 4 clear", place=1)
+given("indent greater (align (a b))", "at-least", "c0 c0 a2 b3", "2 0 1 clear", place=2)
+given("a", "greater", "a0 a5", "1 5 5 clear", place=1, flag="set")
 
 
 # --- Start nodes and shared nodes ----------------------------------------------------------------
 
 # "A start gives a node": a, b, a b, a b / a, (a b / a)*, from each. In mode at least a4 b3 a2.
-SHARED = [A, B, seq(0, 1), choice(2, 0), repeat(3)]
+SHARED = [A, B, sequence(0, 1), choice(2, 0), repeat(3)]
 for node, answer in enumerate(("1 0 4 clear", "failure", "2 0 3 clear", "2 0 3 clear", "3 0 2 clear")):
     runs(f"start node {node} of a, b, a b, a b / a, (a b / a)*", answer, SHARED, tokens="a4 b3 a2", node=node)
 # One node as both parts.
-runs("node 1 is node 0 twice", "2 0 2 clear", [A, seq(0, 0)], tokens="a4 a2", node=1)
-runs("node 1 is node 0 twice, once there", "failure", [A, seq(0, 0)], tokens="a4 b2", node=1)
+runs("node 1 is node 0 twice", "2 0 2 clear", [A, sequence(0, 0)], tokens="a4 a2", node=1)
+runs("node 1 is node 0 twice, once there", "failure", [A, sequence(0, 0)], tokens="a4 b2", node=1)
 # "a rule may stand for any node": a higher one, and one that the start does not lie below.
 runs("rule 0 = a higher node", "1 0 4 clear", [rule(0), A], [1], "a4")
 runs("rule 1 of 2", "1 0 4 clear", [rule(1), B, A], [1, 2], "a4")
 # a X / empty with the nodes in another order: 0 empty, 1 rule X, 2 a, 3 a X, 4 a X / empty, 5 b.
-runs("X with its nodes in another order", "2 0 3 clear", [EMPTY, rule(0), A, seq(2, 1), choice(3, 0), B], [4],
+runs("X with its nodes in another order", "2 0 3 clear", [EMPTY, rule(0), A, sequence(2, 1), choice(3, 0), B], [4],
      "a4 a3 b2", node=1)
 # The largest table: node 511 through 510 forms down to a at node 0. An align over 510 aligns is one align;
 # 510 indents by equal change nothing; 510 nots are none; 510 positions: the innermost counts. 511 indents by
@@ -1101,7 +1106,7 @@ for label, answer, nodes, tokens in (
     ("511 indents by equal over a", "1 0 4 clear", over([A], lambda n: indent(n, 0)), "a4"),
     ("511 nots over a, at a", "failure", over([A], not_), "a4"),
     ("511 nots over a, at b", SAME, over([A], not_), "b4"),
-    ("511 positions over a, = last", "1 4 4 clear", over([A], lambda n: position(n, n % 4)), "a4"),
+    ("511 positions over a, equal last", "1 4 4 clear", over([A], lambda n: position(n, n % 4)), "a4"),
     ("511 indents by greater over a, a510", "failure", DEEP, "a510"),
     ("511 indents by greater over a, a511", "1 0 0 clear", DEEP, "a511"),
     ("511 indents by greater over a, a515", "1 0 4 clear", DEEP, "a515"),
@@ -1117,58 +1122,60 @@ runs("128 rules in a row to a", "1 0 4 clear", [A] + [rule(n) for n in range(1, 
 # so every mode but any fails, and an aligned token too.
 for start in ("65535 inf", "65535 65535"):
     for column in (0, 1, 65534, 65535):
-        for mode in ("=", ">", ">="):
-            given("a^>", mode, f"a{column}", "failure", start=start)
-        given("a^>", "any", f"a{column}", f"1 {start} clear", start=start)
-        given("[a]^>", "any", f"a{column}", "failure", start=start)
-        given("a^>", "any", f"a{column}", "failure", start=start, flag="set")
+        for mode in ("equal", "greater", "at-least"):
+            given("indent greater a", mode, f"a{column}", "failure", start=start)
+        given("indent greater a", "any", f"a{column}", f"1 {start} clear", start=start)
+        given("indent greater (align a)", "any", f"a{column}", "failure", start=start)
+        given("indent greater a", "any", f"a{column}", "failure", start=start, flag="set")
     for mode in MODES:
-        given("empty^>", mode, "a65535", f"0 {start} clear", start=start, name=f"case empty under greater, {start}")
+        given("indent greater empty", mode, "a65535", f"0 {start} clear", start=start,
+              name=f"case empty under greater, {start}")
     # Any inside greater brings the inner set back to 0 on.
-    given("a^any^>", "=", "a7", f"1 {start} clear", start=start)
-    given("[a]^any^>", "any", "a7", f"1 {start} clear", start=start)
-    given("(a_any [b])^>", "=", "a0 b65535", "failure", start=start)
-    given("(a_any b)^>", "=", "a0 b0", "failure", start=start)
-    given("(a_any b)^>", ">=", "a0 b65535", "failure", start=start)
-    given("(a_any b_any)^>", "=", "a0 b65535", f"2 {start} clear", start=start)
-    given("(a_any [b])^> / a_any b", "=", "a0 b65535", "2 65535 65535 clear", start=start)
-    given("!([a]^>) a", "=", "a65535", "1 65535 65535 clear", start=start)
-    given("(a*)^>^>^>", ">=", "a65535", f"0 {start} clear", start=start)
-    given("(a*)^>^>^>", "any", "a65535 a0", f"2 {start} clear", start=start)
+    given("indent greater (indent any a)", "equal", "a7", f"1 {start} clear", start=start)
+    given("indent greater (indent any (align a))", "any", "a7", f"1 {start} clear", start=start)
+    given("indent greater ((position any a) (align b))", "equal", "a0 b65535", "failure", start=start)
+    given("indent greater ((position any a) b)", "equal", "a0 b0", "failure", start=start)
+    given("indent greater ((position any a) b)", "at-least", "a0 b65535", "failure", start=start)
+    given("indent greater ((position any a) (position any b))", "equal", "a0 b65535", f"2 {start} clear", start=start)
+    given("indent greater ((position any a) (align b)) / (position any a) b", "equal", "a0 b65535",
+          "2 65535 65535 clear", start=start)
+    given("!(indent greater (align a)) a", "equal", "a65535", "1 65535 65535 clear", start=start)
+    given("indent greater (indent greater (indent greater a*))", "at-least", "a65535", f"0 {start} clear", start=start)
+    given("indent greater (indent greater (indent greater a*))", "any", "a65535 a0", f"2 {start} clear", start=start)
 # From 65534 one greater leaves room for column 65535, two do not.
-given("a^>", "=", "a65535", "1 65534 65534 clear", start="65534 inf")
-given("a^>", ">=", "a65535", "1 65534 65534 clear", start="65534 inf")
-given("a^>", ">", "a65535", "failure", start="65534 inf")
-given("[a]^>", "any", "a65535", "1 65534 65534 clear", start="65534 inf")
-given("a^>^>", "=", "a65535", "failure", start="65534 inf")
-given("[a^>^>]", "any", "a65535", "failure", start="65534 inf")
-given("a^>^>", "any", "a65535", "1 65534 inf clear", start="65534 inf")
+given("indent greater a", "equal", "a65535", "1 65534 65534 clear", start="65534 inf")
+given("indent greater a", "at-least", "a65535", "1 65534 65534 clear", start="65534 inf")
+given("indent greater a", "greater", "a65535", "failure", start="65534 inf")
+given("indent greater (align a)", "any", "a65535", "1 65534 65534 clear", start="65534 inf")
+given("indent greater (indent greater a)", "equal", "a65535", "failure", start="65534 inf")
+given("align (indent greater (indent greater a))", "any", "a65535", "failure", start="65534 inf")
+given("indent greater (indent greater a)", "any", "a65535", "1 65534 inf clear", start="65534 inf")
 # 511 greaters in mode any, then the same over an aligned a.
 for column in (0, 510, 65535):
     tokens = [1, column, 0, 0]
     runs(f"511 indents by greater from 65535, mode any, a{column}", "1 65535 inf clear", DEEP,
          tokens=tokens, node=511, lower=65535, mode=3)
-    runs(f"510 indents by greater over [a] from 65535, a{column}", "failure", over([A, align(0)], indent),
+    runs(f"510 indents by greater over align a from 65535, a{column}", "failure", over([A, align(0)], indent),
          tokens=tokens, node=511, lower=65535, mode=3)
-    runs(f"511 indents by greater from 65535, mode at least, a{column}", "failure", DEEP,
+    runs(f"511 indents by greater from 65535, mode at-least, a{column}", "failure", DEEP,
          tokens=tokens, node=511, lower=65535)
-# Through a rule: each a one greater further in. At the end [b] finds no column.
+# Through a rule: each a one greater further in. At the end `align b` finds no column.
 given("X", "any", "a0 " * 100, "100 65535 inf clear", rules=DEEPER, start="65535 inf",
-      name="100 a, X = a X^> / empty, mode any, from 65535")
+      name="100 a, X = a indent greater X / empty, mode any, from 65535")
 given("X", "any", "a65535 " * 100, "100 65535 65535 clear", rules=DEEPER, start="65535 65535",
-      name="100 a at 65535, X = a X^> / empty, mode any, from 65535 to 65535")
-given("X", "any", "a0 " * 50 + "b65535", "failure", rules="X = a X^> / [b]", start="65535 inf",
-      name="50 a and b, X = a X^> / [b], mode any, from 65535")
-given("X", "any", "a0 " * 50 + "b65535", "51 65535 inf clear", rules="X = a X^> / b", start="65535 inf",
-      name="50 a and b, X = a X^> / b, mode any, from 65535")
+      name="100 a at 65535, X = a indent greater X / empty, mode any, from 65535 to 65535")
+given("X", "any", "a0 " * 50 + "b65535", "failure", rules="X = a indent greater X / align b", start="65535 inf",
+      name="50 a and b, X = a indent greater X / align b, mode any, from 65535")
+given("X", "any", "a0 " * 50 + "b65535", "51 65535 inf clear", rules="X = a indent greater X / b", start="65535 inf",
+      name="50 a and b, X = a indent greater X / b, mode any, from 65535")
 # 100 tokens with 50 greaters each; from 0 on b at 4999 is too far left, at 5000 it is the one column left.
 # Back through 5000 greaters 5000 to 5000 leaves 0 to 0.
-FAR = "X = a X" + "^>" * 50 + " / [b]"
+FAR = "X = a " + "indent greater " * 50 + "X / align b"
 for column, answer in ((4999, "failure"), (5000, "101 0 0 clear"), (5007, "101 0 7 clear")):
     given("X", "any", "a0 " * 100 + f"b{column}", answer, rules=FAR,
-          name=f"100 a with 50 greaters each, then [b] at {column}")
+          name=f"100 a with 50 greaters each, then align b at {column}")
 given("X", "any", "a0 " * 100 + "b65535", "failure", rules=FAR, start="65535 inf",
-      name="100 a with 50 greaters each from 65535, then [b] at 65535")
+      name="100 a with 50 greaters each from 65535, then align b at 65535")
 
 
 # --- Long lists ----------------------------------------------------------------------------------
@@ -1179,19 +1186,19 @@ FALLING = " ".join(f"a{200 - i}" for i in range(100))
 RISING = " ".join(f"a{101 + i}" for i in range(100))
 for expression, rules in (("X", LIST), ("a*", "")):
     for said, mode, tokens, answer, more in (
-        ("falling, mode >=", ">=", FALLING, "100 0 101 clear", {}),
-        ("rising, mode >=", ">=", RISING, "100 0 101 clear", {}),
-        ("falling, mode >", ">", FALLING, "100 0 100 clear", {}),
-        ("rising, mode >", ">", RISING, "100 0 100 clear", {}),
-        ("falling, mode =", "=", FALLING, "1 200 200 clear", {}),
-        ("rising, mode =", "=", RISING, "1 101 101 clear", {}),
+        ("falling, mode at-least", "at-least", FALLING, "100 0 101 clear", {}),
+        ("rising, mode at-least", "at-least", RISING, "100 0 101 clear", {}),
+        ("falling, mode greater", "greater", FALLING, "100 0 100 clear", {}),
+        ("rising, mode greater", "greater", RISING, "100 0 100 clear", {}),
+        ("falling, mode equal", "equal", FALLING, "1 200 200 clear", {}),
+        ("rising, mode equal", "equal", RISING, "1 101 101 clear", {}),
         ("falling, mode any", "any", FALLING, "100 0 inf clear", {}),
         ("rising, mode any", "any", RISING, "100 0 inf clear", {}),
         # From 150 on, falling, at least: 200 to 150 are 51 tokens, and the upper end is 150.
-        ("falling, from 150", ">=", FALLING, "51 150 150 clear", {"start": "150 inf"}),
-        ("falling, mode >, from 150", ">", FALLING, "50 150 150 clear", {"start": "150 inf"}),
-        ("falling, from 0 to 120", ">=", FALLING, "100 0 101 clear", {"start": "0 120"}),
-        ("falling, place 60", ">=", FALLING, "40 0 101 clear", {"place": 60}),
+        ("falling, from 150", "at-least", FALLING, "51 150 150 clear", {"start": "150 inf"}),
+        ("falling, mode greater, from 150", "greater", FALLING, "50 150 150 clear", {"start": "150 inf"}),
+        ("falling, from 0 to 120", "at-least", FALLING, "100 0 101 clear", {"start": "0 120"}),
+        ("falling, place 60", "at-least", FALLING, "40 0 101 clear", {"place": 60}),
     ):
         given(expression, mode, tokens, answer, rules, name=f"{expression}, 100 a {said}", **more)
 # Each a one column further in. Then 100 a and 100 b in pairs, a and b of a pair at one column, and the same with
@@ -1199,29 +1206,31 @@ for expression, rules in (("X", LIST), ("a*", "")):
 STAIRS = [f"a{i}" for i in range(105)]
 PYRAMID = STAIRS[:100] + [f"b{99 - i}" for i in range(100)]
 for name, tokens, answer, rules, start in (
-    ("X = a X^> / empty, 100 a at 0 to 99, mode =", STAIRS[:100], "100 0 0 clear", DEEPER, "0 inf"),
-    ("X = a X^> / empty, 100 a at 5 to 104, mode =", STAIRS[5:], "100 5 5 clear", DEEPER, "0 inf"),
-    ("X = a X^> / empty, 100 a at 0 to 99, mode =, from 5", STAIRS[:100], "0 5 inf clear", DEEPER, "5 inf"),
-    ("X = a X^> / empty, column 59 twice", STAIRS[:60] + STAIRS[59:99], "60 0 0 clear", DEEPER, "0 inf"),
-    ("X = a X^> b / empty, 100 pairs", PYRAMID, "200 0 0 clear", NESTED, "0 inf"),
-    ("X = a X^> b / empty, 100 pairs less the last b", PYRAMID[:199], "0 0 inf clear", NESTED, "0 inf"),
+    ("X = a indent greater X / empty, 100 a at 0 to 99, mode equal", STAIRS[:100], "100 0 0 clear", DEEPER, "0 inf"),
+    ("X = a indent greater X / empty, 100 a at 5 to 104, mode equal", STAIRS[5:], "100 5 5 clear", DEEPER, "0 inf"),
+    ("X = a indent greater X / empty, 100 a at 0 to 99, mode equal, from 5", STAIRS[:100], "0 5 inf clear", DEEPER, "5 inf"),
+    ("X = a indent greater X / empty, column 59 twice", STAIRS[:60] + STAIRS[59:99], "60 0 0 clear", DEEPER, "0 inf"),
+    ("X = a (indent greater X) b / empty, 100 pairs", PYRAMID, "200 0 0 clear", NESTED, "0 inf"),
+    ("X = a (indent greater X) b / empty, 100 pairs less the last b", PYRAMID[:199], "0 0 inf clear", NESTED, "0 inf"),
 ):
-    given("X", "=", " ".join(tokens), answer, rules, start, name=name)
+    given("X", "equal", " ".join(tokens), answer, rules, start, name=name)
 # 4096 tokens at column 7, the most there may be.
 MOST = "a7 " * 4096
-given("a*", ">=", MOST, "4096 0 7 clear", name="a*, 4096 a, mode >=")
-given("X", ">=", MOST, "4096 0 7 clear", rules=LIST, name="X = a X / empty, 4096 a, mode >=")
-given("X", ">", MOST, "4096 7 7 clear", rules="X = [a] X / empty", name="X = [a] X / empty, 4096 a, mode >")
+given("a*", "at-least", MOST, "4096 0 7 clear", name="a*, 4096 a, mode at-least")
+given("X", "at-least", MOST, "4096 0 7 clear", rules=LIST, name="X = a X / empty, 4096 a, mode at-least")
+given("X", "greater", MOST, "4096 7 7 clear", rules="X = (align a) X / empty",
+      name="X = (align a) X / empty, 4096 a, mode greater")
 given("X", "any", MOST, "failure", rules="X = a X", name="X = a X, 4096 a, mode any")
-given("a*", ">=", MOST, "1 0 7 clear", place=4095, name="a*, 4096 a, place 4095")
-given("a*", ">=", MOST, "0 0 inf clear", place=4096, name="a*, 4096 a, place 4096")
-given("a* a", ">=", MOST, "failure", name="a* a, 4096 a")
-given("[a]* b", ">", "a7 " * 4095 + "b8", "4096 7 7 clear", name="[a]* b, 4095 a and b8, mode >")
-given("[a]* b", ">", "a7 " * 4095 + "b7", "failure", name="[a]* b, 4095 a and b7, mode >")
-given("X", "any", MOST, "4096 65535 inf clear", rules=DEEPER, start="65535 inf", name="X = a X^> / empty, 4096 a from 65535")
-given("X", "=", MOST, "1 7 7 clear", rules=DEEPER, name="X = a X^> / empty, 4096 a, mode =")
-given("(a^>)*", "=", MOST, "4096 0 6 clear", name="(a^>)*, 4096 a, mode =")
-given("(a a)*", ">", "a7 " * 4095, "4094 0 6 clear", name="(a a)*, 4095 a, mode >")
+given("a*", "at-least", MOST, "1 0 7 clear", place=4095, name="a*, 4096 a, place 4095")
+given("a*", "at-least", MOST, "0 0 inf clear", place=4096, name="a*, 4096 a, place 4096")
+given("a* a", "at-least", MOST, "failure", name="a* a, 4096 a")
+given("(align a)* b", "greater", "a7 " * 4095 + "b8", "4096 7 7 clear", name="(align a)* b, 4095 a and b8, mode greater")
+given("(align a)* b", "greater", "a7 " * 4095 + "b7", "failure", name="(align a)* b, 4095 a and b7, mode greater")
+given("X", "any", MOST, "4096 65535 inf clear", rules=DEEPER, start="65535 inf",
+      name="X = a indent greater X / empty, 4096 a from 65535")
+given("X", "equal", MOST, "1 7 7 clear", rules=DEEPER, name="X = a indent greater X / empty, 4096 a, mode equal")
+given("(indent greater a)*", "equal", MOST, "4096 0 6 clear", name="(indent greater a)*, 4096 a, mode equal")
+given("(a a)*", "greater", "a7 " * 4095, "4094 0 6 clear", name="(a a)*, 4095 a, mode greater")
 
 
 if __name__ == "__main__":

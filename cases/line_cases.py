@@ -7,27 +7,24 @@ grammar file, scans a report or runs a grammar.
 """
 
 import grammar_fields
-from expressions import Table, written, written_rules
+from expressions import LETTERS, RELATIONS, SCANNED, Table, numbered, written, written_rules
 from grammar_fields import EMPTY as EMPTY_FIELD
 from grammar_fields import NINE, START, TAIL, VERSION, field, keyword, node, rule, start, with_keywords, with_names
 from records import Cases, Pairs, spaced
 from table_nodes import ANY, AT_LEAST, EMPTY, EQUAL, GREATER
-from table_nodes import align, choice, indent, not_, over, position, repeat, seq
+from table_nodes import align, choice, indent, not_, over, position, repeat, sequence, terminal
 from table_nodes import rule as call
-from table_nodes import terminal as term
 
 # 5: lines of four bytes and a break. 35: keywords of 32 bytes. 8200: two equal lines of 8,199 bytes.
 DISTANCES = (1, 2, 3, 4, 8, 9, 16, 5, 6, 7, 10, 35, 8200)
 CASES = Cases("line_cases")
 PAIRS = Pairs(100, DISTANCES)
 
-MODES = (("equal", EQUAL), ("greater", GREATER), ("at least", AT_LEAST), ("any", ANY))
-# The same four as relations, written.
-SIGNS = (("equal", "="), ("greater", ">"), ("at least", ">="), ("any", "any"))
-
-# "3 + k where the spelling equals keyword k ..; else 0 for a number .. else 1"; a line's end is 2.
-NUMBER, WORD, EOL = term(0), term(1), term(2)
-A, B = term(3), term(4)
+# "3 + k where the spelling equals keyword k ..; else 0 for a number .. else 1"; a line's end is 2. Written a, b, ..
+# are the keywords.
+TERMINALS = numbered((*SCANNED, *LETTERS))
+NUMBER, WORD, EOL = terminal(0), terminal(1), terminal(2)
+A, B = terminal(3), terminal(4)
 # Tokens by themselves can stand side by side: ` :,` is a at column 1 and b at column 2.
 KEYS = (b":", b",", b";")
 
@@ -72,11 +69,16 @@ def grammar(nodes, mode, keywords=KEYS, rules=(), first=None, leaves=""):
     Nodes and rules may be written instead, a the first keyword: then they are laid out as in `Table`, the leaves first.
     """
     if isinstance(nodes, str):
-        first_ones = [written(leaf, 3) for leaf in leaves.split()]
-        table = Table(written_rules(rules or "", 3), written(nodes, 3), once=True, leaves=first_ones)
+        first_ones = [written(leaf, TERMINALS) for leaf in leaves.split()]
+        table = Table(written_rules(rules or "", TERMINALS), written(nodes, TERMINALS), once=True, leaves=first_ones)
         nodes, rules, first = table.nodes, table.rules, table.start
     pairs = [(number, b"r%d" % i) for i, number in enumerate(rules)]
     return grammar_fields.file(nodes, len(nodes) - 1 if first is None else first, mode, keywords, pairs)
+
+
+def expressed(expression, mode, report, line, leaves=""):
+    """A case whose label is its expression."""
+    case(expression, grammar(expression, mode, leaves=leaves), report, line)
 
 
 NOTHING = VERSION + TAIL
@@ -87,7 +89,7 @@ EMPTY_ANSWER = success(0, 0, "inf")
 
 # "With keywords `loss` and `:` .. it prints `success 4 0 1 clear`".
 LOSS = (b"loss", b":")
-LOSS_NODES = [term(3), term(4), NUMBER, EOL, seq(2, 3), seq(1, 4), seq(0, 5)]
+LOSS_NODES = [terminal(3), terminal(4), NUMBER, EOL, sequence(2, 3), sequence(1, 4), sequence(0, 5)]
 EXAMPLE = b"  loss: 0.03"
 
 
@@ -103,7 +105,7 @@ case("example bracketed from the left", grammar("((a b) number) eol", GREATER, L
 # loss2 :6 number8 end12. Equal: loss makes 2 to 2, and 6 isn't "l to h".
 case("example mode equal", loss_file(EQUAL), EXAMPLE, FAILURE)
 # At least: "0 to h" of 2 to 2, the later columns are higher.
-case("example mode at least", loss_file(AT_LEAST), EXAMPLE, success(4, 0, 2))
+case("example mode at-least", loss_file(AT_LEAST), EXAMPLE, success(4, 0, 2))
 # Any: "0 on, without end".
 case("example mode any", loss_file(ANY), EXAMPLE, success(4, 0, "inf"))
 # A line ends in a token "also at the end of the text": a break changes nothing here.
@@ -122,7 +124,7 @@ case("example without blanks inside", loss_file(GREATER), b"  loss:0.03", succes
 case("example with more blanks inside", loss_file(GREATER), b"  loss \t :\t\t0.03", success(4, 0, 1))
 # Greater: 0 isn't in "l+1 on".
 case("example at column 0 mode greater", loss_file(GREATER), b"loss: 0.03", FAILURE)
-case("example at column 0 mode at least", loss_file(AT_LEAST), b"loss: 0.03", success(4, 0, 0))
+case("example at column 0 mode at-least", loss_file(AT_LEAST), b"loss: 0.03", success(4, 0, 0))
 case("example at column 1", loss_file(GREATER), b" loss: 0.03", success(4, 0, 0))
 # "(an optional `-`, digits, optionally `.` and digits, each group non-empty)".
 case("example with a minus", loss_file(GREATER), b"  loss: -12", success(4, 0, 1))
@@ -146,7 +148,7 @@ case("example started at the number", grammar(LOSS_NODES, EQUAL, LOSS, first=2),
 # --- Empty, and texts without a token -----------------------------------------------------------------------
 
 # "e. No tokens: a fails; empty succeeds, state unchanged."
-for name, mode in MODES:
+for name, mode in RELATIONS.items():
     case(f"empty on no text mode {name}", grammar("empty", mode), b"", EMPTY_ANSWER)
     case(f"a on no text mode {name}", grammar("a", mode), b"", FAILURE)
 # "Empty changes nothing", with tokens there too.
@@ -159,15 +161,15 @@ for name, text in (("no text", b""), ("a break", b"\n"), ("breaks", b"\n\n\n"), 
 # "A rule is its node", "Position changes the mode for its child", "Align sets the flag inside; after success
 # ..", and for indent greater "Without end less 1 is without end": over empty the state is as before.
 case("empty under a rule", grammar("X", EQUAL, rules="X = empty"), b"", EMPTY_ANSWER)
-case("empty under align", grammar("[empty]", EQUAL), b"", EMPTY_ANSWER)
-for name, sign in SIGNS:
-    case(f"empty under indent {name}", grammar(f"empty^{sign}", EQUAL), b"", EMPTY_ANSWER)
-    case(f"empty under position {name}", grammar(f"empty_{sign}", EQUAL), b"", EMPTY_ANSWER)
-case("empty twice", grammar("empty empty", EQUAL), b"", EMPTY_ANSWER)
-case("repeat of a on no text", grammar("a*", EQUAL), b"", EMPTY_ANSWER)
-case("not a on no text", grammar("!a", EQUAL), b"", EMPTY_ANSWER)
-case("not empty", grammar("!empty", EQUAL), b"", FAILURE)
-case("not not empty", grammar("!!empty", EQUAL), b"", EMPTY_ANSWER)
+expressed("align empty", EQUAL, b"", EMPTY_ANSWER)
+for relation in RELATIONS:
+    expressed(f"indent {relation} empty", EQUAL, b"", EMPTY_ANSWER)
+    expressed(f"position {relation} empty", EQUAL, b"", EMPTY_ANSWER)
+expressed("empty empty", EQUAL, b"", EMPTY_ANSWER)
+case("a* on no text", grammar("a*", EQUAL), b"", EMPTY_ANSWER)
+case("!a on no text", grammar("!a", EQUAL), b"", EMPTY_ANSWER)
+expressed("!empty", EQUAL, b"", FAILURE)
+expressed("!!empty", EQUAL, b"", EMPTY_ANSWER)
 
 
 # --- One terminal in each mode ------------------------------------------------------------------------------
@@ -178,7 +180,7 @@ for column in (0, 1, 5):
     text = b" " * column + b":"
     case(f"a{column} mode equal", grammar("a", EQUAL), text, success(1, column, column))
     case(f"a{column} mode greater", grammar("a", GREATER), text, success(1, 0, column - 1) if column else FAILURE)
-    case(f"a{column} mode at least", grammar("a", AT_LEAST), text, success(1, 0, column))
+    case(f"a{column} mode at-least", grammar("a", AT_LEAST), text, success(1, 0, column))
     case(f"a{column} mode any", grammar("a", ANY), text, success(1, 0, "inf"))
 # "A terminal also fails ... at another terminal".
 case("b for a", grammar("a", ANY), b",", FAILURE)
@@ -192,7 +194,7 @@ case("a for word", grammar("word", ANY), b":", FAILURE)
 # a2 b3. Equal: 2 to 2, 3 isn't in it. Greater: 0 to 1, then "l+1 on" is 1 on. At least: 0 to 2.
 case("a2 b3 mode equal", grammar("a b", EQUAL), b"  :,", FAILURE)
 case("a2 b3 mode greater", grammar("a b", GREATER), b"  :,", success(2, 0, 1))
-case("a2 b3 mode at least", grammar("a b", AT_LEAST), b"  :,", success(2, 0, 2))
+case("a2 b3 mode at-least", grammar("a b", AT_LEAST), b"  :,", success(2, 0, 2))
 case("a2 b3 mode any", grammar("a b", ANY), b"  :,", success(2, 0, "inf"))
 # "Sequence: a, then b": a missing, b missing, both there but exchanged.
 case("sequence without b", grammar("a b", ANY), b":", FAILURE)
@@ -201,16 +203,16 @@ case("sequence exchanged", grammar("a b", ANY), b",:", FAILURE)
 # Word, eol, word: each line's word and the first one's end, all in the mode.
 # x4 end5 y2: at least 0 to 4, 0 to 4, then met with 0 to 2; greater 0 to 3, then met with
 # 0 to 1; equal: 5 isn't 4.
-case("lower second line mode at least", grammar("word eol word", AT_LEAST), b"    x\n  y", success(3, 0, 2))
+case("lower second line mode at-least", grammar("word eol word", AT_LEAST), b"    x\n  y", success(3, 0, 2))
 case("lower second line mode greater", grammar("word eol word", GREATER), b"    x\n  y", success(3, 0, 1))
 case("lower second line mode equal", grammar("word eol word", EQUAL), b"    x\n  y", FAILURE)
 case("lower second line mode any", grammar("word eol word", ANY), b"    x\n  y", success(3, 0, "inf"))
 # y0: greater fails, at least gives 0 to 0.
 case("second line at 0 mode greater", grammar("word eol word", GREATER), b"    x\ny", FAILURE)
-case("second line at 0 mode at least", grammar("word eol word", AT_LEAST), b"    x\ny", success(3, 0, 0))
+case("second line at 0 mode at-least", grammar("word eol word", AT_LEAST), b"    x\ny", success(3, 0, 0))
 # With the end in mode any: x2 makes 2 to 2 and the second word must be there too.
-case("second line equal", grammar("word eol_any word", EQUAL), b"  x\n  y", success(3, 2, 2))
-case("second line not equal", grammar("word eol_any word", EQUAL), b"  x\n   y", FAILURE)
+case("second line equal", grammar("word (position any eol) word", EQUAL), b"  x\n  y", success(3, 2, 2))
+case("second line not equal", grammar("word (position any eol) word", EQUAL), b"  x\n   y", FAILURE)
 
 
 # --- Choice, not, repeat ------------------------------------------------------------------------------------
@@ -220,36 +222,36 @@ case("choice takes a", grammar("a / b", EQUAL), b" :", success(1, 1, 1))
 case("choice takes b", grammar("a / b", EQUAL), b" ,", success(1, 1, 1))
 case("choice takes neither", grammar("a / b", EQUAL), b" ;", FAILURE)
 # The order counts (001, section 1): of ab, ab/a reads both tokens, a/ab only a.
-case("a b or a", grammar("a b / a", ANY), b":,", success(2, 0, "inf"))
-case("a or a b", grammar("a / a b", ANY), b":,", success(1, 0, "inf"))
+expressed("a b / a", ANY, b":,", success(2, 0, "inf"))
+expressed("a / a b", ANY, b":,", success(1, 0, "inf"))
 # The first alternative has succeeded; what follows fails and nothing else is tried.
-case("a or a b then c", grammar("(a / a b) c", ANY, leaves="a b c"), b":,;", FAILURE)
+expressed("(a / a b) c", ANY, b":,;", FAILURE, leaves="a b c")
 # "Trying the second alternative with the first one's narrowed interval": a b makes 5 to 5 and fails; a
 # under greater from 0 without end gives 0 to 4.
-case("second alternative from the old state", grammar("a b / a_>", EQUAL), b"     :", success(1, 0, 4))
+case("second alternative from the old state", grammar("a b / position greater a", EQUAL), b"     :", success(1, 0, 4))
 # "Not succeeds exactly if its child fails"; "Not and failure hand the old state on."
-case("not a before b", grammar("!a", EQUAL), b"   ,", EMPTY_ANSWER)
-case("not a before a", grammar("!a", EQUAL), b"   :", FAILURE)
-case("not not a before a", grammar("!!a", EQUAL), b"   :", EMPTY_ANSWER)
-case("not not a before b", grammar("!!a", EQUAL), b"   ,", FAILURE)
-case("not not a then a", grammar("!!a a", GREATER), b"   :", success(1, 0, 2))
+case("!a before b", grammar("!a", EQUAL), b"   ,", EMPTY_ANSWER)
+case("!a before a", grammar("!a", EQUAL), b"   :", FAILURE)
+case("!!a before a", grammar("!!a", EQUAL), b"   :", EMPTY_ANSWER)
+case("!!a before b", grammar("!!a", EQUAL), b"   ,", FAILURE)
+expressed("!!a a", GREATER, b"   :", success(1, 0, 2))
 # a0 fails in mode greater by its column alone.
-case("not a at a column outside", grammar("!a", GREATER), b":", EMPTY_ANSWER)
+case("!a at a column outside", grammar("!a", GREATER), b":", EMPTY_ANSWER)
 # "Repeat: success in the old state .. else the repeat again .."
-case("repeat mode any", grammar("a*", ANY), b":::", success(3, 0, "inf"))
-case("repeat mode at least", grammar("a*", AT_LEAST), b"  :::", success(3, 0, 2))
-case("repeat mode greater", grammar("a*", GREATER), b"  :::", success(3, 0, 1))
+case("a* mode any", grammar("a*", ANY), b":::", success(3, 0, "inf"))
+case("a* mode at-least", grammar("a*", AT_LEAST), b"  :::", success(3, 0, 2))
+case("a* mode greater", grammar("a*", GREATER), b"  :::", success(3, 0, 1))
 # a2 makes 2 to 2; a3 fails, and the round before it stands.
-case("repeat mode equal", grammar("a*", EQUAL), b"  :::", success(1, 2, 2))
+case("a* mode equal", grammar("a*", EQUAL), b"  :::", success(1, 2, 2))
 case("repeat of none", grammar("a*", EQUAL), b",", EMPTY_ANSWER)
 case("repeat of none by the column", grammar("a*", GREATER), b":::", EMPTY_ANSWER)
 # The repeat leaves no a.
-case("repeat then a", grammar("a* a", ANY), b":::", FAILURE)
-case("repeat then b", grammar("a* b", ANY, leaves="a b"), b":::,", success(4, 0, "inf"))
+expressed("a* a", ANY, b":::", FAILURE)
+expressed("a* b", ANY, b":::,", success(4, 0, "inf"), leaves="a b")
 # Rounds of a b eol, at least: a4 makes 0 to 4; the second round's a2 would make 0 to 2, but its b fails.
 case("repeat drops its last round", grammar("(a b eol)*", AT_LEAST), b"    :,\n  :;", success(3, 0, 4))
 # (a* b)*: a a b, then a b.
-case("repeat of a repeat and b", grammar("(a* b)*", ANY, leaves="a b"), b"::,:,", success(5, 0, "inf"))
+expressed("(a* b)*", ANY, b"::,:,", success(5, 0, "inf"), leaves="a b")
 
 
 # --- Indent -------------------------------------------------------------------------------------------------
@@ -258,149 +260,152 @@ case("repeat of a repeat and b", grammar("(a* b)*", ANY, leaves="a b"), b"::,:,"
 # h-1"; mode greater from 2 on: 1 to 4, out 0 to 3; at least 1 to 5, out 0 to 4; any 1 on, out 0 on. At
 # least: as the mode gives it, "0 to h" of that. Any: out "0 on, without end" always.
 INDENTED = {
-    ("equal", "equal"): (5, 5), ("equal", "greater"): (0, 4), ("equal", "at least"): (0, 5),
+    ("equal", "equal"): (5, 5), ("equal", "greater"): (0, 4), ("equal", "at-least"): (0, 5),
     ("equal", "any"): (0, "inf"),
-    ("greater", "equal"): (0, 4), ("greater", "greater"): (0, 3), ("greater", "at least"): (0, 4),
+    ("greater", "equal"): (0, 4), ("greater", "greater"): (0, 3), ("greater", "at-least"): (0, 4),
     ("greater", "any"): (0, "inf"),
-    ("at least", "equal"): (0, 5), ("at least", "greater"): (0, 4), ("at least", "at least"): (0, 5),
-    ("at least", "any"): (0, "inf"),
-    ("any", "equal"): (0, "inf"), ("any", "greater"): (0, "inf"), ("any", "at least"): (0, "inf"),
+    ("at-least", "equal"): (0, 5), ("at-least", "greater"): (0, 4), ("at-least", "at-least"): (0, 5),
+    ("at-least", "any"): (0, "inf"),
+    ("any", "equal"): (0, "inf"), ("any", "greater"): (0, "inf"), ("any", "at-least"): (0, "inf"),
     ("any", "any"): (0, "inf"),
 }
-for name, sign in SIGNS:
-    for mode_name, mode in MODES:
-        case(f"indent {name} mode {mode_name}", grammar(f"a^{sign}", mode), b"     :", success(1, *INDENTED[name, mode_name]))
+for relation in RELATIONS:
+    for name, mode in RELATIONS.items():
+        case(f"indent {relation} a mode {name}", grammar(f"indent {relation} a", mode), b"     :",
+             success(1, *INDENTED[relation, name]))
 # Greater in mode greater begins at 2: a1 fails, a2 gives 1 to 1 and out 0 to 0.
-case("indent greater mode greater at 1", grammar("a^>", GREATER), b" :", FAILURE)
-case("indent greater mode greater at 2", grammar("a^>", GREATER), b"  :", success(1, 0, 0))
-case("indent greater mode equal at 0", grammar("a^>", EQUAL), b":", FAILURE)
-case("indent greater mode equal at 1", grammar("a^>", EQUAL), b" :", success(1, 0, 0))
-case("indent greater mode any at 0", grammar("a^>", ANY), b":", success(1, 0, "inf"))
-case("indent at least mode equal at 0", grammar("a^>=", EQUAL), b":", success(1, 0, 0))
+case("indent greater a mode greater at 1", grammar("indent greater a", GREATER), b" :", FAILURE)
+case("indent greater a mode greater at 2", grammar("indent greater a", GREATER), b"  :", success(1, 0, 0))
+case("indent greater a mode equal at 0", grammar("indent greater a", EQUAL), b":", FAILURE)
+case("indent greater a mode equal at 1", grammar("indent greater a", EQUAL), b" :", success(1, 0, 0))
+case("indent greater a mode any at 0", grammar("indent greater a", ANY), b":", success(1, 0, "inf"))
+case("indent at-least a mode equal at 0", grammar("indent at-least a", EQUAL), b":", success(1, 0, 0))
 # Twice greater: 2 on; a5 gives 5 to 5, 1 to 4, 0 to 3; a1 fails.
-case("indent greater twice", grammar("a^>^>", EQUAL), b"     :", success(1, 0, 3))
-case("indent greater twice at 1", grammar("a^>^>", EQUAL), b" :", FAILURE)
-case("indent greater twice at 2", grammar("a^>^>", EQUAL), b"  :", success(1, 0, 0))
+expressed("indent greater (indent greater a)", EQUAL, b"     :", success(1, 0, 3))
+case("indent greater (indent greater a) at 1", grammar("indent greater (indent greater a)", EQUAL), b" :", FAILURE)
+case("indent greater (indent greater a) at 2", grammar("indent greater (indent greater a)", EQUAL), b"  :", success(1, 0, 0))
 # Any inside greater: 5 to 5, then 1 on, then "Without end less 1 is without end".
-case("indent any inside greater", grammar("a^any^>", EQUAL), b"     :", success(1, 0, "inf"))
-case("indent greater inside any", grammar("a^>^any", EQUAL), b"     :", success(1, 0, "inf"))
+expressed("indent greater (indent any a)", EQUAL, b"     :", success(1, 0, "inf"))
+expressed("indent any (indent greater a)", EQUAL, b"     :", success(1, 0, "inf"))
 # 001, 2.3: in mode equal on a1 b2 the indent of (a b) fails (1 to 1, then 2), the two
 # indents apart give 0 to 0.
-case("indent of a sequence", grammar("(a b)^>", EQUAL), b" :,", FAILURE)
-case("sequence of indents", grammar("a^> b^>", EQUAL, leaves="a b"), b" :,", success(2, 0, 0))
+expressed("indent greater (a b)", EQUAL, b" :,", FAILURE)
+expressed("(indent greater a) (indent greater b)", EQUAL, b" :,", success(2, 0, 0), leaves="a b")
 # Case f: "a, then (b under greater, or empty) .. a1 b2 reads 2, 1 to 1".
-case("case f on one line", grammar("a (b^> / empty)", EQUAL), b" :,", success(2, 1, 1))
+case("case f on one line", grammar("a (indent greater b / empty)", EQUAL), b" :,", success(2, 1, 1))
 # "a3 b2 reads 1, 3 to 3": b2 stands on the next line, so the line's end is read too, in mode any.
-CASE_F = grammar("a eol_any (b^> / empty)", EQUAL, leaves="a b eol")
+CASE_F = grammar("a (position any eol) (indent greater b / empty)", EQUAL, leaves="a b eol")
 case("case f with b lower", CASE_F, b"   :\n  ,", success(2, 3, 3))
 case("case f with b higher", CASE_F, b" :\n  ,", success(3, 1, 1))
 case("case f with b at the same column", CASE_F, b" :\n ,", success(2, 1, 1))
 # Case g: "a, then b under any .. a3 b0: 2 read, 3 to 3", and the line's end between them.
-case("case g", grammar("a eol_any b^any", EQUAL, leaves="a b eol"), b"   :\n,", success(3, 3, 3))
+case("case g", grammar("a (position any eol) (indent any b)", EQUAL, leaves="a b eol"), b"   :\n,", success(3, 3, 3))
 # At least: b must be at 3 or above.
-CASE_AT_LEAST = grammar("a eol_any b^>=", EQUAL, leaves="a b eol")
-case("indent at least and b lower", CASE_AT_LEAST, b"   :\n  ,", FAILURE)
-case("indent at least and b equal", CASE_AT_LEAST, b"   :\n   ,", success(3, 3, 3))
-case("indent at least and b higher", CASE_AT_LEAST, b"   :\n    ,", success(3, 3, 3))
+CASE_AT_LEAST = grammar("a (position any eol) (indent at-least b)", EQUAL, leaves="a b eol")
+case("indent at-least and b lower", CASE_AT_LEAST, b"   :\n  ,", FAILURE)
+case("indent at-least and b equal", CASE_AT_LEAST, b"   :\n   ,", success(3, 3, 3))
+case("indent at-least and b higher", CASE_AT_LEAST, b"   :\n    ,", success(3, 3, 3))
 # The upper end goes down by the second indent: a6 gives 0 to 5, b3 on the next line 0 to 2.
 case("second indent lowers the upper end",
-     grammar([A, B, EOL, position(2, ANY), indent(0), indent(1), seq(3, 5), seq(4, 6)], EQUAL),
+     grammar([A, B, EOL, position(2, ANY), indent(0), indent(1), sequence(3, 5), sequence(4, 6)], EQUAL),
      b"      :\n   ,", success(3, 0, 2))
 
 
 # --- Align --------------------------------------------------------------------------------------------------
 
 # Case a, from 001: "Align of a b under greater .. a2 b3: 2 read, 0 to 1 ..".
-case("case a", grammar("[a b]^>", AT_LEAST), b"  :,", success(2, 0, 1))
+case("case a", grammar("indent greater (align (a b))", AT_LEAST), b"  :,", success(2, 0, 1))
 # 001, theorem 2.4: align and indent may be exchanged. 1 on with the flag set: 2 to
 # 2, then 2 to 2, out 0 to 1.
-case("case a with align outside", grammar("[(a b)^>]", AT_LEAST), b"  :,", success(2, 0, 1))
+case("case a with align outside", grammar("align (indent greater (a b))", AT_LEAST), b"  :,", success(2, 0, 1))
 # "with the flag set, i must lie in the interval ..", whatever the mode (case d).
-for name, mode in MODES:
-    case(f"align of a mode {name}", grammar("[a]", mode), b"     :", success(1, 5, 5))
-    case(f"align of a at 0 mode {name}", grammar("[a]", mode), b":", success(1, 0, 0))
+for name, mode in RELATIONS.items():
+    case(f"align a mode {name}", grammar("align a", mode), b"     :", success(1, 5, 5))
+    case(f"align a at 0 mode {name}", grammar("align a", mode), b":", success(1, 0, 0))
 # Only the first token: "The flag is then clear." a5 b6 goes on from 5 to 5 in the mode.
-case("align of a b mode equal", grammar("[a b]", EQUAL), b"     :,", FAILURE)
-case("align of a b mode greater", grammar("[a b]", GREATER), b"     :,", success(2, 5, 5))
-case("align of a b mode at least", grammar("[a b]", AT_LEAST), b"     :,", success(2, 5, 5))
-case("align of a b mode any", grammar("[a b]", ANY), b"     :,", success(2, 5, 5))
+case("align (a b) mode equal", grammar("align (a b)", EQUAL), b"     :,", FAILURE)
+case("align (a b) mode greater", grammar("align (a b)", GREATER), b"     :,", success(2, 5, 5))
+case("align (a b) mode at-least", grammar("align (a b)", AT_LEAST), b"     :,", success(2, 5, 5))
+case("align (a b) mode any", grammar("align (a b)", ANY), b"     :,", success(2, 5, 5))
 # Case h: "Align of empty, then a, mode greater, a5: 0 to 4."
-case("case h", grammar("[empty] a", GREATER), b"     :", success(1, 0, 4))
+case("case h", grammar("(align empty) a", GREATER), b"     :", success(1, 0, 4))
 # Within one more align the flag "was set both before and at the inner end", so a is aligned.
-case("case h inside an align", grammar("[[empty] a]", GREATER), b"     :", success(1, 5, 5))
+case("case h inside an align", grammar("align ((align empty) a)", GREATER), b"     :", success(1, 5, 5))
 # "after success it is set exactly if ..": a read in the inner one clears it.
-case("align of align", grammar("[[a]]", GREATER), b"     :", success(1, 5, 5))
-case("align of align of a then b", grammar("[[a] b]", GREATER, leaves="a b"), b"     :,", success(2, 5, 5))
+expressed("align (align a)", GREATER, b"     :", success(1, 5, 5))
+expressed("align ((align a) b)", GREATER, b"     :,", success(2, 5, 5), leaves="a b")
 # "A rule is its node", "Position changes the mode", indent gives "the inner set": the flag goes in as it is.
-case("align of a rule", grammar("[X]", GREATER, rules="X = a"), b"     :", success(1, 5, 5))
-case("align of a choice", grammar("[a / b]", GREATER), b"     ,", success(1, 5, 5))
-case("align of a repeat", grammar("[a*]", GREATER), b"     ::", success(2, 5, 5))
-case("align of an indent", grammar("[a^>]", GREATER), b"     :", success(1, 0, 4))
+case("align of a rule", grammar("align X", GREATER, rules="X = a"), b"     :", success(1, 5, 5))
+expressed("align (a / b)", GREATER, b"     ,", success(1, 5, 5))
+expressed("align a*", GREATER, b"     ::", success(2, 5, 5))
+expressed("align (indent greater a)", GREATER, b"     :", success(1, 0, 4))
 # Not hands its child the flag: b4 isn't in 1 to 1, so not b succeeds; without the flag b4 is greater than 1.
-case("align of not b behind a", grammar("a [!b_>]", EQUAL), b" :  ,", success(1, 1, 1))
-case("not b behind a", grammar("a !b_>", EQUAL), b" :  ,", FAILURE)
+expressed("a align !(position greater b)", EQUAL, b" :  ,", success(1, 1, 1))
+expressed("a !(position greater b)", EQUAL, b" :  ,", FAILURE)
 # Empty, not, a repeat without a round and an indent over empty leave the flag set.
-case("align of empty and a", grammar("[empty a]", GREATER), b"     :", success(1, 5, 5))
-case("align of not b and a", grammar("[!b a]", GREATER, leaves="a b"), b"     :", success(1, 5, 5))
-case("align of repeat b and a", grammar("[b* a]", GREATER, leaves="a b"), b"     :", success(1, 5, 5))
-case("align of indent of empty and a", grammar("[empty^> a]", GREATER), b"     :", success(1, 5, 5))
+expressed("align (empty a)", GREATER, b"     :", success(1, 5, 5))
+expressed("align (!b a)", GREATER, b"     :", success(1, 5, 5), leaves="a b")
+expressed("align (b* a)", GREATER, b"     :", success(1, 5, 5), leaves="a b")
+expressed("align ((indent greater empty) a)", GREATER, b"     :", success(1, 5, 5))
 # "b from the old state", "Not and failure hand the old state on", "success in the old state": the flag too.
 # What failed had read a and cleared it.
-case("align of a b or a", grammar("[a b / a]", GREATER), b"     :", success(1, 5, 5))
-case("align of not a b and a", grammar("[!(a b) a]", GREATER), b"     :", success(1, 5, 5))
-case("align of repeat a b and a", grammar("[(a b)* a]", GREATER), b"     :", success(1, 5, 5))
+expressed("align (a b / a)", GREATER, b"     :", success(1, 5, 5))
+expressed("align (!(a b) a)", GREATER, b"     :", success(1, 5, 5))
+expressed("align ((a b)* a)", GREATER, b"     :", success(1, 5, 5))
 # And a failed align hands on the clear flag.
-case("align of a b, or a", grammar("[a b] / a", GREATER), b"     :", success(1, 0, 4))
+expressed("align (a b) / a", GREATER, b"     :", success(1, 0, 4))
 # The flag is clear behind an align that read: b6 in mode greater from 5 to 5; in mode equal 6 isn't 5.
-case("align of a then b mode greater", grammar("[a] b", GREATER, leaves="a b"), b"     :,", success(2, 5, 5))
-case("align of a then b mode equal", grammar("[a] b", EQUAL, leaves="a b"), b"     :,", FAILURE)
+case("(align a) b mode greater", grammar("(align a) b", GREATER, leaves="a b"), b"     :,", success(2, 5, 5))
+case("(align a) b mode equal", grammar("(align a) b", EQUAL, leaves="a b"), b"     :,", FAILURE)
 # Two aligns: the second token must lie in i to i.
-case("two aligns on a line", grammar("[a] [b]", ANY, leaves="a b"), b":,", FAILURE)
-TWO_ALIGNS = grammar("[a] eol [b]", GREATER, leaves="a b eol")
+case("two aligns on a line", grammar("(align a) (align b)", ANY, leaves="a b"), b":,", FAILURE)
+TWO_ALIGNS = grammar("(align a) eol (align b)", GREATER, leaves="a b eol")
 case("two aligns at the same column", TWO_ALIGNS, b"  :\n  ,", success(3, 2, 2))
 case("two aligns with b lower", TWO_ALIGNS, b"  :\n ,", FAILURE)
 case("two aligns with b higher", TWO_ALIGNS, b"  :\n   ,", FAILURE)
 # Case i starts "from 1 to 1"; here a first token in mode equal, x1, gives that. "Align of (a under
 # greater) .. a4: 1 to 1." (2 on, flag set: 4 to 4, out 0 to 3.)
-case("case i behind a token", grammar("a [b^>]", EQUAL), b" :  ,", success(2, 1, 1))
-case("case i right behind a token", grammar("a [b^>]", EQUAL), b" :,", success(2, 1, 1))
-case("case i under equal", grammar("a [b^=]", EQUAL), b" :  ,", FAILURE)
-case("case i under at least", grammar("a [b^>=]", EQUAL), b" :  ,", success(2, 1, 1))
-case("case i under any", grammar("a [b^any]", EQUAL), b" :  ,", success(2, 1, 1))
-case("case i without an indent", grammar("a [b]", EQUAL), b" :  ,", FAILURE)
+case("case i behind a token", grammar("a align (indent greater b)", EQUAL), b" :  ,", success(2, 1, 1))
+case("case i right behind a token", grammar("a align (indent greater b)", EQUAL), b" :,", success(2, 1, 1))
+case("case i under equal", grammar("a align (indent equal b)", EQUAL), b" :  ,", FAILURE)
+case("case i under at-least", grammar("a align (indent at-least b)", EQUAL), b" :  ,", success(2, 1, 1))
+case("case i under any", grammar("a align (indent any b)", EQUAL), b" :  ,", success(2, 1, 1))
+case("case i without an indent", grammar("a align b", EQUAL), b" :  ,", FAILURE)
 # Behind the indent the flag is "as it left it", clear: a2 under greater gives 2 to 2, out
 # 0 to 1; then b3 at least.
-case("align of indented a then b", grammar("[a^> b]", AT_LEAST, leaves="a b"), b"  :,", success(2, 0, 1))
+expressed("align ((indent greater a) b)", AT_LEAST, b"  :,", success(2, 0, 1), leaves="a b")
 
 
 # --- Position -----------------------------------------------------------------------------------------------
 
 # "Position changes the mode for its child, through rules too."
-ONE = {"equal": (5, 5), "greater": (0, 4), "at least": (0, 5), "any": (0, "inf")}
-for name, sign in SIGNS:
-    other, other_sign = (ANY, "any") if name != "any" else (EQUAL, "=")
-    case(f"position {name} of a", grammar(f"a_{sign}", other), b"     :", success(1, *ONE[name]))
-    case(f"position {name} of a rule", grammar(f"X_{sign}", other, rules="X = a"), b"     :", success(1, *ONE[name]))
+ONE = {"equal": (5, 5), "greater": (0, 4), "at-least": (0, 5), "any": (0, "inf")}
+for relation, ends in ONE.items():
+    other = "any" if relation != "any" else "equal"
+    mode = RELATIONS[other]
+    expressed(f"position {relation} a", mode, b"     :", success(1, *ends))
+    case(f"position {relation} of a rule", grammar(f"position {relation} X", mode, rules="X = a"), b"     :",
+         success(1, *ends))
     # 001: of two positions the inner one holds.
-    case(f"position {name} inside another", grammar(f"a_{sign}_{other_sign}", EQUAL), b"     :", success(1, *ONE[name]))
+    expressed(f"position {other} (position {relation} a)", EQUAL, b"     :", success(1, *ends))
     # With the flag set the mode has no part.
-    case(f"align of position {name}", grammar(f"[a_{sign}]", other), b"     :", success(1, 5, 5))
-    case(f"position {name} of align", grammar(f"[a]_{sign}", other), b"     :", success(1, 5, 5))
+    expressed(f"align (position {relation} a)", mode, b"     :", success(1, 5, 5))
+    expressed(f"position {relation} (align a)", mode, b"     :", success(1, 5, 5))
 # The mode is the child's only: b3 stands in the file's mode again, equal.
-case("position any of a then b", grammar("a_any b", EQUAL, leaves="a b"), b"  :,", success(2, 3, 3))
+expressed("(position any a) b", EQUAL, b"  :,", success(2, 3, 3), leaves="a b")
 # At least: a2 leaves 0 to 2, and 3 is outside.
-case("position at least of a then b", grammar("a_>= b", EQUAL, leaves="a b"), b"  :,", FAILURE)
-case("position at least of a b", grammar("(a b)_>=", EQUAL), b"  :,", success(2, 0, 2))
+expressed("(position at-least a) b", EQUAL, b"  :,", FAILURE, leaves="a b")
+expressed("position at-least (a b)", EQUAL, b"  :,", success(2, 0, 2))
 # "through rules too", and indents, aligns, choices: the mode greater reaches a; a5
 # under greater: 1 to 4, 0 to 3.
-case("position over an indent", grammar("a^>_>", EQUAL), b"     :", success(1, 0, 3))
-case("position over a choice", grammar("(a / b)_>", EQUAL), b"     ,", success(1, 0, 4))
-case("position over a repeat", grammar("a*_>", EQUAL), b"  ::", success(2, 0, 1))
-case("position over a not", grammar("(!a)_>", EQUAL), b":", EMPTY_ANSWER)
+expressed("position greater (indent greater a)", EQUAL, b"     :", success(1, 0, 3))
+expressed("position greater (a / b)", EQUAL, b"     ,", success(1, 0, 4))
+expressed("position greater a*", EQUAL, b"  ::", success(2, 0, 1))
+expressed("position greater !a", EQUAL, b":", EMPTY_ANSWER)
 # The rule names itself inside a position: rule 0 = a, then (rule 0 in mode any, or
 # empty). a2 equal, the rest any.
 case("position in a rule that names itself",
-     grammar("a (X_any / empty)", EQUAL, rules="X = a (X_any / empty)"), b"  :::", success(3, 2, 2))
+     grammar("a (position any X / empty)", EQUAL, rules="X = a (position any X / empty)"), b"  :::", success(3, 2, 2))
 
 
 # --- Rules --------------------------------------------------------------------------------------------------
@@ -411,7 +416,8 @@ case("position in a rule that names itself",
 
 def paper(text, line):
     """That grammar on a text where a, b, c and _ stand for the three keywords and a blank."""
-    case(f"paper grammar on {text or 'no text'}", grammar("A_>=", EQUAL, rules="A = !!c / a / B; B = b [A A]^>"),
+    rules = "A = !!c / a / B; B = b indent greater (align (A A))"
+    case(f"paper grammar on {text or 'no text'}", grammar("position at-least A", EQUAL, rules=rules),
          text.translate(str.maketrans("abc_", ":,; ")).encode(), line)
 
 
@@ -431,17 +437,18 @@ paper("ba", FAILURE)
 paper("bbaaa", success(5, 0, 0))
 paper("", FAILURE)
 # Value: a number or ( values ), in mode any; ( 1 ( 2 3 ) ( ) ) are 9 tokens.
-VALUES = [term(3), term(4), NUMBER, call(0), repeat(3), seq(4, 1), seq(0, 5), choice(2, 6)]
+VALUES = [terminal(3), terminal(4), NUMBER, call(0), repeat(3), sequence(4, 1), sequence(0, 5), choice(2, 6)]
 VALUES_FILE = grammar(VALUES, ANY, (b"(", b")"), rules=[7])
 case("nested brackets", VALUES_FILE, b"(1 (2 3) ())", success(9, 0, "inf"))
 case("nested brackets not closed", VALUES_FILE, b"(1 (2 3) ()", FAILURE)
 case("brackets with a word inside", VALUES_FILE, b"(1 two)", FAILURE)
 case("brackets of 1,000", VALUES_FILE, b"(" * 1000 + b")" * 1000, success(2000, 0, "inf"))
 # "a rule may stand for any node": rule 0 for a node above the one that names it, rule 1 for one below.
-case("rules above and below", grammar([call(0), A, call(1), seq(0, 2)], AT_LEAST, rules=[1, 1]), b"  ::", success(2, 0, 2))
+case("rules above and below", grammar([call(0), A, call(1), sequence(0, 2)], AT_LEAST, rules=[1, 1]),
+     b"  ::", success(2, 0, 2))
 # Rule 0 = a, then (rule 0 or empty) under greater. Mode equal: each token stands to
 # the right of the one before.
-DEEPER = "a (X / empty)^>"
+DEEPER = "a indent greater (X / empty)"
 
 
 def deeper(mode):
@@ -451,7 +458,7 @@ def deeper(mode):
 # a3, a4, a5: 3 to 3; 4 on, 4 to 4; and so on. Out: "0 to h-1" holds 3.
 case("ever deeper mode equal", deeper(EQUAL), b"   :::", success(3, 3, 3))
 # a3: 0 to 3. 1 on, a4: 1 to 4. 2 on, a5: 2 to 5. Out 0 to 4 met with 1 to 4, out 0 to 3.
-case("ever deeper mode at least", deeper(AT_LEAST), b"   :::", success(3, 0, 3))
+case("ever deeper mode at-least", deeper(AT_LEAST), b"   :::", success(3, 0, 3))
 # a1: 0 to 0. 1 on, a2 in 2 on: 1 to 1. 2 on, a3 in 3 on: 2 to 2. Out 0 to 1, out 0 to 0.
 case("ever deeper mode greater", deeper(GREATER), b" :::", success(3, 0, 0))
 case("ever deeper mode any", deeper(ANY), b"   :::", success(3, 0, "inf"))
@@ -463,34 +470,34 @@ case("ever deeper 4,095 times", deeper(EQUAL), b":" * 4095, success(4095, 0, 0))
 case("a rule that can't end", grammar("a X", ANY, rules="X = a X"), b":::", FAILURE)
 case("repeat of a rule that can't end", grammar("(a X)*", ANY, rules="X = a X"), b":::", EMPTY_ANSWER)
 # Its first part can't succeed, so it may not read nothing: the same words let it pass.
-case("a rule behind not empty", grammar("!empty X", ANY, rules="X = !empty X"), b"", FAILURE)
+case("a rule behind !empty", grammar("!empty X", ANY, rules="X = !empty X"), b"", FAILURE)
 # Case j: "repeat of not-empty passes".
-case("repeat of not empty", grammar("(!empty)*", ANY), b":", EMPTY_ANSWER)
+expressed("(!empty)*", ANY, b":", EMPTY_ANSWER)
 # "Choice: a's successes, and if a may fail all of b's facts": it reads something or fails.
-case("repeat of not empty or a", grammar("(!empty / a)*", ANY), b"::", success(2, 0, "inf"))
+expressed("(!empty / a)*", ANY, b"::", success(2, 0, "inf"))
 # a or empty can't fail ("if a may fail all of b's facts"), so its not has no success and may be repeated.
-case("repeat of not (a or empty)", grammar("(!(a / empty))*", ANY), b":", EMPTY_ANSWER)
-case("repeat of not (empty or a)", grammar("(!(empty / a))*", ANY), b":", EMPTY_ANSWER)
+expressed("(!(a / empty))*", ANY, b":", EMPTY_ANSWER)
+expressed("(!(empty / a))*", ANY, b":", EMPTY_ANSWER)
 # "something if both may succeed and one reads something": not empty can't, so the sequence may only fail, its
 # not can't fail, and not not has no success. It passes, fails when run, and the repeat has no round.
-case("repeat of not not (a, not empty)",
-     grammar([EMPTY, not_(0), A, seq(2, 1), not_(3), not_(4), repeat(5)], ANY), b":", EMPTY_ANSWER)
-case("repeat of not not (not empty, a)", grammar("(!!(!empty a))*", ANY), b":", EMPTY_ANSWER)
+case("(!!(a !empty))*",
+     grammar([EMPTY, not_(0), A, sequence(2, 1), not_(3), not_(4), repeat(5)], ANY), b":", EMPTY_ANSWER)
+expressed("(!!(!empty a))*", ANY, b":", EMPTY_ANSWER)
 
 
 # --- Several lines: blocks of aligned lines -----------------------------------------------------------------
 
 STEPS = (b"step", b":", b"loss")
 STEP_NODES = [
-    term(3), NUMBER, term(4), EOL, term(5),
-    seq(2, 3), seq(1, 5), seq(0, 6),  # 7: step number : end
-    seq(1, 3), seq(2, 8), seq(4, 9), align(10),  # 11: loss : number end, aligned
-    repeat(11), seq(11, 12), indent(13),  # 14: one or more such lines under greater
-    seq(7, 14), align(15), repeat(16),  # 17: any number of blocks, each aligned
+    terminal(3), NUMBER, terminal(4), EOL, terminal(5),
+    sequence(2, 3), sequence(1, 5), sequence(0, 6),  # 7: step number : end
+    sequence(1, 3), sequence(2, 8), sequence(4, 9), align(10),  # 11: loss : number end, aligned
+    repeat(11), sequence(11, 12), indent(13),  # 14: one or more such lines under greater
+    sequence(7, 14), align(15), repeat(16),  # 17: any number of blocks, each aligned
 ]
 # 26: the blocks, then no token at all.
 STEP_ALL = [*STEP_NODES, WORD, choice(1, 18), choice(3, 19), choice(0, 20), choice(2, 21), choice(4, 22),
-            position(23, ANY), not_(24), seq(17, 25)]
+            position(23, ANY), not_(24), sequence(17, 25)]
 STEP_TEXT = b"step 1:\n  loss: 0.5\n  loss: 0.25\nstep 2:\n  loss: 0.1\n"
 steps = grammar(STEP_NODES, GREATER, STEPS)
 steps_all = grammar(STEP_ALL, GREATER, STEPS)
@@ -541,13 +548,13 @@ case("012 is not the keyword 12", grammar("number", ANY, (b"12",)), b"012", succ
 # "The bytes `: , ( ) [ ] = ; %` are tokens by themselves"; without a keyword each is terminal 1.
 case("nine single bytes", grammar("word*", ANY, ()), NINE, success(9, 0, "inf"))
 case("nine single bytes as keywords",
-     grammar([*(term(3 + i) for i in range(9)), seq(7, 8), *(seq(6 - i, 9 + i) for i in range(7))], ANY,
+     grammar([*(terminal(3 + i) for i in range(9)), sequence(7, 8), *(sequence(6 - i, 9 + i) for i in range(7))], ANY,
              [bytes([b]) for b in NINE]), NINE, success(9, 0, "inf"))
 case("single bytes inside words", grammar("word*", ANY, ()), b"a:b,c(d)e[f]g=h;i%j", success(19, 0, "inf"))
 # "other tokens are longest runs of the remaining bytes": 94 from 33 to 126 less nine, and 128 from 128 on.
 RUN = bytes(b for b in range(33, 256) if b != 127 and b not in NINE)
 # The line's end "at the column and offset of the break or the end", in mode equal.
-END_COLUMN = [WORD, EOL, position(0, ANY), seq(2, 1)]
+END_COLUMN = [WORD, EOL, position(0, ANY), sequence(2, 1)]
 case("one run of all other bytes", grammar(END_COLUMN, EQUAL, ()), RUN, success(2, 213, 213))
 case("keyword at the front of a run", grammar("a", ANY, LOSS), b"lossy", FAILURE)
 case("keyword at the end of a run", grammar("a", ANY, LOSS), b"-loss", FAILURE)
@@ -571,13 +578,14 @@ for name, text, column in (
     ("a tab and a break", b"\t\n", 0), ("breaks and a tab", b"\n\n\t", 8),
 ):
     case(f"column behind {name}", grammar("word", EQUAL, ()), text + b"w", success(1, column, column))
-    case(f"column behind {name} mode at least", grammar("word", AT_LEAST, ()), text + b"w", success(1, 0, column))
-case("column behind a token and a tab", grammar("a_any word", EQUAL, leaves="a word"), b" :\tw", success(2, 8, 8))
+    case(f"column behind {name} mode at-least", grammar("word", AT_LEAST, ()), text + b"w", success(1, 0, column))
+case("column behind a token and a tab", grammar("(position any a) word", EQUAL, leaves="a word"), b" :\tw", success(2, 8, 8))
 # One line end for each line with a token, none for the others: x end y end.
 case("line ends", grammar("(word eol)*", ANY), b"\nx\n\n \t\n  y  \n\n", success(4, 0, "inf"))
 case("no line end between two words", grammar("word*", ANY), b"x y z\n", success(3, 0, "inf"))
-case("column on a second line", grammar("(word eol)_any word", EQUAL), b"abc\n  d", success(3, 2, 2))
-case("column below lines without a token", grammar("(word eol)_any word", EQUAL), b"abc\n\n \t\n    d", success(3, 4, 4))
+case("column on a second line", grammar("(position any (word eol)) word", EQUAL), b"abc\n  d", success(3, 2, 2))
+case("column below lines without a token", grammar("(position any (word eol)) word", EQUAL),
+     b"abc\n\n \t\n    d", success(3, 4, 4))
 
 
 # --- Numbers of several digits in the line ------------------------------------------------------------------
@@ -600,17 +608,18 @@ for column in (9, 10, 11, 99, 100, 101, 1000, 1001, 9999, 10000, 10001):
 # which is not "over 65,535".
 HIGH = b"\t" * 8191 + b" " * 6 + b"w"
 for name, mode, ends in (("equal", EQUAL, (65534, 65534)), ("greater", GREATER, (0, 65533)),
-                         ("at least", AT_LEAST, (0, 65534)), ("any", ANY, (0, "inf"))):
+                         ("at-least", AT_LEAST, (0, 65534)), ("any", ANY, (0, "inf"))):
     case(f"column 65,534 mode {name}", grammar("word", mode), HIGH, success(1, *ends))
 # The line's end at 65,535, behind a word in mode any. The largest ends that a line can show: lower 65,535
 # (equal), upper 65,534 (greater, h-1) and 65,535 (at least, equal). A lower end over 65,535 is never shown:
 # outside of all indents only equal and align raise it, to a column.
 for name, mode, ends in (("equal", EQUAL, (65535, 65535)), ("greater", GREATER, (0, 65534)),
-                         ("at least", AT_LEAST, (0, 65535)), ("any", ANY, (0, "inf"))):
+                         ("at-least", AT_LEAST, (0, 65535)), ("any", ANY, (0, "inf"))):
     case(f"column 65,535 mode {name}", grammar(END_COLUMN, mode), HIGH, success(2, *ends))
-case("column 65,535 under align", grammar("word_any [eol]", ANY, leaves="word eol"), HIGH, success(2, 65535, 65535))
+case("column 65,535 under align", grammar("(position any word) (align eol)", ANY, leaves="word eol"), HIGH,
+     success(2, 65535, 65535))
 case("column 65,535 under indent greater",
-     grammar("(word_any eol)^>", EQUAL, leaves="word eol"), HIGH, success(2, 0, 65534))
+     grammar("indent greater ((position any word) eol)", EQUAL, leaves="word eol"), HIGH, success(2, 0, 65534))
 # 65,528 and seven bytes more.
 case("a run up to column 65,535", grammar(END_COLUMN, EQUAL), b"\t" * 8191 + b"w" * 7, success(2, 65535, 65535))
 # `w` at 0 and the line's end at 65,535: 8,191 tabs and 7 blanks.
@@ -622,32 +631,38 @@ FAR2 = FAR + b"\n" + FAR
 
 def second(expression):
     """The first line, its word in mode any and its end in mode equal, then the expression."""
-    return grammar(f"(word_any eol) {expression}", EQUAL, leaves="word eol")
+    return grammar(f"((position any word) eol) {expression}", EQUAL, leaves="word eol")
 
 
 # Under greater 65,536 on: the word matches in mode any, the end at 65,535 not in mode equal.
-case("second line under greater", second("(word_any eol)^>"), FAR2, FAILURE)
+case("second line under greater", second("indent greater ((position any word) eol)"), FAR2, FAILURE)
 # Under at least and equal 65,535 on or only; under any 0 on. The end makes 65,535 to 65,535.
-for name, sign in (("equal", "="), ("at least", ">="), ("any", "any")):
-    case(f"second line under {name}", second(f"(word_any eol)^{sign}"), FAR2, success(4, 65535, 65535))
+for relation in ("equal", "at-least", "any"):
+    case(f"second line under {relation}", second(f"indent {relation} ((position any word) eol)"), FAR2,
+         success(4, 65535, 65535))
 # 65,536 on, all in mode any: both match; out "0 on, without end" met with 65,535 to 65,535.
-case("second line under greater in mode any", second("(word_any eol)_any^>"), FAR2, success(4, 65535, 65535))
-case("second line under greater twice in mode any", second("(word_any eol)_any^>^>"), FAR2, success(4, 65535, 65535))
+case("second line under greater in mode any",
+     second("indent greater (position any ((position any word) eol))"), FAR2, success(4, 65535, 65535))
+case("second line under greater twice in mode any",
+     second("indent greater (indent greater (position any ((position any word) eol)))"), FAR2, success(4, 65535, 65535))
 # 506 indents: from 66,041 on.
 case("second line under 506 indents in mode any",
-     grammar([*over([*END_COLUMN, position(3, ANY)], indent, 511), seq(3, 510)], EQUAL), FAR2, success(4, 65535, 65535))
+     grammar([*over([*END_COLUMN, position(3, ANY)], indent, 511), sequence(3, 510)], EQUAL), FAR2, success(4, 65535, 65535))
 # The end at 65,535 isn't at least 65,536, nor greater.
-for name, sign in (("at least", ">="), ("greater", ">")):
-    case(f"second line under greater in mode {name}", second(f"(word_any eol_{sign})^>"), FAR2, FAILURE)
+for relation in ("at-least", "greater"):
+    case(f"second line under greater in mode {relation}",
+         second(f"indent greater ((position any word) (position {relation} eol))"), FAR2, FAILURE)
 # The aligned word must lie in 65,536 on.
-case("second line aligned under greater", second("[word_any]^>"), FAR2, FAILURE)
+case("second line aligned under greater", second("indent greater (align (position any word))"), FAR2, FAILURE)
 # The word in mode any, then not the end in mode equal.
-case("second line under greater and no end", second("(word_any !eol)^>"), FAR2, success(3, 65535, 65535))
-case("empty under greater behind 65,535", second("empty^>"), FAR2, success(2, 65535, 65535))
+case("second line under greater and no end", second("indent greater ((position any word) !eol)"), FAR2,
+     success(3, 65535, 65535))
+case("empty under greater behind 65,535", second("indent greater empty"), FAR2, success(2, 65535, 65535))
 # The second end in mode greater without an indent: "l+1 on" is 65,536 on.
-case("second line in mode greater", second("(word_any eol)_>"), FAR2, FAILURE)
+case("second line in mode greater", second("position greater ((position any word) eol)"), FAR2, FAILURE)
 # The same in mode at least: 65,535 is in "l on".
-case("second line end in mode at least", second("word_any eol_>="), FAR2, success(4, 65535, 65535))
+case("second line end in mode at-least", second("(position any word) (position at-least eol)"), FAR2,
+     success(4, 65535, 65535))
 
 
 # --- Refused by 1: the file's fields ------------------------------------------------------------------------
@@ -711,12 +726,12 @@ for name, file in (
 
 # "At most 253 keywords": with 253 the last one is terminal 255.
 K253 = [b"k%d" % i for i in range(253)]
-case("253 keywords and the last", grammar([term(255)], EQUAL, K253), b"  k252", success(1, 2, 2))
+case("253 keywords and the last", grammar([terminal(255)], EQUAL, K253), b"  k252", success(1, 2, 2))
 case("253 keywords and the first", grammar("a", EQUAL, K253), b"  k0", success(1, 2, 2))
 case("253 keywords and another word", grammar("word", EQUAL, K253), b"  k253", success(1, 2, 2))
-case("254 keywords", grammar([term(255)], EQUAL, [*K253, b"k253"]), b"  k252", refused(1))
-case("254 keywords, the last twice", grammar([term(255)], EQUAL, [*K253, b"k252"]), b"  k252", refused(1))
-case("254 keywords, the first broken", grammar([term(255)], EQUAL, [b"a b", *K253]), b"  k252", refused(1))
+case("254 keywords", grammar([terminal(255)], EQUAL, [*K253, b"k253"]), b"  k252", refused(1))
+case("254 keywords, the last twice", grammar([terminal(255)], EQUAL, [*K253, b"k252"]), b"  k252", refused(1))
+case("254 keywords, the first broken", grammar([terminal(255)], EQUAL, [b"a b", *K253]), b"  k252", refused(1))
 # "At most 65,535 bytes". No file of that length passes all: the longest that does has 253 keywords
 # and 128 names of 32 bytes and 512 nodes, 18,209 bytes. At 65,535 the higher numbers speak. 7,280
 # nodes take 65,520 bytes: 3.
@@ -806,7 +821,7 @@ case("129 rules and no node", VERSION + grammar_fields.rules((0, b"r%d" % i) for
      refused(3))
 # The longest file that passes: 4 + 253 * 35 + 128 * 37 + 512 * 9 + 6 = 18,209 bytes.
 LONGEST = grammar_fields.file(
-    [term(255)] * 512, 511, GREATER,
+    [terminal(255)] * 512, 511, GREATER,
     [b"the-keyword-of-32-bytes-no-%05d" % i for i in range(253)],
     [(511, b"the-rule-name-of-32-bytes-no-%03d" % i) for i in range(128)],
 )
@@ -848,12 +863,12 @@ for name, words in (
     case(f"bad node, {name}", grammar([EMPTY, words, EMPTY], ANY, (), [0], first=0), EXAMPLE, refused(4))
 # "node 0 a repeat of 0".
 case("node 0 a repeat of 0", grammar([repeat(0)], ANY, ()), EXAMPLE, refused(4))
-case("node 0 a sequence of 0 and 0", grammar([seq(0, 0)], ANY, ()), EXAMPLE, refused(4))
+case("node 0 a sequence of 0 and 0", grammar([sequence(0, 0)], ANY, ()), EXAMPLE, refused(4))
 # There is no rule 0.
 case("node 0 a rule and no rule", grammar([call(0)], ANY, ()), EXAMPLE, refused(4))
-case("only the last of 512 nodes bad", grammar([EMPTY] * 511 + [term(256)], ANY, first=0), EXAMPLE, refused(4))
+case("only the last of 512 nodes bad", grammar([EMPTY] * 511 + [terminal(256)], ANY, first=0), EXAMPLE, refused(4))
 # Terminal 255 may stand in a table with fewer keywords: no token has it.
-case("terminal 255 without keywords", grammar([term(255)], ANY, ()), EXAMPLE, FAILURE)
+case("terminal 255 without keywords", grammar([terminal(255)], ANY, ()), EXAMPLE, FAILURE)
 
 
 # --- Refused by 5: rule nodes and the start -----------------------------------------------------------------
@@ -878,38 +893,38 @@ for label, nodes, rules, bad in (
     # "rule 0 = node 0 = rule 0": well formed "is also least".
     ("rule 0 = node 0 = rule 0", [call(0)], [0], 0),
     # Case j: "repeat of empty is bad"; "rule = (a or empty) then the rule .. bad at node 3".
-    ("repeat of empty", [EMPTY, repeat(0)], [], 1),
-    ("case j", [A, EMPTY, choice(0, 1), call(0), seq(2, 3)], [4], 3),
+    ("empty*", [EMPTY, repeat(0)], [], 1),
+    ("case j", [A, EMPTY, choice(0, 1), call(0), sequence(2, 3)], [4], 3),
     # "a repeat whose child is and may not succeed reading nothing". "Repeat: ... nothing if it may fail."
     # "Not: nothing if the child may fail". Choice: b's nothing as a may fail; a's own.
-    ("repeat of a repeat", [A, repeat(0), repeat(1)], [], 2),
-    ("repeat of not a", [A, not_(0), repeat(1)], [], 2),
-    ("repeat of not not empty", [EMPTY, not_(0), not_(1), repeat(2)], [], 3),
-    ("repeat of a or empty", [A, EMPTY, choice(0, 1), repeat(2)], [], 3),
-    ("repeat of empty or a", [EMPTY, A, choice(0, 1), repeat(2)], [], 3),
-    ("repeat of repeat of not empty", [EMPTY, not_(0), repeat(1), repeat(2)], [], 3),
+    ("(a*)*", [A, repeat(0), repeat(1)], [], 2),
+    ("(!a)*", [A, not_(0), repeat(1)], [], 2),
+    ("(!!empty)*", [EMPTY, not_(0), not_(1), repeat(2)], [], 3),
+    ("(a / empty)*", [A, EMPTY, choice(0, 1), repeat(2)], [], 3),
+    ("(empty / a)*", [EMPTY, A, choice(0, 1), repeat(2)], [], 3),
+    ("((!empty)*)*", [EMPTY, not_(0), repeat(1), repeat(2)], [], 3),
     # "Sequence: nothing if both".
-    ("repeat of two repeats", [A, B, repeat(0), repeat(1), seq(2, 3), repeat(4)], [], 5),
+    ("(a* b*)*", [A, B, repeat(0), repeat(1), sequence(2, 3), repeat(4)], [], 5),
     # "fails if a may fail, or a may succeed and b fail": empty then a may fail, so its not may read nothing.
-    ("repeat of not (empty, a)", [EMPTY, A, seq(0, 1), not_(2), repeat(3)], [], 4),
+    ("(!(empty a))*", [EMPTY, A, sequence(0, 1), not_(2), repeat(3)], [], 4),
     # "Not: ... fails if it may succeed": not a may fail, so not not a may read nothing.
-    ("repeat of not not a", [A, not_(0), not_(1), repeat(2)], [], 3),
+    ("(!!a)*", [A, not_(0), not_(1), repeat(2)], [], 3),
     # "Rule, indent, position, align: those of their child."
-    ("repeat of align of empty", [EMPTY, align(0), repeat(1)], [], 2),
-    ("repeat of indent of empty", [EMPTY, indent(0), repeat(1)], [], 2),
-    ("repeat of position of empty", [EMPTY, position(0), repeat(1)], [], 2),
+    ("(align empty)*", [EMPTY, align(0), repeat(1)], [], 2),
+    ("(indent greater empty)*", [EMPTY, indent(0), repeat(1)], [], 2),
+    ("(position greater empty)*", [EMPTY, position(0), repeat(1)], [], 2),
     ("repeat of a rule for empty", [EMPTY, call(0), repeat(1)], [0], 2),
     # Rule 0 = a rule 0, or empty: passes, may read nothing; its repeat doesn't pass.
-    ("repeat of a rule that may stop", [A, call(0), seq(0, 1), EMPTY, choice(2, 3), repeat(4)], [4], 5),
+    ("repeat of a rule that may stop", [A, call(0), sequence(0, 1), EMPTY, choice(2, 3), repeat(4)], [4], 5),
     # The rule comes again before anything is read.
-    ("left recursion", [A, call(0), seq(1, 0)], [2], 1),
-    ("left recursion with a way out", [A, call(0), seq(1, 0), choice(2, 0)], [3], 1),
+    ("left recursion", [A, call(0), sequence(1, 0)], [2], 1),
+    ("left recursion with a way out", [A, call(0), sequence(1, 0), choice(2, 0)], [3], 1),
     ("left recursion second in a choice", [A, call(0), choice(0, 1)], [2], 1),
     # "a choice of two", also where the first can't fail.
     ("left recursion behind empty or", [EMPTY, call(0), choice(0, 1)], [2], 1),
-    ("left recursion behind not", [A, not_(0), call(0), seq(1, 2)], [3], 2),
-    ("left recursion behind a repeat", [A, repeat(0), call(0), seq(1, 2)], [3], 2),
-    ("left recursion behind empty", [EMPTY, call(0), seq(0, 1)], [2], 1),
+    ("left recursion behind not", [A, not_(0), call(0), sequence(1, 2)], [3], 2),
+    ("left recursion behind a repeat", [A, repeat(0), call(0), sequence(1, 2)], [3], 2),
+    ("left recursion behind empty", [EMPTY, call(0), sequence(0, 1)], [2], 1),
     ("left recursion in an indent", [call(0), indent(0)], [1], 0),
     ("left recursion in a position", [call(0), position(0)], [1], 0),
     ("left recursion in an align", [call(0), align(0)], [1], 0),
@@ -925,25 +940,26 @@ for label, nodes, rules, bad in (
     ("two bad nodes", [EMPTY, repeat(0), call(0)], [2], 1),
     # "a sequence whose a is, and b too ..": node 0 is rule 1, node 3, a then the bad node 2. It passes, node 2
     # doesn't. With empty for a it doesn't, and a choice or repeat never does.
-    ("bad node behind a", [call(1), A, call(0), seq(1, 2)], [2, 3], 2),
-    ("bad node behind empty", [call(1), EMPTY, call(0), seq(1, 2)], [2, 3], 0),
-    ("bad node behind not empty", [call(1), EMPTY, not_(1), call(0), seq(2, 3)], [3, 4], 3),
+    ("bad node behind a", [call(1), A, call(0), sequence(1, 2)], [2, 3], 2),
+    ("bad node behind empty", [call(1), EMPTY, call(0), sequence(1, 2)], [2, 3], 0),
+    ("bad node behind !empty", [call(1), EMPTY, not_(1), call(0), sequence(2, 3)], [3, 4], 3),
     ("bad node second in a choice", [call(1), A, call(0), choice(1, 2)], [2, 3], 0),
     ("bad node in a repeat", [call(1), call(0), repeat(1)], [1, 2], 0),
     # "Three facts are the least ones": x, rule 0 = node 1 = rule 0, has none. Nor has a repeat of x ("nothing
     # if it may fail"), x or empty ("if a may fail"), x then a ("a may succeed and b fail"). So a followed by
     # one of them may only fail, its not can't fail, not not can't succeed, and the repeat of that, rule 1,
     # passes with node 0; node 1 doesn't.
-    ("facts of a repeat of x", [call(1), call(0), repeat(1), A, seq(3, 2), not_(4), not_(5), repeat(6)], [1, 7], 1),
-    ("facts of x or empty", [call(1), call(0), EMPTY, choice(1, 2), A, seq(4, 3), not_(5), not_(6), repeat(7)], [1, 8], 1),
-    ("facts of a repeat of (x, a)",
-     [call(1), call(0), A, seq(1, 2), repeat(3), seq(2, 4), not_(5), not_(6), repeat(7)], [1, 8], 1),
+    ("facts of x*", [call(1), call(0), repeat(1), A, sequence(3, 2), not_(4), not_(5), repeat(6)], [1, 7], 1),
+    ("facts of x / empty",
+     [call(1), call(0), EMPTY, choice(1, 2), A, sequence(4, 3), not_(5), not_(6), repeat(7)], [1, 8], 1),
+    ("facts of (x a)*",
+     [call(1), call(0), A, sequence(1, 2), repeat(3), sequence(2, 4), not_(5), not_(6), repeat(7)], [1, 8], 1),
     # Rule 0 = a or rule 0 may read something, never nothing, and not fail. "Repeat: something if the child
     # reads something": a followed by it may succeed, its not may fail, not not may read nothing, and rule 1,
     # its repeat, is bad.
-    ("facts of a repeat of (a or itself)",
-     [call(1), A, call(0), choice(1, 2), repeat(2), seq(1, 4), not_(5), not_(6), repeat(7)], [3, 8], 0),
-    ("bad node first in a sequence", [call(1), A, call(0), seq(2, 1)], [2, 3], 0),
+    ("facts of (a / itself)*",
+     [call(1), A, call(0), choice(1, 2), repeat(2), sequence(1, 4), not_(5), not_(6), repeat(7)], [3, 8], 0),
+    ("bad node first in a sequence", [call(1), A, call(0), sequence(2, 1)], [2, 3], 0),
 ):
     case(f"not well formed, {label}", grammar(nodes, EQUAL, KEYS, rules, first=0), b":", refused(7, bad))
 for number in (9, 10, 99, 100, 256, 511):
@@ -1028,10 +1044,10 @@ case("2,047 lines and two words", BOTH, b"a\n" * 2047 + b"a a", refused(10))
 case("2,049 lines", BOTH, b"a\n" * 2049, refused(10))
 # Blanks and breaks behind the 4,096th token are no tokens.
 case("2,048 lines and blanks", BOTH, b"a\n" * 2048 + b" \n\t\n ", success(4096, 0, "inf"))
-case("2,048 lines mode at least", grammar("(word / eol)*", AT_LEAST), b"a\n" * 2048, success(4096, 0, 0))
+case("2,048 lines mode at-least", grammar("(word / eol)*", AT_LEAST), b"a\n" * 2048, success(4096, 0, 0))
 # Each word at 3, the ends in mode any.
-case("2,048 lines at column 3", grammar("(word eol_any)*", EQUAL), b"   a\n" * 2048, success(4096, 3, 3))
-case("2,048 aligned lines at column 3", grammar("[word eol]*", GREATER), b"   a\n" * 2048, success(4096, 3, 3))
+case("2,048 lines at column 3", grammar("(word position any eol)*", EQUAL), b"   a\n" * 2048, success(4096, 3, 3))
+case("2,048 aligned lines at column 3", grammar("(align (word eol))*", GREATER), b"   a\n" * 2048, success(4096, 3, 3))
 case("4,095 words", BOTH, b"w " * 4095, success(4096, 0, "inf"))
 case("4,096 words", BOTH, b"w " * 4096, refused(10))
 case("4,096 numbers", NOTHING, b"7 " * 4096, refused(10))

@@ -6,7 +6,7 @@ The answer stands beside the inputs and was worked out by hand from the words of
 import pathlib
 
 from grammar_fields import VERSION, keyword, node, start
-from table_nodes import choice, position, repeat, seq
+from table_nodes import choice, position, repeat, sequence
 
 ROOT = pathlib.Path(__file__).resolve().parent.parent
 EQUAL, ANY = 0, 3
@@ -20,8 +20,8 @@ NODES = (
     position(3, ANY),  # 4: `a` and line ends, wherever they stand
     (1, 1, 0, 0),
     position(5, ANY),  # 6: a word, wherever it stands
-    seq(6, 1),
-    seq(4, 7),
+    sequence(6, 1),
+    sequence(4, 7),
 )
 FILE = VERSION + keyword(b"a") + b"".join(node(*words) for words in NODES) + start(8, EQUAL)
 

@@ -15,7 +15,7 @@ def rule(number):
     return (2, number, 0, 0)
 
 
-def seq(a, b):
+def sequence(a, b):
     return (3, a, b, 0)
 
 

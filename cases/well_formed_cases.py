@@ -4,12 +4,14 @@
 Nothing here decides whether a table is well formed. Each table has its verdict written beside it; a
 family of tables has one verdict for all, or the rule that gives each, in its loop or function. A
 comment quotes the words of document 01 that decide it. N, S and F stand for the three facts: may succeed reading
-nothing, may succeed reading something, may fail. X, Y and Z are rules, a and b terminals.
+nothing, may succeed reading something, may fail. Capitals are rules, a and b terminals; labels are written as
+README.md says.
 """
 
 import faults
+from expressions import RELATIONS
 from records import Cases, Payloads, wide
-from table_nodes import EMPTY, align, choice, flat, indent, not_, over, position, repeat, rule, seq, terminal
+from table_nodes import EMPTY, align, choice, flat, indent, not_, over, position, repeat, rule, sequence, terminal
 
 CASES = Cases("well_formed_cases")
 BEFORE = Payloads()
@@ -53,7 +55,7 @@ def verdict(label, is_bad, node, nodes, rules=()):
 # --- Nodes ---------------------------------------------------------------------------------------
 
 A, B = terminal(1), terminal(2)
-FORMS = (("align", align), ("indent", indent), ("position", position))
+FORMS = (("align", align), ("indent greater", indent), ("position greater", position))
 
 
 def moved(nodes, by):
@@ -74,7 +76,7 @@ def moved(nodes, by):
 # "j. Check: repeat of empty .. repeat of not-empty .. bad at node 3."
 bad("case j, repeat of empty", 1, [EMPTY, repeat(0)])
 passes("case j, repeat of not-empty", [EMPTY, not_(0), repeat(1)])
-bad("case j, X = (a / empty) X", 3, [A, EMPTY, choice(0, 1), rule(0), seq(2, 3)], [4])
+bad("case j, X = (a / empty) X", 3, [A, EMPTY, choice(0, 1), rule(0), sequence(2, 3)], [4])
 
 # The column "small input", rows 3, 4, 5 and 7.
 refused("small 3, no node", 3, [])
@@ -166,7 +168,7 @@ refused("kind 10 as node 511", 4, [EMPTY] * 511 + [(10, 0, 0, 0)])
 refused("kind 10 as node 0 of 512", 4, [(10, 0, 0, 0)] + [EMPTY] * 511)
 passes("align of 510 as node 511", [EMPTY] * 511 + [align(510)])
 refused("align of 511 as node 511", 4, [EMPTY] * 511 + [align(511)])
-refused("sequence of 0 and 511 as node 511", 4, [EMPTY] * 511 + [seq(0, 511)])
+refused("sequence of 0 and 511 as node 511", 4, [EMPTY] * 511 + [sequence(0, 511)])
 refused("indent of relation 4 as node 511", 4, [EMPTY] * 511 + [indent(0, 4)])
 
 
@@ -254,178 +256,180 @@ passes("a*", [A, repeat(0)])
 # "Repeat: .. nothing if it may fail": a may, so a* may succeed reading nothing.
 bad("(a*)*", 2, [A, repeat(0), repeat(1)])
 # "Not: nothing if the child may fail".
-bad("(not a)*", 2, [A, not_(0), repeat(1)])
-bad("(not not a)*", 3, [A, not_(0), not_(1), repeat(2)])
-# Not empty only fails; so "nothing if the child may fail" makes not not empty succeed again.
-bad("(not not empty)*", 3, [EMPTY, not_(0), not_(1), repeat(2)])
-passes("(not not not empty)*", [EMPTY, not_(0), not_(1), not_(2), repeat(3)])
-# (not empty)* may read nothing, as its child may fail.
-bad("((not empty)*)*", 3, [EMPTY, not_(0), repeat(1), repeat(2)])
+bad("(!a)*", 2, [A, not_(0), repeat(1)])
+bad("(!!a)*", 3, [A, not_(0), not_(1), repeat(2)])
+# !empty only fails; so "nothing if the child may fail" makes !!empty succeed again.
+bad("(!!empty)*", 3, [EMPTY, not_(0), not_(1), repeat(2)])
+passes("(!!!empty)*", [EMPTY, not_(0), not_(1), not_(2), repeat(3)])
+# (!empty)* may read nothing, as its child may fail.
+bad("((!empty)*)*", 3, [EMPTY, not_(0), repeat(1), repeat(2)])
 # a* "may fail" by no rule, so not of it has no success.
-passes("(not a*)*", [A, repeat(0), not_(1), repeat(2)])
-bad("(not not a*)*", 4, [A, repeat(0), not_(1), not_(2), repeat(3)])
+passes("(!a*)*", [A, repeat(0), not_(1), repeat(2)])
+bad("(!!a*)*", 4, [A, repeat(0), not_(1), not_(2), repeat(3)])
 # "Rule, indent, position, align: those of their child."
-for relation in (0, 1, 2, 3):
-    bad(f"(indent {relation} empty)*", 2, [EMPTY, indent(0, relation), repeat(1)])
-    passes(f"(indent {relation} a)*", [A, indent(0, relation), repeat(1)])
-    bad(f"(position {relation} empty)*", 2, [EMPTY, position(0, relation), repeat(1)])
-    passes(f"(position {relation} a)*", [A, position(0, relation), repeat(1)])
+for name, relation in RELATIONS.items():
+    bad(f"(indent {name} empty)*", 2, [EMPTY, indent(0, relation), repeat(1)])
+    passes(f"(indent {name} a)*", [A, indent(0, relation), repeat(1)])
+    bad(f"(position {name} empty)*", 2, [EMPTY, position(0, relation), repeat(1)])
+    passes(f"(position {name} a)*", [A, position(0, relation), repeat(1)])
 bad("(align empty)*", 2, [EMPTY, align(0), repeat(1)])
 passes("(align a)*", [A, align(0), repeat(1)])
-bad("X = empty, X*", 2, [EMPTY, rule(0), repeat(1)], [0])
-passes("X = a, X*", [A, rule(0), repeat(1)], [0])
+bad("X* where X = empty", 2, [EMPTY, rule(0), repeat(1)], [0])
+passes("X* where X = a", [A, rule(0), repeat(1)], [0])
 # "Sequence: nothing if both".
-bad("(empty empty)*", 2, [EMPTY, seq(0, 0), repeat(1)])
-passes("(empty a)*", [EMPTY, A, seq(0, 1), repeat(2)])
-passes("(a empty)*", [EMPTY, A, seq(1, 0), repeat(2)])
-passes("(a a)*", [A, seq(0, 0), repeat(1)])
-bad("(a* a*)*", 3, [A, repeat(0), seq(1, 1), repeat(2)])
-passes("(a* a)*", [A, repeat(0), seq(1, 0), repeat(2)])
-passes("(a a*)*", [A, repeat(0), seq(0, 1), repeat(2)])
+bad("(empty empty)*", 2, [EMPTY, sequence(0, 0), repeat(1)])
+passes("(empty a)*", [EMPTY, A, sequence(0, 1), repeat(2)])
+passes("(a empty)*", [EMPTY, A, sequence(1, 0), repeat(2)])
+passes("(a a)*", [A, sequence(0, 0), repeat(1)])
+bad("(a* a*)*", 3, [A, repeat(0), sequence(1, 1), repeat(2)])
+passes("(a* a)*", [A, repeat(0), sequence(1, 0), repeat(2)])
+passes("(a a*)*", [A, repeat(0), sequence(0, 1), repeat(2)])
 # "Choice: a's successes, and if a may fail all of b's facts."
 bad("(a / empty)*", 3, [A, EMPTY, choice(0, 1), repeat(2)])
 bad("(empty / a)*", 3, [A, EMPTY, choice(1, 0), repeat(2)])
 passes("(a / b)*", [A, B, choice(0, 1), repeat(2)])
-passes("(not empty / a)*", [EMPTY, A, not_(0), choice(2, 1), repeat(3)])
-bad("(not empty / empty)*", 3, [EMPTY, not_(0), choice(1, 0), repeat(2)])
+passes("(!empty / a)*", [EMPTY, A, not_(0), choice(2, 1), repeat(3)])
+bad("(!empty / empty)*", 3, [EMPTY, not_(0), choice(1, 0), repeat(2)])
 # empty / b and a* / b may not fail, as a may not, so b's "may fail" does not count.
-passes("(not (empty / b))*", [EMPTY, B, choice(0, 1), not_(2), repeat(3)])
-bad("(not (b / empty b))*", 5, [EMPTY, B, seq(0, 1), choice(1, 2), not_(3), repeat(4)])
-passes("(not (a* / b))*", [A, B, repeat(0), choice(2, 1), not_(3), repeat(4)])
-passes("(not (a* / empty))*", [A, EMPTY, repeat(0), choice(2, 1), not_(3), repeat(4)])
+passes("(!(empty / b))*", [EMPTY, B, choice(0, 1), not_(2), repeat(3)])
+bad("(!(b / empty b))*", 5, [EMPTY, B, sequence(0, 1), choice(1, 2), not_(3), repeat(4)])
+passes("(!(a* / b))*", [A, B, repeat(0), choice(2, 1), not_(3), repeat(4)])
+passes("(!(a* / empty))*", [A, EMPTY, repeat(0), choice(2, 1), not_(3), repeat(4)])
 bad("(a* / empty)*", 4, [A, EMPTY, repeat(0), choice(2, 1), repeat(3)])
 bad("(a* / b)*", 4, [A, B, repeat(0), choice(2, 1), repeat(3)])
 # a / empty may not fail: "if a may fail all of b's facts", and empty has the first only.
-passes("(not (a / empty))*", [A, EMPTY, choice(0, 1), not_(2), repeat(3)])
+passes("(!(a / empty))*", [A, EMPTY, choice(0, 1), not_(2), repeat(3)])
 # A repeat's own wellness asks for its child's: "a repeat whose child is".
-bad("((empty)*)*", 1, [EMPTY, repeat(0), repeat(1)])
+bad("(empty*)*", 1, [EMPTY, repeat(0), repeat(1)])
 
 
 # --- Left recursion and what hides it ------------------------------------------------------------
 
 # "a sequence whose a is, and b too .."; "Well formed is also least". A rule that comes back to itself
 # with nothing read has no ground to stand on.
-bad("X = X a", 1, [A, rule(0), seq(1, 0)], [2])
-passes("X = a X", [A, rule(0), seq(0, 1)], [2])
-passes("X = a X b", [A, B, rule(0), seq(2, 1), seq(0, 3)], [4])
-bad("X = empty X", 1, [EMPTY, rule(0), seq(0, 1)], [2])
-bad("X = X empty", 1, [EMPTY, rule(0), seq(1, 0)], [2])
-bad("X = X X", 0, [rule(0), seq(0, 0)], [1])
-passes("X = a (X X)", [A, rule(0), seq(1, 1), seq(0, 2)], [3])
-bad("X = (X X) a", 1, [A, rule(0), seq(1, 1), seq(2, 0)], [3])
-bad("X = a* X", 2, [A, repeat(0), rule(0), seq(1, 2)], [3])
-bad("X = (not a) X", 2, [A, not_(0), rule(0), seq(1, 2)], [3])
-# Not empty may not succeed at all, so what stands behind it is not asked.
-passes("X = (not empty) X", [EMPTY, not_(0), rule(0), seq(1, 2)], [3])
-bad("X = (not not a) X", 3, [A, not_(0), not_(1), rule(0), seq(2, 3)], [4])
-bad("X = (not not empty) X", 3, [EMPTY, not_(0), not_(1), rule(0), seq(2, 3)], [4])
-passes("X = (not a*) X", [A, repeat(0), not_(1), rule(0), seq(2, 3)], [4])
-bad("X = (empty / a) X", 3, [EMPTY, A, choice(0, 1), rule(0), seq(2, 3)], [4])
-passes("X = (a / b) X", [A, B, choice(0, 1), rule(0), seq(2, 3)], [4])
-bad("X = (a / b*) X", 4, [A, B, repeat(1), choice(0, 2), rule(0), seq(3, 4)], [5])
-passes("X = (not empty / a) X", [EMPTY, A, not_(0), choice(2, 1), rule(0), seq(3, 4)], [5])
-bad("X = (not empty / empty) X", 3, [EMPTY, not_(0), choice(1, 0), rule(0), seq(2, 3)], [4])
-passes("X = (a* b) X", [A, B, repeat(0), seq(2, 1), rule(0), seq(3, 4)], [5])
-bad("X = (a* b*) X", 5, [A, B, repeat(0), repeat(1), seq(2, 3), rule(0), seq(4, 5)], [6])
+bad("X = X a", 1, [A, rule(0), sequence(1, 0)], [2])
+passes("X = a X", [A, rule(0), sequence(0, 1)], [2])
+passes("X = a X b", [A, B, rule(0), sequence(2, 1), sequence(0, 3)], [4])
+bad("X = empty X", 1, [EMPTY, rule(0), sequence(0, 1)], [2])
+bad("X = X empty", 1, [EMPTY, rule(0), sequence(1, 0)], [2])
+bad("X = X X", 0, [rule(0), sequence(0, 0)], [1])
+passes("X = a (X X)", [A, rule(0), sequence(1, 1), sequence(0, 2)], [3])
+bad("X = (X X) a", 1, [A, rule(0), sequence(1, 1), sequence(2, 0)], [3])
+bad("X = a* X", 2, [A, repeat(0), rule(0), sequence(1, 2)], [3])
+bad("X = !a X", 2, [A, not_(0), rule(0), sequence(1, 2)], [3])
+# !empty may not succeed at all, so what stands behind it is not asked.
+passes("X = !empty X", [EMPTY, not_(0), rule(0), sequence(1, 2)], [3])
+bad("X = !!a X", 3, [A, not_(0), not_(1), rule(0), sequence(2, 3)], [4])
+bad("X = !!empty X", 3, [EMPTY, not_(0), not_(1), rule(0), sequence(2, 3)], [4])
+passes("X = !a* X", [A, repeat(0), not_(1), rule(0), sequence(2, 3)], [4])
+bad("X = (empty / a) X", 3, [EMPTY, A, choice(0, 1), rule(0), sequence(2, 3)], [4])
+passes("X = (a / b) X", [A, B, choice(0, 1), rule(0), sequence(2, 3)], [4])
+bad("X = (a / b*) X", 4, [A, B, repeat(1), choice(0, 2), rule(0), sequence(3, 4)], [5])
+passes("X = (!empty / a) X", [EMPTY, A, not_(0), choice(2, 1), rule(0), sequence(3, 4)], [5])
+bad("X = (!empty / empty) X", 3, [EMPTY, not_(0), choice(1, 0), rule(0), sequence(2, 3)], [4])
+passes("X = (a* b) X", [A, B, repeat(0), sequence(2, 1), rule(0), sequence(3, 4)], [5])
+bad("X = (a* b*) X", 5, [A, B, repeat(0), repeat(1), sequence(2, 3), rule(0), sequence(4, 5)], [6])
 # Bracketed the other way: a* (b X) has b before X.
-passes("X = a* (b X)", [A, B, repeat(0), rule(0), seq(1, 3), seq(2, 4)], [5])
-bad("X = a* (b* X)", 4, [A, B, repeat(0), repeat(1), rule(0), seq(3, 4), seq(2, 5)], [6])
+passes("X = a* (b X)", [A, B, repeat(0), rule(0), sequence(1, 3), sequence(2, 4)], [5])
+bad("X = a* (b* X)", 4, [A, B, repeat(0), repeat(1), rule(0), sequence(3, 4), sequence(2, 5)], [6])
 # "a choice of two": both, whatever a's facts are.
 bad("X = X / a", 1, [A, rule(0), choice(1, 0)], [2])
 bad("X = a / X", 1, [A, rule(0), choice(0, 1)], [2])
 bad("X = empty / X", 1, [EMPTY, rule(0), choice(0, 1)], [2])
 bad("X = X / X", 0, [rule(0), choice(0, 0)], [1])
-passes("X = a X / empty", [A, rule(0), seq(0, 1), EMPTY, choice(2, 3)], [4])
-passes("X = empty / a X", [EMPTY, A, rule(0), seq(1, 2), choice(0, 3)], [4])
-bad("X = a X / X b", 2, [A, B, rule(0), seq(0, 2), seq(2, 1), choice(3, 4)], [5])
-bad("X = X a / b", 2, [A, B, rule(0), seq(2, 0), choice(3, 1)], [4])
+passes("X = a X / empty", [A, rule(0), sequence(0, 1), EMPTY, choice(2, 3)], [4])
+passes("X = empty / a X", [EMPTY, A, rule(0), sequence(1, 2), choice(0, 3)], [4])
+bad("X = a X / X b", 2, [A, B, rule(0), sequence(0, 2), sequence(2, 1), choice(3, 4)], [5])
+bad("X = X a / b", 2, [A, B, rule(0), sequence(2, 0), choice(3, 1)], [4])
 # "else the child": not, indent, position, align and rule; a repeat asks for its child too.
-bad("X = not X", 0, [rule(0), not_(0)], [1])
+bad("X = !X", 0, [rule(0), not_(0)], [1])
 bad("X = X*", 0, [rule(0), repeat(0)], [1])
 bad("X = align X", 0, [rule(0), align(0)], [1])
-for relation in (0, 1, 2, 3):
-    bad(f"X = indent {relation} X", 0, [rule(0), indent(0, relation)], [1])
-    bad(f"X = position {relation} X", 0, [rule(0), position(0, relation)], [1])
-bad("X = (not X) a", 1, [A, rule(0), not_(1), seq(2, 0)], [3])
-bad("X = X* a", 1, [A, rule(0), repeat(1), seq(2, 0)], [3])
+for name, relation in RELATIONS.items():
+    bad(f"X = indent {name} X", 0, [rule(0), indent(0, relation)], [1])
+    bad(f"X = position {name} X", 0, [rule(0), position(0, relation)], [1])
+bad("X = !X a", 1, [A, rule(0), not_(1), sequence(2, 0)], [3])
+bad("X = X* a", 1, [A, rule(0), repeat(1), sequence(2, 0)], [3])
 for said, form in FORMS:
-    bad(f"X = ({said} X) a", 1, [A, rule(0), form(1), seq(2, 0)], [3])
-passes("X = a (not X)", [A, rule(0), not_(1), seq(0, 2)], [3])
+    bad(f"X = ({said} X) a", 1, [A, rule(0), form(1), sequence(2, 0)], [3])
+passes("X = a !X", [A, rule(0), not_(1), sequence(0, 2)], [3])
 # a X* : X may fail and reads something where it succeeds, so the repeat stands.
-passes("X = a X*", [A, rule(0), repeat(1), seq(0, 2)], [3])
+passes("X = a X*", [A, rule(0), repeat(1), sequence(0, 2)], [3])
 for said, form in FORMS:
-    passes(f"X = a ({said} X)", [A, rule(0), form(1), seq(0, 2)], [3])
+    passes(f"X = a ({said} X)", [A, rule(0), form(1), sequence(0, 2)], [3])
 for said, form in FORMS:
-    bad(f"X = ({said} empty) X", 2, [EMPTY, form(0), rule(0), seq(1, 2)], [3])
+    bad(f"X = ({said} empty) X", 2, [EMPTY, form(0), rule(0), sequence(1, 2)], [3])
 for said, form in FORMS:
-    passes(f"X = ({said} a) X", [A, form(0), rule(0), seq(1, 2)], [3])
-bad("X = align indent position X", 0, [rule(0), position(0), indent(1), align(2)], [3])
-bad("X = a / align indent position (empty X)", 2,
-    [A, EMPTY, rule(0), seq(1, 2), position(3), indent(4), align(5), choice(0, 6)], [7])
+    passes(f"X = ({said} a) X", [A, form(0), rule(0), sequence(1, 2)], [3])
+bad("X = align (indent greater (position greater X))", 0, [rule(0), position(0), indent(1), align(2)], [3])
+bad("X = a / align (indent greater (position greater (empty X)))", 2,
+    [A, EMPTY, rule(0), sequence(1, 2), position(3), indent(4), align(5), choice(0, 6)], [7])
 # (a X / empty)* as X: the choice may read nothing, so the repeat, node 5, is bad; rule X, node 1,
 # stands for it and is lower. The sequence, node 2, passes.
-bad("X = (a X / empty)*", 1, [A, rule(0), seq(0, 1), EMPTY, choice(2, 3), repeat(4)], [5])
+bad("X = (a X / empty)*", 1, [A, rule(0), sequence(0, 1), EMPTY, choice(2, 3), repeat(4)], [5])
 # (a X)* : a X reads something or fails.
-passes("X = (a X)*", [A, rule(0), seq(0, 1), repeat(2)], [3])
-passes("X = (a X / b)*", [A, rule(0), seq(0, 1), B, choice(2, 3), repeat(4)], [5])
+passes("X = (a X)*", [A, rule(0), sequence(0, 1), repeat(2)], [3])
+passes("X = (a X / b)*", [A, rule(0), sequence(0, 1), B, choice(2, 3), repeat(4)], [5])
 
 
 # --- Rules among themselves ----------------------------------------------------------------------
 
-bad("X = Y, Y = X", 0, [rule(1), rule(0)], [0, 1])
-bad("X = Y, Y = Y", 0, [rule(1), rule(1)], [0, 1])
-passes("X = Y, Y = a", [rule(1), A], [0, 1])
-passes("X = a, Y = X", [A, rule(0)], [0, 1])
-passes("X = a Y, Y = X", [A, rule(1), seq(0, 1), rule(0)], [2, 3])
-passes("X = a Y, Y = b X", [A, B, rule(1), rule(0), seq(0, 2), seq(1, 3)], [4, 5])
-bad("X = Y a, Y = X b", 2, [A, B, rule(1), rule(0), seq(2, 0), seq(3, 1)], [4, 5])
+bad("X = Y; Y = X", 0, [rule(1), rule(0)], [0, 1])
+bad("X = Y; Y = Y", 0, [rule(1), rule(1)], [0, 1])
+passes("X = Y; Y = a", [rule(1), A], [0, 1])
+passes("X = a; Y = X", [A, rule(0)], [0, 1])
+passes("X = a Y; Y = X", [A, rule(1), sequence(0, 1), rule(0)], [2, 3])
+passes("X = a Y; Y = b X", [A, B, rule(1), rule(0), sequence(0, 2), sequence(1, 3)], [4, 5])
+bad("X = Y a; Y = X b", 2, [A, B, rule(1), rule(0), sequence(2, 0), sequence(3, 1)], [4, 5])
 # Y = b X rests on b alone, and X on Y.
-passes("X = Y a, Y = b X", [A, B, rule(1), rule(0), seq(2, 0), seq(1, 3)], [4, 5])
-passes("X = Y / a, Y = b X", [A, B, rule(1), rule(0), choice(2, 0), seq(1, 3)], [4, 5])
-bad("X = Y / a, Y = b* X", 3, [A, B, repeat(1), rule(1), rule(0), choice(3, 0), seq(2, 4)], [5, 6])
+passes("X = Y a; Y = b X", [A, B, rule(1), rule(0), sequence(2, 0), sequence(1, 3)], [4, 5])
+passes("X = Y / a; Y = b X", [A, B, rule(1), rule(0), choice(2, 0), sequence(1, 3)], [4, 5])
+bad("X = Y / a; Y = b* X", 3, [A, B, repeat(1), rule(1), rule(0), choice(3, 0), sequence(2, 4)], [5, 6])
 # Facts through the other rule: Y = empty lets X's second part come first.
-bad("X = Y X, Y = empty", 1, [rule(1), rule(0), seq(0, 1), EMPTY], [2, 3])
-passes("X = Y X, Y = a", [rule(1), rule(0), seq(0, 1), A], [2, 3])
-bad("X = Y X, Y = a / empty", 1, [rule(1), rule(0), seq(0, 1), A, EMPTY, choice(3, 4)], [2, 5])
-bad("X = Y X, Y = a Y / empty", 1, [rule(1), rule(0), seq(0, 1), A, seq(3, 0), EMPTY, choice(4, 5)], [2, 6])
-passes("X = Y X, Y = a Y / b", [rule(1), rule(0), seq(0, 1), A, seq(3, 0), B, choice(4, 5)], [2, 6])
+bad("X = Y X; Y = empty", 1, [rule(1), rule(0), sequence(0, 1), EMPTY], [2, 3])
+passes("X = Y X; Y = a", [rule(1), rule(0), sequence(0, 1), A], [2, 3])
+bad("X = Y X; Y = a / empty", 1, [rule(1), rule(0), sequence(0, 1), A, EMPTY, choice(3, 4)], [2, 5])
+bad("X = Y X; Y = a Y / empty", 1, [rule(1), rule(0), sequence(0, 1), A, sequence(3, 0), EMPTY, choice(4, 5)], [2, 6])
+passes("X = Y X; Y = a Y / b", [rule(1), rule(0), sequence(0, 1), A, sequence(3, 0), B, choice(4, 5)], [2, 6])
 # Y = a Y may only fail: it succeeds by no finite reading, and the facts "are the least ones".
-passes("X = Y X, Y = a Y", [rule(1), rule(0), seq(0, 1), A, seq(3, 0)], [2, 4])
-bad("X = (not Y) X, Y = a Y", 2, [rule(1), not_(0), rule(0), seq(1, 2), A, seq(4, 0)], [3, 5])
-passes("X = (not not Y) X, Y = a Y", [rule(1), not_(0), not_(1), rule(0), seq(2, 3), A, seq(5, 0)], [4, 6])
+passes("X = Y X; Y = a Y", [rule(1), rule(0), sequence(0, 1), A, sequence(3, 0)], [2, 4])
+bad("X = !Y X; Y = a Y", 2, [rule(1), not_(0), rule(0), sequence(1, 2), A, sequence(4, 0)], [3, 5])
+passes("X = !!Y X; Y = a Y", [rule(1), not_(0), not_(1), rule(0), sequence(2, 3), A, sequence(5, 0)], [4, 6])
 # Three rules: X = Y, Y = Z, Z = X, with one step that reads, in each place.
-bad("X = Y, Y = Z, Z = X", 0, [rule(1), rule(2), rule(0)], [0, 1, 2])
-passes("X = Y, Y = Z, Z = a X", [rule(1), rule(2), A, rule(0), seq(2, 3)], [0, 1, 4])
-passes("X = Y, Y = a Z, Z = X", [rule(1), A, rule(2), seq(1, 2), rule(0)], [0, 3, 4])
-passes("X = a Y, Y = Z, Z = X", [A, rule(1), seq(0, 1), rule(2), rule(0)], [2, 3, 4])
-bad("X = Y, Y = Z, Z = empty X", 0, [rule(1), rule(2), EMPTY, rule(0), seq(2, 3)], [0, 1, 4])
-bad("X = Y, Y = a* Z, Z = X", 0, [rule(1), A, repeat(1), rule(2), seq(2, 3), rule(0)], [0, 4, 5])
+bad("X = Y; Y = Z; Z = X", 0, [rule(1), rule(2), rule(0)], [0, 1, 2])
+passes("X = Y; Y = Z; Z = a X", [rule(1), rule(2), A, rule(0), sequence(2, 3)], [0, 1, 4])
+passes("X = Y; Y = a Z; Z = X", [rule(1), A, rule(2), sequence(1, 2), rule(0)], [0, 3, 4])
+passes("X = a Y; Y = Z; Z = X", [A, rule(1), sequence(0, 1), rule(2), rule(0)], [2, 3, 4])
+bad("X = Y; Y = Z; Z = empty X", 0, [rule(1), rule(2), EMPTY, rule(0), sequence(2, 3)], [0, 1, 4])
+bad("X = Y; Y = a* Z; Z = X", 0, [rule(1), A, repeat(1), rule(2), sequence(2, 3), rule(0)], [0, 4, 5])
 # X = a Y passes, but Y = Z a with Z = Y does not; node 1 is rule Y.
-bad("X = a Y, Y = Z a, Z = Y", 1, [A, rule(1), seq(0, 1), rule(2), seq(3, 0)], [2, 4, 1])
+bad("X = a Y; Y = Z a; Z = Y", 1, [A, rule(1), sequence(0, 1), rule(2), sequence(3, 0)], [2, 4, 1])
 # Two ways back to Z, each behind a step that reads.
-passes("Z = X / Y, X = a Z, Y = b Z", [rule(1), rule(2), choice(0, 1), A, B, rule(0), seq(3, 5), seq(4, 5)], [2, 6, 7])
+passes("Z = X / Y; X = a Z; Y = b Z",
+       [rule(1), rule(2), choice(0, 1), A, B, rule(0), sequence(3, 5), sequence(4, 5)], [2, 6, 7])
 # Rule X, node 0, passes by its a; rule Y, node 1, needs Z, and Z needs Y.
-bad("Z = X / Y, X = a Z, Y = Z b", 1, [rule(1), rule(2), choice(0, 1), A, B, rule(0), seq(3, 5), seq(5, 4)], [2, 6, 7])
-# X = not Y, Y = a X: Y may fail, so X may read nothing; then Y succeeds, and X may fail.
-passes("X = not Y, Y = a X", [rule(1), not_(0), A, rule(0), seq(2, 3)], [1, 4])
-bad("(X)*, X = not Y, Y = a X", 5, [rule(1), not_(0), A, rule(0), seq(2, 3), repeat(1)], [1, 4])
-bad("(not X)*, X = not Y, Y = a X", 6, [rule(1), not_(0), A, rule(0), seq(2, 3), not_(1), repeat(5)], [1, 4])
-# A grammar of sums: sum = product + sum / product, product = unit * product / unit, unit = a / ( sum ).
+bad("Z = X / Y; X = a Z; Y = Z b", 1,
+    [rule(1), rule(2), choice(0, 1), A, B, rule(0), sequence(3, 5), sequence(5, 4)], [2, 6, 7])
+# X = !Y; Y = a X: Y may fail, so X may read nothing; then Y succeeds, and X may fail.
+passes("X = !Y; Y = a X", [rule(1), not_(0), A, rule(0), sequence(2, 3)], [1, 4])
+bad("(!Y)* where X = !Y; Y = a X", 5, [rule(1), not_(0), A, rule(0), sequence(2, 3), repeat(1)], [1, 4])
+bad("(!!Y)* where X = !Y; Y = a X", 6, [rule(1), not_(0), A, rule(0), sequence(2, 3), not_(1), repeat(5)], [1, 4])
+# A grammar of sums: sum = product "+" sum / product, product = unit "*" product / unit, unit = a / "(" sum ")".
 SUMS = [
-    (1, 4, 0, 0), (1, 5, 0, 0), (1, 6, 0, 0), (1, 7, 0, 0), A, rule(0), rule(1), rule(2), seq(0, 5), seq(6, 8),
-    choice(9, 6), seq(1, 6), seq(7, 11), choice(12, 7), seq(5, 3), seq(2, 14), choice(4, 15),
+    (1, 4, 0, 0), (1, 5, 0, 0), (1, 6, 0, 0), (1, 7, 0, 0), A, rule(0), rule(1), rule(2), sequence(0, 5), sequence(6, 8),
+    choice(9, 6), sequence(1, 6), sequence(7, 11), choice(12, 7), sequence(5, 3), sequence(2, 14), choice(4, 15),
 ]
 passes("sums", SUMS, [10, 13, 16])
-# The same with unit = a / sum ): sum, product and unit stand on each other, from node 5 on.
-bad("sums, unit = a / sum )", 5, SUMS[:15] + [choice(4, 14)], [10, 13, 15])
-# The same with unit = (a)* / ( sum ): repeats of a may read nothing, but no rule comes first again.
-passes("sums, unit = a* / ( sum )", SUMS + [repeat(4), choice(17, 15)], [10, 13, 18])
-# sum = sum + product / product: the textbook left recursion; product and unit refer to sum only
-# behind (, and pass. Node 5 is rule sum.
-bad("sums, left recursive", 5, SUMS[:8] + [seq(0, 6), seq(5, 8), choice(9, 6)] + SUMS[11:], [10, 13, 16])
+# The same with unit = a / sum ")": sum, product and unit stand on each other, from node 5 on.
+bad('sums, unit = a / sum ")"', 5, SUMS[:15] + [choice(4, 14)], [10, 13, 15])
+# The same with unit = a* / "(" sum ")": repeats of a may read nothing, but no rule comes first again.
+passes('sums, unit = a* / "(" sum ")"', SUMS + [repeat(4), choice(17, 15)], [10, 13, 18])
+# sum = sum "+" product / product: the textbook left recursion; product and unit refer to sum only
+# behind "(", and pass. Node 5 is rule sum.
+bad("sums, left recursive", 5, SUMS[:8] + [sequence(0, 6), sequence(5, 8), choice(9, 6)] + SUMS[11:], [10, 13, 16])
 # Unused rules, and two rules for one node.
 passes("unused rules", [A, EMPTY, repeat(0)], [2, 1, 0])
-passes("two rules for one node", [A, rule(0), rule(1), seq(1, 2)], [0, 0])
+passes("two rules for one node", [A, rule(0), rule(1), sequence(1, 2)], [0, 0])
 bad("unused rule of a bad node", 1, [EMPTY, repeat(0), A], [2, 1])
 bad("X = X unused", 1, [A, rule(0)], [1, 0])
 passes("rule 127 named, all of node 0", [A, rule(127), repeat(1)], [0] * 128)
@@ -437,46 +441,46 @@ passes("rule 126 named, rule 127 empty", [A, rule(126), repeat(1), EMPTY], [0] *
 # --- The lowest one is named, reachable or not ---------------------------------------------------
 
 # "if every node does, reachable or not; otherwise the lowest ..".
-bad("unreachable (empty)*", 2, [A, EMPTY, repeat(1)], [0])
-bad("unreachable (empty)* before the rest", 1, [EMPTY, repeat(0), A, seq(2, 2)], [3])
-bad("unreachable X X = X X", 2, [A, EMPTY, rule(1), seq(2, 2)], [0, 3])
+bad("unreachable empty*", 2, [A, EMPTY, repeat(1)], [0])
+bad("unreachable empty* before the rest", 1, [EMPTY, repeat(0), A, sequence(2, 2)], [3])
+bad("unreachable X = X X", 2, [A, EMPTY, rule(1), sequence(2, 2)], [0, 3])
 bad("two bad repeats", 1, [EMPTY, repeat(0), repeat(0)])
 bad("bad repeats 2 and 4", 2, [A, EMPTY, repeat(1), not_(0), repeat(3)])
-bad("bad repeat under good forms", 1, [EMPTY, repeat(0), A, seq(2, 1), choice(3, 2), align(4)])
+bad("bad repeat under good forms", 1, [EMPTY, repeat(0), A, sequence(2, 1), choice(3, 2), align(4)])
 bad("repeat 2, X = X 3", 2, [A, EMPTY, repeat(1), rule(0)], [3])
 bad("X = X 2, repeat 3", 2, [A, EMPTY, rule(0), repeat(1)], [2])
-bad("bad last of many", 6, [A, EMPTY, B, choice(0, 2), repeat(3), seq(0, 4), repeat(1)])
+bad("bad last of many", 6, [A, EMPTY, B, choice(0, 2), repeat(3), sequence(0, 4), repeat(1)])
 # A rule that stands for a bad higher node is bad itself: "else the child".
-bad("X, X = (empty)*", 0, [rule(0), EMPTY, repeat(1)], [2])
-bad("a X, X = (empty)*", 1, [A, rule(0), seq(0, 1), EMPTY, repeat(3)], [4])
+bad("X where X = empty*", 0, [rule(0), EMPTY, repeat(1)], [2])
+bad("a X where X = empty*", 1, [A, rule(0), sequence(0, 1), EMPTY, repeat(3)], [4])
 # A sequence can pass while its b does not; then b itself is named. Node 0 stands for the sequence
 # and passes with it where a reads; node 2 is b.
-bad("a X passes as Y, X = (empty)*", 2, [rule(1), A, rule(0), seq(1, 2), EMPTY, repeat(4)], [5, 3])
-bad("empty X as Y, X = (empty)*", 0, [rule(1), EMPTY, rule(0), seq(1, 2), repeat(1)], [4, 3])
-bad("a* X as Y, X = (empty)*", 0, [rule(1), A, repeat(1), rule(0), seq(2, 3), EMPTY, repeat(5)], [6, 4])
-bad("(not empty) X passes as Y, X = (empty)*", 3, [rule(1), EMPTY, not_(1), rule(0), seq(2, 3), repeat(1)], [5, 4])
-bad("X a as Y, X = (empty)*", 0, [rule(1), A, rule(0), seq(2, 1), EMPTY, repeat(4)], [5, 3])
+bad("Y = a X passes; X = empty*", 2, [rule(1), A, rule(0), sequence(1, 2), EMPTY, repeat(4)], [5, 3])
+bad("Y = empty X; X = empty*", 0, [rule(1), EMPTY, rule(0), sequence(1, 2), repeat(1)], [4, 3])
+bad("Y = a* X; X = empty*", 0, [rule(1), A, repeat(1), rule(0), sequence(2, 3), EMPTY, repeat(5)], [6, 4])
+bad("Y = !empty X passes; X = empty*", 3, [rule(1), EMPTY, not_(1), rule(0), sequence(2, 3), repeat(1)], [5, 4])
+bad("Y = X a; X = empty*", 0, [rule(1), A, rule(0), sequence(2, 1), EMPTY, repeat(4)], [5, 3])
 # "a choice of two": bad with either.
-bad("a / X as Y, X = (empty)*", 0, [rule(1), A, rule(0), choice(1, 2), EMPTY, repeat(4)], [5, 3])
-bad("empty / X as Y, X = (empty)*", 0, [rule(1), EMPTY, rule(0), choice(1, 2), repeat(1)], [4, 3])
-bad("X / a as Y, X = (empty)*", 0, [rule(1), A, rule(0), choice(2, 1), EMPTY, repeat(4)], [5, 3])
+bad("Y = a / X; X = empty*", 0, [rule(1), A, rule(0), choice(1, 2), EMPTY, repeat(4)], [5, 3])
+bad("Y = empty / X; X = empty*", 0, [rule(1), EMPTY, rule(0), choice(1, 2), repeat(1)], [4, 3])
+bad("Y = X / a; X = empty*", 0, [rule(1), A, rule(0), choice(2, 1), EMPTY, repeat(4)], [5, 3])
 # The passing sequence under every other form: all of them pass with it, and b, node 3, is named.
 for said, form in (
-    ("not", not_(0)),
-    ("repeat", repeat(0)),
-    ("indent", indent(0)),
-    ("position", position(0)),
-    ("align", align(0)),
-    ("sequence", seq(0, 0)),
-    ("choice", choice(0, 0)),
+    ("!Y", not_(0)),
+    ("Y*", repeat(0)),
+    ("indent greater Y", indent(0)),
+    ("position greater Y", position(0)),
+    ("align Y", align(0)),
+    ("Y Y", sequence(0, 0)),
+    ("Y / Y", choice(0, 0)),
 ):
-    nodes = [rule(1), form, A, rule(0), seq(2, 3), EMPTY, repeat(5)]
-    bad(f"{said} of a X passes, X = (empty)*", 3, nodes, [6, 4])
+    nodes = [rule(1), form, A, rule(0), sequence(2, 3), EMPTY, repeat(5)]
+    bad(f"{said} passes where Y = a X; X = empty*", 3, nodes, [6, 4])
     # With empty for a, node 0 is bad at once.
-    nodes = [rule(1), form, EMPTY, rule(0), seq(2, 3), EMPTY, repeat(5)]
-    bad(f"{said} of empty X, X = (empty)*", 0, nodes, [6, 4])
+    nodes = [rule(1), form, EMPTY, rule(0), sequence(2, 3), EMPTY, repeat(5)]
+    bad(f"{said} where Y = empty X; X = empty*", 0, nodes, [6, 4])
 # Only node 3, rule X, and the repeat are bad: b stands before X, and a before b.
-bad("Y = a (b X), X = (empty)*", 3, [rule(1), A, B, rule(0), seq(2, 3), seq(1, 4), EMPTY, repeat(6)], [7, 5])
+bad("Y = a (b X); X = empty*", 3, [rule(1), A, B, rule(0), sequence(2, 3), sequence(1, 4), EMPTY, repeat(6)], [7, 5])
 
 
 # --- Ford's rules fact by fact -------------------------------------------------------------------
@@ -489,40 +493,45 @@ SETS = (
     # "Terminal: second and third."
     (1, "a", "SF"),
     # "Not: nothing if the child may fail; fails if it may succeed." Empty may only succeed.
-    (2, "not empty", "F"),
+    (2, "!empty", "F"),
     # a may both.
-    (3, "not a", "NF"),
+    (3, "!a", "NF"),
     # "Choice: a's successes, and if a may fail all of b's facts." S of a, N of empty.
     (4, "a / empty", "NS"),
-    # S of a; N and F of not a.
-    (5, "a / not a", "NSF"),
+    # S of a; N and F of !a.
+    (5, "a / !a", "NSF"),
 )
 
 
-def shown(label, facts, last, number):
-    """Four forms over node `last`, which is well formed, that show its facts: the label, whether it is bad, at which
-    node, the nodes behind the last, and what their rule, of this number, stands for.
+def bracketed(expression):
+    """An expression as a part of another one."""
+    return expression if expression.isalpha() else f"({expression})"
+
+
+def shown(expression, facts, last, number):
+    """Four forms over node `last`, which is well formed, that show its facts: the form written, whether it is bad, at
+    which node, the nodes behind the last, and what their rule, of this number, stands for.
 
     A repeat of it is bad exactly if it has N: "a repeat whose child is and may not succeed reading
     nothing". Not of it has N exactly if it may fail, and not of that exactly if it may succeed. A
     rule behind it in its own sequence is bad exactly if it has N: "b too if a may read nothing".
     """
-    succeeds = "N" in facts or "S" in facts
-    yield f"({label})*", "N" in facts, last + 1, [repeat(last)], []
-    yield f"(not ({label}))*", "F" in facts, last + 2, [not_(last), repeat(last + 1)], []
-    yield f"(not not ({label}))*", succeeds, last + 3, [not_(last), not_(last + 1), repeat(last + 2)], []
-    yield f"Z = ({label}) Z", "N" in facts, last + 1, [rule(number), seq(last, last + 1)], [last + 2]
+    part, succeeds = bracketed(expression), "N" in facts or "S" in facts
+    yield f"{part}*", "N" in facts, last + 1, [repeat(last)], []
+    yield f"(!{part})*", "F" in facts, last + 2, [not_(last), repeat(last + 1)], []
+    yield f"(!!{part})*", succeeds, last + 3, [not_(last), not_(last + 1), repeat(last + 2)], []
+    yield f"W = {part} W", "N" in facts, last + 1, [rule(number), sequence(last, last + 1)], [last + 2]
 
 
-def seen(label, facts, nodes, rules=()):
-    """Four tables that show the facts of the last node."""
-    for said, is_bad, ill, more, own in shown(label, facts, len(nodes) - 1, len(rules)):
-        verdict(said, is_bad, ill, nodes + more, [*rules, *own])
+def seen(expression, facts, nodes, rules=(), where=""):
+    """Four tables that show the facts of the last node, which is the expression. `where` tells its rules, or more."""
+    for said, is_bad, ill, more, own in shown(expression, facts, len(nodes) - 1, len(rules)):
+        verdict(f"{facts}: {said}{where}", is_bad, ill, nodes + more, [*rules, *own])
 
 
 # The six themselves, each with only the nodes up to it.
 for number, said, facts in SETS:
-    seen(f"set {facts}: {said}", facts, BASE[: number + 1])
+    seen(said, facts, BASE[: number + 1], where=", one of the six")
 
 # "Sequence: nothing if both; something .. fails if a may fail, or .." A row for each a, a column for
 # each b, in the order of SETS.
@@ -545,97 +554,99 @@ CHOICE = (
 )
 for (a, said_a, _), row, row_choice in zip(SETS, SEQUENCE, CHOICE):
     for (b, said_b, _), facts, facts_choice in zip(SETS, row, row_choice):
-        seen(f"[{said_a}] then [{said_b}]", facts, BASE + [seq(a, b)])
-        seen(f"[{said_a}] or [{said_b}]", facts_choice, BASE + [choice(a, b)])
+        seen(f"{bracketed(said_a)} {bracketed(said_b)}", facts, BASE + [sequence(a, b)])
+        seen(f"{bracketed(said_a)} / {bracketed(said_b)}", facts_choice, BASE + [choice(a, b)])
 
 # "Not: nothing if the child may fail; fails if it may succeed.", once, twice and three times.
 NOT = ("F", "NF", "N", "NF", "F", "NF")
 NOT_NOT = ("N", "NF", "F", "NF", "N", "NF")
 NOT_NOT_NOT = ("F", "NF", "N", "NF", "F", "NF")
 for (a, said, _), once, twice, thrice in zip(SETS, NOT, NOT_NOT, NOT_NOT_NOT):
-    seen(f"not [{said}]", once, BASE + [not_(a)])
-    seen(f"not not [{said}]", twice, BASE + [not_(a), not_(6)])
-    seen(f"not not not [{said}]", thrice, BASE + [not_(a), not_(6), not_(7)])
+    part, where = bracketed(said), f", over node {a} of the six"
+    seen(f"!{part}", once, BASE + [not_(a)], where=where)
+    seen(f"!!{part}", twice, BASE + [not_(a), not_(6)], where=where)
+    seen(f"!!!{part}", thrice, BASE + [not_(a), not_(6), not_(7)], where=where)
 
 # "Repeat: something if the child reads something; nothing if it may fail." Only the children without
 # N make a well-formed repeat; the others are bad at the repeat, node 6.
-seen("repeat of [a]", "NS", BASE + [repeat(1)])
-seen("repeat of [not empty]", "N", BASE + [repeat(2)])
+seen("a*", "NS", BASE + [repeat(1)])
+seen("(!empty)*", "N", BASE + [repeat(2)])
 for number in (0, 3, 4, 5):
     bad(f"repeat of node {number} of the six", 6, BASE + [repeat(number)])
     bad(f"not of repeat of node {number} of the six", 6, BASE + [repeat(number), not_(6)])
-    bad(f"a, then repeat of node {number} of the six", 6, BASE + [repeat(number), seq(1, 6)])
+    bad(f"a, then repeat of node {number} of the six", 6, BASE + [repeat(number), sequence(1, 6)])
 
 # "Rule, indent, position, align: those of their child."
 for a, said, facts in SETS:
-    seen(f"align of [{said}]", facts, BASE + [align(a)])
-    for relation in (0, 1, 2, 3):
-        seen(f"indent {relation} of [{said}]", facts, BASE + [indent(a, relation)])
-        seen(f"position {relation} of [{said}]", facts, BASE + [position(a, relation)])
-    seen(f"rule of [{said}]", facts, BASE + [rule(0)], [a])
-    seen(f"rule of rule of [{said}]", facts, BASE + [rule(0), rule(1)], [a, 6])
-    seen(f"align indent position of [{said}]", facts, BASE + [position(a, 0), indent(6, 3), align(7)])
+    part = bracketed(said)
+    seen(f"align {part}", facts, BASE + [align(a)])
+    for name, relation in RELATIONS.items():
+        seen(f"indent {name} {part}", facts, BASE + [indent(a, relation)])
+        seen(f"position {name} {part}", facts, BASE + [position(a, relation)])
+    seen("X", facts, BASE + [rule(0)], [a], f" where X = {said}")
+    seen("Y", facts, BASE + [rule(0), rule(1)], [a, 6], f" where X = {said}; Y = X")
+    seen(f"align (indent any (position equal {part}))", facts, BASE + [position(a, 0), indent(6, 3), align(7)])
 
 
-def seen_early(label, facts, number, hops):
-    """As `seen`, of a node of BASE, where BASE stands last and `hops` rules in a row lead to it."""
+def seen_early(facts, number, hops, where):
+    """As `seen` of rule X, where BASE stands last and `hops` rules in a row lead to its node of this number."""
 
-    for said, is_bad, ill, more, own in shown(label, facts, 0, hops):
+    for said, is_bad, ill, more, own in shown("X", facts, 0, hops):
         # Node 0 is rule 0. Each rule but the last stands for a node that names the next.
         probe = [rule(0)] + more
         base = len(probe) + hops - 1
         nodes = probe + [rule(i) for i in range(1, hops)] + moved(BASE, base)
-        verdict(f"{said}, later", is_bad, ill, nodes, [*range(len(probe), base), base + number, *own])
+        verdict(f"{facts}: {said} where {where}, later", is_bad, ill, nodes, [*range(len(probe), base), base + number, *own])
 
 
 # "a rule may stand for any node": also a higher one, and through rules in a row.
 for number, said, facts in SETS:
-    for hops in (1, 2, 3):
-        seen_early(f"[{said}] {hops} rules on", facts, number, hops)
+    for hops, where in enumerate(("X = ", "X = Y; Y = ", "X = Y; Y = Z; Z = "), 1):
+        seen_early(facts, number, hops, where + said)
 
 # Facts of rules that name themselves, each a well-formed rule X of these nodes; the last is X.
 for said, facts, nodes in (
     # a X may succeed only if X may: by least facts it only fails.
-    ("a X", "F", [A, rule(0), seq(0, 1)]),
-    ("(a X) b", "F", [A, B, rule(0), seq(0, 2), seq(3, 1)]),
+    ("a X", "F", [A, rule(0), sequence(0, 1)]),
+    ("(a X) b", "F", [A, B, rule(0), sequence(0, 2), sequence(3, 1)]),
     # N of empty; then a X may succeed. Empty may not fail, so X may not.
-    ("a X / empty", "NS", [A, rule(0), seq(0, 1), EMPTY, choice(2, 3)]),
+    ("a X / empty", "NS", [A, rule(0), sequence(0, 1), EMPTY, choice(2, 3)]),
     # empty may not fail, so a X counts for nothing.
-    ("empty / a X", "N", [A, rule(0), seq(0, 1), EMPTY, choice(3, 2)]),
-    ("a X / b", "SF", [A, rule(0), seq(0, 1), B, choice(2, 3)]),
+    ("empty / a X", "N", [A, rule(0), sequence(0, 1), EMPTY, choice(3, 2)]),
+    ("a X / b", "SF", [A, rule(0), sequence(0, 1), B, choice(2, 3)]),
     # S of b; then a X may succeed too, and both may fail.
-    ("b / a X", "SF", [A, rule(0), seq(0, 1), B, choice(3, 2)]),
-    # S of a X once not b gives N; F as both may fail.
-    ("a X / not b", "NSF", [A, rule(0), seq(0, 1), B, not_(3), choice(2, 4)]),
+    ("b / a X", "SF", [A, rule(0), sequence(0, 1), B, choice(3, 2)]),
+    # S of a X once !b gives N; F as both may fail.
+    ("a X / !b", "NSF", [A, rule(0), sequence(0, 1), B, not_(3), choice(2, 4)]),
     # Both sides only fail.
-    ("a X / b X", "F", [A, rule(0), seq(0, 1), B, seq(3, 1), choice(2, 4)]),
+    ("a X / b X", "F", [A, rule(0), sequence(0, 1), B, sequence(3, 1), choice(2, 4)]),
     # a X may fail, so X has N; with N, a X succeeds, and X may fail.
-    ("not (a X)", "NF", [A, rule(0), seq(0, 1), not_(2)]),
-    # a X may fail, so not (a X) has N, and X may fail. X succeeds only if a X does, and so only if X
+    ("!(a X)", "NF", [A, rule(0), sequence(0, 1), not_(2)]),
+    # a X may fail, so !(a X) has N, and X may fail. X succeeds only if a X does, and so only if X
     # does: never, by least facts.
-    ("not not (a X)", "F", [A, rule(0), seq(0, 1), not_(2), not_(3)]),
-    # a (not X): X may fail by a; so not X has N, and X has S.
-    ("a (not X)", "SF", [A, rule(0), not_(1), seq(0, 2)]),
+    ("!!(a X)", "F", [A, rule(0), sequence(0, 1), not_(2), not_(3)]),
+    # a !X: X may fail by a; so !X has N, and X has S.
+    ("a !X", "SF", [A, rule(0), not_(1), sequence(0, 2)]),
     # a X* : X may fail by a; so X* has N, and X has S.
-    ("a X*", "SF", [A, rule(0), repeat(1), seq(0, 2)]),
+    ("a X*", "SF", [A, rule(0), repeat(1), sequence(0, 2)]),
     # a X may fail, so (a X)* has N; then a X has S, and (a X)* too. No repeat may fail.
-    ("(a X)*", "NS", [A, rule(0), seq(0, 1), repeat(2)]),
-    # not empty only fails, and X behind it adds nothing.
-    ("(not empty) X", "F", [EMPTY, not_(0), rule(0), seq(1, 2)]),
+    ("(a X)*", "NS", [A, rule(0), sequence(0, 1), repeat(2)]),
+    # !empty only fails, and X behind it adds nothing.
+    ("!empty X", "F", [EMPTY, not_(0), rule(0), sequence(1, 2)]),
     # The first of the choice only fails: X has b's facts.
-    ("(not empty) X / b", "SF", [EMPTY, not_(0), rule(0), seq(1, 2), B, choice(3, 4)]),
+    ("!empty X / b", "SF", [EMPTY, not_(0), rule(0), sequence(1, 2), B, choice(3, 4)]),
     # Indent, position and align on the way change no fact.
-    ("align (a (indent X)) / empty", "NS", [A, rule(0), indent(1), seq(0, 2), align(3), EMPTY, choice(4, 5)]),
-    ("position (a X / b)", "SF", [A, rule(0), seq(0, 1), B, choice(2, 3), position(4, 2)]),
+    ("align (a (indent greater X)) / empty", "NS", [A, rule(0), indent(1), sequence(0, 2), align(3), EMPTY, choice(4, 5)]),
+    ("position at-least (a X / b)", "SF", [A, rule(0), sequence(0, 1), B, choice(2, 3), position(4, 2)]),
 ):
-    seen(f"X = {said}, X", facts, nodes, [len(nodes) - 1])
+    seen(said, facts, nodes, [len(nodes) - 1], f" where X = {said}")
 
 
 # --- Facts of nodes that are not well formed -----------------------------------------------------
 
 # The facts know nothing of well-formedness, and are "the least ones". A sequence a E passes while its
-# b, E, does not, and it may succeed exactly if E may; a (not E) may succeed exactly if E may fail.
-# Rule 0 is that sequence, seen by node 3, (not not rule 0)*, which is bad if it may succeed. If it
+# b, E, does not, and it may succeed exactly if E may; a !E may succeed exactly if E may fail.
+# Rule 0 is that sequence, seen by node 3, (!!X)* with X for rule 0, which is bad if it may succeed. If it
 # may not, node 3 passes, and the lowest that does not is node 5, which names rule 1, E.
 
 
@@ -645,9 +656,9 @@ def ill_formed(label, facts, nodes):
     whole = front + nodes
     last = len(whole) - 1
     node = 3 if "N" in facts or "S" in facts else 5
-    bad(f"a E, E = {label}", node, whole + [seq(4, 5)], [last + 1, last])
+    bad(f"a E where E = {label}", node, whole + [sequence(4, 5)], [last + 1, last])
     node = 3 if "F" in facts else 5
-    bad(f"a (not E), E = {label}", node, whole + [not_(5), seq(4, last + 1)], [last + 2, last])
+    bad(f"a !E where E = {label}", node, whole + [not_(5), sequence(4, last + 1)], [last + 2, last])
 
 
 # a is node 4, and rule E is node 5.
@@ -655,42 +666,42 @@ E = rule(1)
 for said, facts, nodes in (
     # No rule gives a first fact.
     ("E", "", [E]),
-    ("not E", "", [E, not_(5)]),
-    ("not not E", "", [E, not_(5), not_(6)]),
+    ("!E", "", [E, not_(5)]),
+    ("!!E", "", [E, not_(5), not_(6)]),
     ("E*", "", [E, repeat(5)]),
-    ("E E", "", [E, seq(5, 5)]),
+    ("E E", "", [E, sequence(5, 5)]),
     ("E / E", "", [E, choice(5, 5)]),
     ("align E", "", [E, align(5)]),
-    ("indent E", "", [E, indent(5)]),
-    ("position E", "", [E, position(5)]),
+    ("indent greater E", "", [E, indent(5)]),
+    ("position greater E", "", [E, position(5)]),
     # "both may succeed": E may not; "a may fail, or a may succeed and b fail": E may neither.
-    ("E a", "", [E, seq(5, 4)]),
-    ("E empty", "", [E, EMPTY, seq(5, 6)]),
+    ("E a", "", [E, sequence(5, 4)]),
+    ("E empty", "", [E, EMPTY, sequence(5, 6)]),
     # empty E has E's facts, so none.
-    ("empty E", "", [E, EMPTY, seq(6, 5)]),
+    ("empty E", "", [E, EMPTY, sequence(6, 5)]),
     # a* may not fail; a* E fails only if E does, and succeeds only if E does.
-    ("a* E", "", [E, repeat(4), seq(6, 5)]),
-    # "fails if a may fail": not a may.
-    ("(not a) E", "F", [E, not_(4), seq(6, 5)]),
+    ("a* E", "", [E, repeat(4), sequence(6, 5)]),
+    # "fails if a may fail": !a may.
+    ("!a E", "F", [E, not_(4), sequence(6, 5)]),
     # "if a may fail all of b's facts": E may not fail, so a does not count.
     ("E / a", "", [E, choice(5, 4)]),
-    ("E a / a", "", [E, seq(5, 4), choice(6, 4)]),
-    ("empty E / a", "", [E, EMPTY, seq(6, 5), choice(7, 4)]),
+    ("E a / a", "", [E, sequence(5, 4), choice(6, 4)]),
+    ("empty E / a", "", [E, EMPTY, sequence(6, 5), choice(7, 4)]),
     # S of a. a may fail, so E's facts are E's: "may fail" is not among the least.
     ("a / E", "S", [E, choice(4, 5)]),
     # S of a; then E E may succeed. It fails only if E does.
-    ("a / E E", "S", [E, seq(5, 5), choice(4, 6)]),
+    ("a / E E", "S", [E, sequence(5, 5), choice(4, 6)]),
     # S of a; then E a may succeed in E and fail in a.
-    ("a / E a", "SF", [E, seq(5, 4), choice(4, 6)]),
+    ("a / E a", "SF", [E, sequence(5, 4), choice(4, 6)]),
     # E may fail by its first part; then a counts: S and F.
-    ("(not a) E / a", "SF", [E, not_(4), seq(6, 5), choice(7, 4)]),
+    ("!a E / a", "SF", [E, not_(4), sequence(6, 5), choice(7, 4)]),
     ("empty / E", "N", [E, EMPTY, choice(6, 5)]),
-    # N of not a, which may fail; then E's facts, and no F among the least.
-    ("(not a) / E", "N", [E, not_(4), choice(6, 5)]),
-    # not E has no fact, so neither has the sequence.
-    ("(not E) a", "", [E, not_(5), seq(6, 4)]),
-    # S of a; then not E may fail ("fails if it may succeed"), and so may E.
-    ("a / not E", "NSF", [E, not_(5), choice(4, 6)]),
+    # N of !a, which may fail; then E's facts, and no F among the least.
+    ("!a / E", "N", [E, not_(4), choice(6, 5)]),
+    # !E has no fact, so neither has the sequence.
+    ("!E a", "", [E, not_(5), sequence(6, 4)]),
+    # S of a; then !E may fail ("fails if it may succeed"), and so may E.
+    ("a / !E", "NSF", [E, not_(5), choice(4, 6)]),
     # S of a, so S of E*. No repeat may fail, so E may not, and E* has no N.
     ("a / E*", "S", [E, repeat(5), choice(4, 6)]),
 ):
@@ -699,58 +710,57 @@ for said, facts, nodes in (
 # Bad repeats, and what is built on them: "something if the child reads something; nothing if it may
 # fail".
 for said, facts, nodes in (
-    ("(empty)*", "", [E, EMPTY, repeat(6)]),
-    ("(not a)*", "N", [E, not_(4), repeat(6)]),
+    ("empty*", "", [E, EMPTY, repeat(6)]),
+    ("(!a)*", "N", [E, not_(4), repeat(6)]),
     ("(a / empty)*", "S", [E, EMPTY, choice(4, 6), repeat(7)]),
-    ("(a / not a)*", "NS", [E, not_(4), choice(4, 6), repeat(7)]),
+    ("(a / !a)*", "NS", [E, not_(4), choice(4, 6), repeat(7)]),
     # a* has S and N and no F: its repeat has S; and the repeat of that, S again.
     ("(a*)*", "S", [E, repeat(4), repeat(6)]),
     ("((a*)*)*", "S", [E, repeat(4), repeat(6), repeat(7)]),
-    # (empty)* has no fact, nor has what is built on it alone.
-    ("((empty)*)*", "", [E, EMPTY, repeat(6), repeat(7)]),
-    ("not (empty)*", "", [E, EMPTY, repeat(6), not_(7)]),
-    ("not not (empty)*", "", [E, EMPTY, repeat(6), not_(7), not_(8)]),
-    ("(empty)* / a", "", [E, EMPTY, repeat(6), choice(7, 4)]),
-    ("a / (empty)*", "S", [E, EMPTY, repeat(6), choice(4, 7)]),
-    ("(empty)* a", "", [E, EMPTY, repeat(6), seq(7, 4)]),
+    # empty* has no fact, nor has what is built on it alone.
+    ("(empty*)*", "", [E, EMPTY, repeat(6), repeat(7)]),
+    ("!empty*", "", [E, EMPTY, repeat(6), not_(7)]),
+    ("!!empty*", "", [E, EMPTY, repeat(6), not_(7), not_(8)]),
+    ("empty* / a", "", [E, EMPTY, repeat(6), choice(7, 4)]),
+    ("a / empty*", "S", [E, EMPTY, repeat(6), choice(4, 7)]),
+    ("empty* a", "", [E, EMPTY, repeat(6), sequence(7, 4)]),
     # A bad repeat with S only: not of it fails and does not succeed.
-    ("not (a*)*", "F", [E, repeat(4), repeat(6), not_(7)]),
-    ("not not (a*)*", "N", [E, repeat(4), repeat(6), not_(7), not_(8)]),
-    ("(a*)* a", "SF", [E, repeat(4), repeat(6), seq(7, 4)]),
+    ("!(a*)*", "F", [E, repeat(4), repeat(6), not_(7)]),
+    ("!!(a*)*", "N", [E, repeat(4), repeat(6), not_(7), not_(8)]),
+    ("(a*)* a", "SF", [E, repeat(4), repeat(6), sequence(7, 4)]),
     ("(a*)* / a", "S", [E, repeat(4), repeat(6), choice(7, 4)]),
     # empty may only read nothing, so the sequence has the facts of the repeat: none.
-    ("empty (empty)*", "", [E, EMPTY, repeat(6), seq(6, 7)]),
-    ("(not a) (empty)*", "F", [E, EMPTY, repeat(6), not_(4), seq(8, 7)]),
+    ("empty empty*", "", [E, EMPTY, repeat(6), sequence(6, 7)]),
+    ("!a empty*", "F", [E, EMPTY, repeat(6), not_(4), sequence(8, 7)]),
 ):
     ill_formed(said, facts, nodes)
 
 
-def reads_something(label, facts, form):
+def reads_something(expression, facts, form):
     """Shows S beside N, where F is not there, of a form over BASE, whose nodes here start at 6.
 
     E is the repeat of the form, bad as that has N; E may succeed only with S: "something if the child
     reads something; nothing if it may fail".
     """
     assert facts in ("N", "NS")
-    ill_formed(label, facts[1:], [E] + moved(BASE + [form, repeat(6)], 6))
+    ill_formed(f"({expression})*, over the six", facts[1:], [E] + moved(BASE + [form, repeat(6)], 6))
 
 
 # The entries N and NS of the rules above. The rows of SEQUENCE and CHOICE are read again.
 for (a, said_a, _), row, row_choice in zip(SETS, SEQUENCE, CHOICE):
     for (b, said_b, _), facts, facts_choice in zip(SETS, row, row_choice):
         if facts in ("N", "NS"):
-            reads_something(f"([{said_a}] then [{said_b}])*", facts, seq(a, b))
+            reads_something(f"{bracketed(said_a)} {bracketed(said_b)}", facts, sequence(a, b))
         if facts_choice in ("N", "NS"):
-            reads_something(f"([{said_a}] or [{said_b}])*", facts_choice, choice(a, b))
+            reads_something(f"{bracketed(said_a)} / {bracketed(said_b)}", facts_choice, choice(a, b))
 for a, said, facts in SETS:
     if facts in ("N", "NS"):
-        reads_something(f"(align [{said}])*", facts, align(a))
-        reads_something(f"(indent [{said}])*", facts, indent(a))
-        reads_something(f"(position [{said}])*", facts, position(a))
-# A repeat that is well formed, of a: NS; and of not empty: N. Not of not empty: N.
-reads_something("([a]*)*", "NS", repeat(1))
-reads_something("([not empty]*)*", "N", repeat(2))
-reads_something("(not [not empty])*", "N", not_(2))
+        for form, node in FORMS:
+            reads_something(f"{form} {bracketed(said)}", facts, node(a))
+# A repeat that is well formed, of a: NS; and of !empty: N. Not of !empty: N.
+reads_something("a*", "NS", repeat(1))
+reads_something("(!empty)*", "N", repeat(2))
+reads_something("!!empty", "N", not_(2))
 
 
 # --- The largest tables --------------------------------------------------------------------------
@@ -758,9 +768,9 @@ reads_something("(not [not empty])*", "N", not_(2))
 # "1 to 512 nodes, 0 to 128 rules." 127 rules that no node names fill up the rules.
 UNUSED = [4 * i + 3 for i in range(127)]
 # The core: X = a X / empty, where X stands for the last node of all.
-CORE = [A, rule(0), seq(0, 1), EMPTY, choice(2, 3)]
+CORE = [A, rule(0), sequence(0, 1), EMPTY, choice(2, 3)]
 # empty X instead: X comes back with nothing read. Node 0 is empty, node 1 rule X, the lowest bad one.
-CORE_BAD = [EMPTY, rule(0), seq(0, 1), EMPTY, choice(2, 3)]
+CORE_BAD = [EMPTY, rule(0), sequence(0, 1), EMPTY, choice(2, 3)]
 
 
 def any_indent(i):
@@ -788,31 +798,31 @@ for said, form in (
     passes(f"X = 507 {said} over (a X / empty), 128 rules", over(CORE, form), [511] + UNUSED)
     bad(f"X = 507 {said} over (empty X / empty)", 1, over(CORE_BAD, form), [511])
     bad(f"X = 507 {said} over (empty X / empty), 128 rules", 1, over(CORE_BAD, form), [511] + UNUSED)
-    # a* X and (not a) X: hidden behind what may read nothing; rule X is node 2.
-    core = [A, repeat(0), rule(0), seq(1, 2), EMPTY, choice(3, 4)]
+    # a* X and !a X: hidden behind what may read nothing; rule X is node 2.
+    core = [A, repeat(0), rule(0), sequence(1, 2), EMPTY, choice(3, 4)]
     bad(f"X = 506 {said} over (a* X / empty)", 2, over(core, form), [511])
-    core = [A, not_(0), rule(0), seq(1, 2), EMPTY, choice(3, 4)]
-    bad(f"X = 506 {said} over ((not a) X / empty)", 2, over(core, form), [511])
-    # (not empty) X: X is never reached.
-    core = [EMPTY, not_(0), rule(0), seq(1, 2), choice(3, 0)]
-    passes(f"X = 507 {said} over ((not empty) X / empty)", over(core, form), [511])
+    core = [A, not_(0), rule(0), sequence(1, 2), EMPTY, choice(3, 4)]
+    bad(f"X = 506 {said} over (!a X / empty)", 2, over(core, form), [511])
+    # !empty X: X is never reached.
+    core = [EMPTY, not_(0), rule(0), sequence(1, 2), choice(3, 0)]
+    passes(f"X = 507 {said} over (!empty X / empty)", over(core, form), [511])
     # The forms between the rule and the rest: bad at the rule.
     bad(f"X = 511 {said} over X", 0, over([rule(0)], form), [511])
-    bad(f"X = (509 {said} over X) a", 1, over([A, rule(0)], form, 511) + [seq(510, 0)], [511])
-    passes(f"X = a (509 {said} over X)", over([A, rule(0)], form, 511) + [seq(0, 510)], [511])
-    bad(f"X = empty (509 {said} over X)", 1, over([EMPTY, rule(0)], form, 511) + [seq(0, 510)], [511])
+    bad(f"X = (509 {said} over X) a", 1, over([A, rule(0)], form, 511) + [sequence(510, 0)], [511])
+    passes(f"X = a (509 {said} over X)", over([A, rule(0)], form, 511) + [sequence(0, 510)], [511])
+    bad(f"X = empty (509 {said} over X)", 1, over([EMPTY, rule(0)], form, 511) + [sequence(0, 510)], [511])
     bad(f"X = a / (509 {said} over X)", 1, over([A, rule(0)], form, 511) + [choice(0, 510)], [511])
     # 255 forms over a, then rule X as node 256 and 254 forms over it.
     half = over(over([A], form, 256) + [rule(0)], form, 511)
     bad(f"X = a / (254 {said} over X), X is node 256", 256, half + [choice(0, 510)], [511])
-    passes(f"X = a (254 {said} over X), X is node 256", half + [seq(0, 510)], [511])
+    passes(f"X = a (254 {said} over X), X is node 256", half + [sequence(0, 510)], [511])
 
 # A repeat at the end shows the facts through 510 forms: those of the child.
 for said, form in (("aligns", align), ("indents", any_indent), ("positions", any_position)):
     bad(f"repeat of 510 {said} over empty", 511, over([EMPTY], form, 511) + [repeat(510)])
     passes(f"repeat of 510 {said} over a", over([A], form, 511) + [repeat(510)])
     bad(f"repeat of 509 {said} over a*", 511, over([A, repeat(0)], form, 511) + [repeat(510)])
-    passes(f"repeat of 509 {said} over not empty", over([EMPTY, not_(0)], form, 511) + [repeat(510)])
+    passes(f"repeat of 509 {said} over !empty", over([EMPTY, not_(0)], form, 511) + [repeat(510)])
 
 # Nots in a row: over what may only succeed an odd number only fails, an even number may read nothing;
 # over a, which may both, any number may read nothing. a X / empty with X that choice may not fail.
@@ -831,29 +841,29 @@ bad("511 repeats of empty", 1, [EMPTY] + [repeat(0)] * 511)
 bad("node 511 a repeat of empty", 511, [EMPTY] * 511 + [repeat(510)])
 
 # Sequences and choices in a row, with a repeat as node 511.
-passes("a (a (a ..))", over([A], lambda i: seq(0, i)))
-passes("((a a) a) ..", over([A], lambda i: seq(i, 0)))
-passes("repeat of 510 sequences of a", over([A], lambda i: seq(i, i), 511) + [repeat(510)])
-bad("repeat of 510 sequences of empty", 511, over([EMPTY], lambda i: seq(i, i), 511) + [repeat(510)])
+passes("a (a (a ..))", over([A], lambda i: sequence(0, i)))
+passes("((a a) a) ..", over([A], lambda i: sequence(i, 0)))
+passes("repeat of 510 sequences of a", over([A], lambda i: sequence(i, i), 511) + [repeat(510)])
+bad("repeat of 510 sequences of empty", 511, over([EMPTY], lambda i: sequence(i, i), 511) + [repeat(510)])
 passes("repeat of 510 choices of a", over([A], lambda i: choice(i, i), 511) + [repeat(510)])
 bad("repeat of 510 choices of empty", 511, over([EMPTY], lambda i: choice(i, i), 511) + [repeat(510)])
 # a* (a* (.. a)) reads something or fails; a* (a* (.. a*)) may read nothing.
-nodes = over([A, repeat(0), seq(1, 0)], lambda i: seq(1, i), 511)
-passes("repeat of a* (a* (.. a))", nodes + [repeat(510)])
-nodes = over([A, repeat(0), seq(1, 1)], lambda i: seq(1, i), 511)
-bad("repeat of a* (a* (.. a*))", 511, nodes + [repeat(510)])
+nodes = over([A, repeat(0), sequence(1, 0)], lambda i: sequence(1, i), 511)
+passes("(a* (a* (.. a)))*", nodes + [repeat(510)])
+nodes = over([A, repeat(0), sequence(1, 1)], lambda i: sequence(1, i), 511)
+bad("(a* (a* (.. a*)))*", 511, nodes + [repeat(510)])
 # a / (a / (.. empty)) may read nothing; from the left likewise.
 nodes = over([A, EMPTY, choice(0, 1)], lambda i: choice(0, i), 511)
-bad("repeat of a / (.. / empty)", 511, nodes + [repeat(510)])
+bad("(a / (.. / empty))*", 511, nodes + [repeat(510)])
 nodes = over([A, EMPTY, choice(1, 0)], lambda i: choice(i, 0), 511)
-bad("repeat of (empty / a) / ..", 511, nodes + [repeat(510)])
+bad("((empty / a) / ..)*", 511, nodes + [repeat(510)])
 # Sequences over rule X first: X = ((X a) a) .. is bad, X = a (a (.. X)) passes.
-bad("X = ((X a) a) ..", 1, over([A, rule(0)], lambda i: seq(i, 0)), [511])
-passes("X = a (a (.. X))", over([A, rule(0)], lambda i: seq(0, i)), [511])
-bad("X = empty (empty (.. X))", 1, over([EMPTY, rule(0)], lambda i: seq(0, i)), [511])
+bad("X = ((X a) a) ..", 1, over([A, rule(0)], lambda i: sequence(i, 0)), [511])
+passes("X = a (a (.. X))", over([A, rule(0)], lambda i: sequence(0, i)), [511])
+bad("X = empty (empty (.. X))", 1, over([EMPTY, rule(0)], lambda i: sequence(0, i)), [511])
 bad("X = (.. (X / a) ..) / a", 1, over([A, rule(0)], lambda i: choice(i, 0)), [511])
-# (not a) X needs X, and X passes by the a at its start.
-passes("X = a ((not a) (.. ((not a) X)))", over([A, not_(0), rule(0)], lambda i: seq(1, i), 511) + [seq(0, 510)], [511])
+# !a X needs X, and X passes by the a at its start.
+passes("X = a (!a (.. (!a X)))", over([A, not_(0), rule(0)], lambda i: sequence(1, i), 511) + [sequence(0, 510)], [511])
 
 # Leaves and rules only.
 passes("512 terminals", [(1, i % 256, 0, 0) for i in range(512)], list(range(384, 512)))
@@ -918,10 +928,10 @@ for said, chain, top in (("upward", upward, 0), ("downward", downward, 127)):
 ROUND = [rule((i + 1) % 128) for i in range(128)]
 for k in (0, 1, 64, 126, 127):
     rules = NEXT[:k] + [129] + NEXT[k + 1 :]
-    passes(f"128 rules in a cycle, a before at {k}", [A] + ROUND + [seq(0, 1 + k)], rules)
-    bad(f"128 rules in a cycle, empty before at {k}", 1, [EMPTY] + ROUND + [seq(0, 1 + k)], rules)
-    bad(f"128 rules in a cycle, a behind at {k}", 1, [A] + ROUND + [seq(1 + k, 0)], rules)
-    bad(f"128 rules in a cycle, a or at {k}", 1, [A] + ROUND + [choice(0, 1 + k)], rules)
+    passes(f"128 rules in a cycle, a before at {k}", [A] + ROUND + [sequence(0, 1 + k)], rules)
+    bad(f"128 rules in a cycle, empty before at {k}", 1, [EMPTY] + ROUND + [sequence(0, 1 + k)], rules)
+    bad(f"128 rules in a cycle, a behind at {k}", 1, [A] + ROUND + [sequence(1 + k, 0)], rules)
+    bad(f"128 rules in a cycle, choice with a at {k}", 1, [A] + ROUND + [choice(0, 1 + k)], rules)
     bad(f"128 rules in a cycle, not at {k}", 1, [A] + ROUND + [not_(1 + k)], rules)
     bad(f"128 rules in a cycle, align at {k}", 1, [A] + ROUND + [align(1 + k)], rules)
 
@@ -952,12 +962,12 @@ def leaf(at, node):
 
 def before(at, node, number):
     """The node, then rule `number`, in a sequence under align."""
-    return [node, rule(number), seq(at, at + 1), align(at + 2)]
+    return [node, rule(number), sequence(at, at + 1), align(at + 2)]
 
 
 def repeated(at, number):
     """a* and rule `number` behind it."""
-    return [A, repeat(at), rule(number), seq(at + 1, at + 2)]
+    return [A, repeat(at), rule(number), sequence(at + 1, at + 2)]
 
 
 UPWARD = blocks(lambda at, i: named(at, (i + 1) % 128))
@@ -981,12 +991,12 @@ for k in (0, 50, 127):
 REPEATS = blocks(lambda at, i: repeated(at, (i + 1) % 128))
 bad("128 rules, each a* before the next", 2, REPEATS, LAST)
 passes("128 rules, a* before the next, the last a", REPEATS[:508] + leaf(508, A), LAST)
-# The last is (empty)*, as node 509: every rule on the way needs it, as a* may read nothing.
-bad("128 rules, a* before the next, the last (empty)*", 2, REPEATS[:508] + [EMPTY, repeat(508), align(509), align(510)],
+# The last is empty*, as node 509: every rule on the way needs it, as a* may read nothing.
+bad("128 rules, a* before the next, the last empty*", 2, REPEATS[:508] + [EMPTY, repeat(508), align(509), align(510)],
     LAST)
 # With a for a* each passes for itself; only the node that names rule 127, node 505, and the repeat
 # are bad.
-bad("128 rules, a before the next, the last (empty)*", 505,
+bad("128 rules, a before the next, the last empty*", 505,
     blocks(lambda at, i: before(at, A, (i + 1) % 128))[:508] + [EMPTY, repeat(508), align(509), align(510)], LAST)
 # Three nots a rule, upward to empty: rule 127 may only succeed, rule 126 only fail, rule 125 only
 # succeed, and so on: rule 0 only fails, rule 1 only succeeds, and with nothing read.
@@ -1004,14 +1014,14 @@ def waves(extra=0, first=A):
     """Facts that come one after the other through all rules; the last rule waits for each at rule 0.
 
     Rules 0 to 124 have four nodes, rule 125 three, less the extra ones that are put behind, rule 126
-    one, and rule 127 eight: a (not X) / not not (a X), X being rule 0. Both sides may fail, by a. Once
-    rule 0 may fail, not X has N, and a (not X) has S. Once rule 0 has S, a X may succeed, not (a X)
-    fail, and not not (a X) has N. So each rule has F, then S, then N.
+    one, and rule 127 eight: a !X / !!(a X), X being rule 0. Both sides may fail, by a. Once rule 0 may
+    fail, !X has N, and a !X has S. Once rule 0 has S, a X may succeed, !(a X) fail, and !!(a X) has N.
+    So each rule has F, then S, then N.
     """
     nodes = blocks(lambda at, i: named(at, i + 1))[: 503 - extra] + [rule(127)]
     at = len(nodes)
-    nodes += [first, rule(0), not_(at + 1), seq(at, at + 2)]
-    nodes += [seq(at, at + 1), not_(at + 4), not_(at + 5), choice(at + 3, at + 6)]
+    nodes += [first, rule(0), not_(at + 1), sequence(at, at + 2)]
+    nodes += [sequence(at, at + 1), not_(at + 4), not_(at + 5), choice(at + 3, at + 6)]
     return nodes, LAST[:125] + [502 - extra, at - 1, at + 7], at
 
 
@@ -1027,7 +1037,7 @@ bad("three waves of facts, not not rule 0 repeated", 511, nodes + [not_(at + 2),
 # 125 names rule 127 instead.
 nodes, rules, at = waves(2)
 nodes[at - 2 : at] = [rule(127), align(at - 2)]
-bad("three waves of facts, Z = X Z", 510, nodes + [rule(126), seq(at + 1, 510)], rules[:126] + [511, at + 7])
+bad("three waves of facts, Z = X Z", 510, nodes + [rule(126), sequence(at + 1, 510)], rules[:126] + [511, at + 7])
 # empty for a: rule 0 stands on itself through all the rules.
 nodes, rules, at = waves(0, EMPTY)
 bad("three waves, empty for a", 0, nodes, rules)

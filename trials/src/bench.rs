@@ -291,7 +291,7 @@ fn runs() -> Result<(), String> {
         &[],
         &tokens(&[15]),
     )?;
-    // ((align (a (b under any)*)) under any)*: each a with the b's behind it.
+    // (indent any (align (a (indent any b)*)))*: each a with the b's behind it.
     let blocks = [
         [kind::TERMINAL, 0, 0, 0],
         [kind::TERMINAL, 1, 0, 0],

@@ -242,7 +242,7 @@ fn indent_over_sequence() {
 
 #[test]
 fn second_alternative_from_the_old_interval() {
-    // (a b) or a, mode equal: the first reads a at 3 and fails at b.
+    // a b / position greater a, mode equal: the first reads a at 3 and fails at b.
     let nodes = [
         terminal(A),
         terminal(B),
