@@ -55,10 +55,40 @@ IN_EXPRESSIONS = ("align", "indent", "position", "empty", *TERMINALS, *BUILT_IN)
 RESERVED = (*STATEMENTS, *IN_EXPRESSIONS, *RELATIONS)
 
 # What other notations write, and what it is called here.
-ELSEWHERE = {"not": "the sign `!`", "or": "the sign `/`", "eof": "the reserved word end", "newline": "the reserved word eol"}
+ELSEWHERE = {
+    "not": "the sign `!`",
+    "or": "the sign `/`",
+    "repeat": "the sign `*` behind an expression",
+    "optional": "the sign `?` behind an expression",
+    "then": "a blank, as in `number eol`",
+    "eof": "the reserved word end",
+    "newline": "the reserved word eol",
+}
+RELATIONS_ELSEWHERE = {">": "greater", ">=": "at-least", "=>": "at-least", "=": "equal", "==": "equal", "at": "at-least"}
+EQUALS_ELSEWHERE = (":=", "::=", "==", "=>", "<-", "->")
 
-# Enough for a table's 512 nodes one in the other, each in brackets.
-DEEPEST = 6000
+# What is told of a sign where it cannot stand: anywhere, and where an expression is expected.
+SIGNS = {
+    **dict.fromkeys(EQUALS_ELSEWHERE, "a rule is written `NAME = ..`"),
+    **dict.fromkeys(("//", "/*", "(*", "--", "%"), "a comment begins with #"),
+    "=": "a rule is written `NAME = ..`, its name without quotes",
+    ",": "keywords and expressions are parted by blanks",
+    ";": "no sign ends a statement, and a comment begins with #",
+    "\\": "a rule goes on in the next line without a sign",
+}
+INSTEAD_OF_EXPRESSIONS = {
+    "|": "a choice is written with /",
+    "[": "once or not at all is written `(..)?`",
+    "{": "any number of times is written `(..)*`",
+    **{sign: f"{sign} stands behind an expression" for sign in "*+?"},
+    **dict.fromkeys("/)", "for nothing write empty"),
+    **dict.fromkeys(RELATIONS, "a relation stands behind indent, position or mode"),
+    "any": "any one token is written token, and the relation any stands behind indent, position or mode",
+    "mode": "in a rule it is position",
+}
+
+# How deep an expression may be nested: enough for a table's 512 nodes one in the other, each in brackets.
+DEEPEST = 1024
 
 
 # Faults
@@ -103,17 +133,38 @@ class Faults(Exception):
 # Lexer
 
 
+QUOTES = "'`\u2018\u2019\u201c\u201d\u201e"
+LEXEME = re.compile(
+    rf'\s+|#[^\n]*|(?P<word>"[^"\n]*"?|[A-Za-z][\w-]*|\w[\w.-]*|[{QUOTES}][^\s"{QUOTES}]*[{QUOTES}]?'
+    r"|//|/\*|\(\*|--|::?=|[<>=]=|=>|<-|->|.)"
+)
+
+
 class Word(NamedTuple):
-    """A word of the notation. The last one of a grammar is empty."""
+    """A word of the notation, or what stands in the place of one. The last one of a grammar is empty."""
 
     text: str
     place: Place
 
     def is_keyword(self):
-        return self.text.startswith('"')
+        return len(self.text) > 1 and self.text[0] == self.text[-1] == '"'
+
+    def is_open(self):
+        """Whether it is a keyword without its second quote."""
+        return self.text.startswith('"') and not self.is_keyword()
 
     def is_name(self):
-        return self.text[:1].isalpha()
+        return bool(re.match("[A-Za-z]", self.text))
+
+    def is_like_name(self):
+        """Whether it is a name, or would be one if it began with another letter."""
+        return bool(re.match(r"\w", self.text))
+
+    def as_name(self):
+        """Why a word is no name, where one could be meant."""
+        if self.is_keyword():
+            return "a name is written without quotes"
+        return "a name begins with a letter from a to z" if self.is_like_name() and not self.is_name() else None
 
     def told(self):
         """The word as a message shows it."""
@@ -123,24 +174,17 @@ class Word(NamedTuple):
             return f"the keyword {self.text}"
         if self.text in RESERVED:
             return f"the reserved word {self.text}"
-        return self.text if self.is_name() else f"'{self.text}'"
+        if self.is_name() or self.text[0] in QUOTES:
+            return self.text
+        return f"'{self.text}'" if self.text.isprintable() else repr(self.text)
 
-
-LEXEME = re.compile(r'\s+|#[^\n]*|(?P<word>"[^"\n]*"|[A-Za-z][\w-]*|[=/!*?+()])')
-
-
-def begins_none(text, at):
-    """What is told of a sign that begins no word."""
-    sign = text[at]
-    if re.match("::?=|<-|->", text[at:]):
-        hint = "; a rule is written `NAME = ..`"
-    elif sign in "'`\u2018\u2019\u201c\u201d":
-        hint = '; a keyword is written in double quotes, as "loss"'
-    elif sign == "|":
-        hint = '; a choice is written with /, and a keyword "|"'
-    else:
-        hint = f'; a keyword is written "{sign}"' if sign.isprintable() else ""
-    return f"{sign!r} begins no word of the notation{hint}"
+    def as_keyword(self):
+        """How the keyword is written that could be meant by a sign, if one could be."""
+        if not self.text or not self.text.isprintable() or self.is_name() or (self.text in SIGNS and len(self.text) > 1):
+            return None
+        spelling = self.text.strip(QUOTES)
+        parts = ["loss"] if wrong_spelling(spelling) else parts_of(spelling)
+        return f"a keyword is written {'in double quotes, as ' if self.text[0] in QUOTES else ''}{quoted(parts)}"
 
 
 def words_of(text):
@@ -148,13 +192,8 @@ def words_of(text):
     words, at, line, line_at = [], 0, 1, 0
     while at < len(text):
         found = LEXEME.match(text, at)
-        place = Place(line, at - line_at + 1)
-        if not found and text[at] == '"':
-            raise Faults(Fault(place, 'this keyword is not closed: a second " is expected on its line'))
-        if not found:
-            raise Faults(Fault(place, begins_none(text, at)))
         if found["word"]:
-            words.append(Word(found["word"], place))
+            words.append(Word(found["word"], Place(line, at - line_at + 1)))
         breaks = text.count("\n", at, found.end())
         at = found.end()
         if breaks:
@@ -166,12 +205,13 @@ def words_of(text):
 
 
 class Expression(NamedTuple):
-    """An expression: its form, where it stands, its parts, and a relation, a terminal or a spelling."""
+    """An expression: its form, where it stands, its parts, a relation or a spelling, and how deep it is nested."""
 
     form: str
     place: Place
     parts: Tuple["Expression", ...] = ()
     value: object = None
+    deep: int = 0
 
 
 LOOSE = ("sequence", "choice", "not", "align", "indent", "position")
@@ -179,7 +219,7 @@ LOOSE = ("sequence", "choice", "not", "align", "indent", "position")
 
 def text_of(expression, tight=False):
     """An expression in the notation. Tight: a sequence or choice stands in brackets."""
-    form, _, parts, value = expression
+    form, _, parts, value, _ = expression
     if form in ("sequence", "choice"):
         inner = [text_of(part, form == "sequence" or part.form == "choice") for part in parts]
         joined = (" " if form == "sequence" else " / ").join(inner)
@@ -207,71 +247,119 @@ class Parser:
     """Reads the words of a grammar from front to back and collects its statements."""
 
     def __init__(self, words):
-        self.words, self.at = words, 0
+        self.words, self.at, self.depth = words, 0, 0
         self.keywords, self.rules = [], []
         self.start = self.mode = None
+        self.first = {}  # where start and mode stand
         while self.word().text:
             self.statement()
-        for name, given in (("start", self.start), ("mode", self.mode)):
-            if given is None:
-                form = "start NAME" if name == "start" else "mode RELATION"
-                raise Faults(Fault(self.word().place, f"there is no {name}: a line `{form}` is expected"))
+        for name, form in (("start", "start NAME"), ("mode", "mode RELATION")):
+            if name not in self.first:
+                capital = [f"; {word.text} at {word.place} is written {name}" for word in words if word.text.lower() == name]
+                text = f"there is no {name}: a line `{form}` is expected{''.join(capital[:1])}"
+                raise Faults(Fault(self.word().place, text))
 
     def word(self, ahead=0):
         """The next word, or one further ahead."""
         return self.words[min(self.at + ahead, len(self.words) - 1)]
 
+    def before(self):
+        """The word before the next one; before the first one it is empty."""
+        return self.words[self.at - 1]
+
     def take(self):
         self.at += 1
         return self.words[self.at - 1]
 
-    def expected(self, what):
-        """Says what was expected in the place of the next word."""
-        quote = ', and a keyword cannot hold a "' if self.touches_keyword() else ""
-        return Faults(Fault(self.word().place, f"{what} expected, not {self.word().told()}{quote}"))
+    def expected(self, what, *hints):
+        """Says what was expected in the place of the next word, and what could be meant by it."""
+        word, before = self.word(), self.before()
+        if word.is_open():
+            return Faults(Fault(word.place, 'this keyword is not closed: a second " is expected on its line'))
+        hints = [hint for hint in hints if hint] or [SIGNS.get(word.text, "")]
+        if before.text in STATEMENTS and word.text in ("=", ":", *EQUALS_ELSEWHERE):
+            hints = [f"{before.text} is written without {word.text}, and no rule can be named {before.text}"]
+        told = f"the next rule, {word.text}" if word.is_name() and self.begins_rule() else word.told()
+        if self.touches_keyword():
+            told += f', right behind the keyword {before.text}: no keyword holds a "'
+        return Faults(Fault(word.place, "; ".join(filter(None, [f"{what} expected, not {told}", *hints]))))
 
     def touches_keyword(self):
-        """Whether the next word is a name right behind a closing quote, with no blank between."""
-        before, word = self.words[self.at - 1], self.word()
-        column = before.place.column + len(before.text)
-        return before.is_keyword() and word.is_name() and word.place == Place(before.place.line, column)
+        """Whether the next word stands right behind a keyword that seems to end too early."""
+        before, word = self.before(), self.word()
+        early = before.is_keyword() and (word.is_name() or " " in before.text)
+        return early and word.place == Place(before.place.line, before.place.column + len(before.text))
+
+    def begins_line(self):
+        return self.at == 0 or self.before().place.line < self.word().place.line
+
+    def begins_rule(self):
+        """Whether a rule begins here: a name and =, or first on a line a name and a sign that others write for =."""
+        word, sign = self.word(), self.word(1).text
+        if sign == "=":
+            return word.is_like_name() and (self.begins_line() or word.text not in ("indent", "position"))
+        return self.begins_line() and word.is_name() and sign in (":", *EQUALS_ELSEWHERE)
 
     def ends(self):
         """Whether the next word begins a statement, or there is none."""
-        return self.word().text in ("", *STATEMENTS) or self.word(1).text == "="
+        return self.word().text in ("", *STATEMENTS) or self.begins_rule()
 
     def statement(self):
         word = self.word()
-        if self.word(1).text == "=":
-            self.rule()
-        elif word.text == "keywords":
+        if word.text == "keywords":
             self.take()
             if not self.word().is_keyword():
-                raise self.expected('a keyword in quotes, as "loss",')
+                raise self.expected('a keyword in quotes, as "loss",', self.word().as_keyword())
             while self.word().is_keyword():
                 self.keywords.append(self.take())
-        elif word.text in ("start", "mode"):
+        elif word.text in STATEMENTS:
             self.setting()
+        elif self.begins_rule():
+            self.rule()
         else:
-            raise self.expected("keywords, start, mode or a rule `NAME = ..`")
+            raise self.no_statement()
+
+    def no_statement(self):
+        """What is told where no statement begins. Behind keywords, one more of them could be meant."""
+        word, what = self.word(), "keywords, start, mode or a rule `NAME = ..`"
+        like = near(word.text, STATEMENTS, 0.8) if word.is_name() else None
+        if like:
+            return self.expected(what, f"is it {like}?")
+        if self.before().is_keyword():
+            return self.expected(f"a keyword in quotes, {what}", SIGNS.get(word.text) or word.as_keyword())
+        return self.expected(what)
 
     def setting(self):
         """`start NAME` or `mode RELATION`, once."""
-        word = self.take()
-        if getattr(self, word.text) is not None:
-            raise Faults(Fault(word.place, f"{word.text} is there twice"))
+        word, what = self.take(), "the name of the start rule"
         if word.text == "mode":
             self.mode = self.relation()
+        elif self.begins_rule():
+            raise self.expected(what)
         else:
-            self.start = self.name("the name of the start rule")
+            self.start = self.name(what)
+        if word.text in self.first:
+            other = "; in a rule it is position" if word.text == "mode" else ""
+            text = f"{word.text} is there twice; the first is at {self.first[word.text]}{other}"
+            raise Faults(Fault(word.place, text))
+        self.first[word.text] = word.place
 
     def rule(self):
         """`NAME = expression`. What follows must begin a statement."""
         name = self.name("the name of a rule")
+        if self.word().text != "=":
+            raise self.no_equals(name.text)
         self.take()
         self.rules.append(Rule(name.text, name.place, self.choice()))
         if not self.ends():
-            raise self.expected("/ or the next statement")
+            raise self.expected("/ or the next statement", "no bracket is open here")
+
+    def no_equals(self, name):
+        """What is told where = is missing behind the name of a rule."""
+        like, word = near(name, STATEMENTS, 0.8), self.word()
+        if like:
+            return self.expected("=", f"is it {like}, without {word.text}?")
+        return self.expected("=", f"a rule is written `{name} = ..`", word.as_keyword())
 
     def name(self, what):
         """The next word as the name of a rule, which is no reserved word."""
@@ -280,16 +368,31 @@ class Parser:
             text = f"{what} expected, not {word.told()}; reserved are: {', '.join(RESERVED)}"
             raise Faults(Fault(word.place, text))
         if not word.is_name():
-            raise self.expected(what)
+            raise self.expected(what, word.as_name())
         return self.take()
 
     def relation(self):
-        if self.word().text not in RELATIONS:
-            raise self.expected("a relation (equal, greater, at-least or any)")
+        word, after = self.word(), self.word(1).text
+        if word.text not in RELATIONS:
+            like = RELATIONS_ELSEWHERE.get(word.text) or near(word.text.strip('"'), RELATIONS)
+            apart = word.text in ("=", ":", "(") and after in RELATIONS
+            hint = f"write {after} without {word.text}" if apart else like and f"is it {like}?"
+            raise self.expected("a relation (equal, greater, at-least or any)", hint)
         return RELATIONS.index(self.take().text)
 
+    def too_deep(self):
+        text = f"an expression is nested over {DEEPEST} deep here; write what is inside as a rule"
+        return Faults(Fault(self.word().place, text))
+
+    def around(self, form, place, parts, value=None):
+        """An expression around others."""
+        deep = 1 + max(part.deep for part in parts)
+        if deep > DEEPEST:
+            raise self.too_deep()
+        return Expression(form, place, tuple(parts), value, deep)
+
     def joined(self, form, parts):
-        return parts[0] if len(parts) == 1 else Expression(form, parts[0].place, tuple(parts))
+        return parts[0] if len(parts) == 1 else self.around(form, parts[0].place, parts)
 
     def choice(self):
         parts = [self.sequence()]
@@ -306,32 +409,49 @@ class Parser:
 
     def prefixed(self):
         """`!`, `align`, `indent` and `position` before an expression."""
+        self.depth += 1
+        if self.depth > DEEPEST:
+            raise self.too_deep()
         word = self.word()
-        if word.text not in ("!", "align", "indent", "position"):
-            return self.postfixed()
-        self.take()
-        relation = self.relation() if word.text in ("indent", "position") else None
-        inner = self.prefixed()
-        return Expression("not" if word.text == "!" else word.text, word.place, (inner,), relation)
+        if word.text in ("!", "align", "indent", "position"):
+            self.take()
+            relation = self.relation() if word.text in ("indent", "position") else None
+            form = "not" if word.text == "!" else word.text
+            expression = self.around(form, word.place, (self.prefixed(),), relation)
+        else:
+            expression = self.postfixed()
+        self.depth -= 1
+        return expression
 
     def postfixed(self):
         """`*`, `+` and `?` behind an expression."""
         inner = self.single()
         while self.word().text in ("*", "+", "?"):
-            inner = Expression(self.take().text, inner.place, (inner,))
+            inner = self.around(self.take().text, inner.place, (inner,))
         return inner
 
     def single(self):
         word = self.word()
+        if self.ends():
+            raise self.no_expression()
         if word.text == "(":
             return self.bracketed()
         if word.is_keyword():
             return Expression("keyword", word.place, value=self.take().text[1:-1])
         if word.text in (*TERMINALS, *BUILT_IN, "empty"):
             return Expression(self.take().text, word.place)
-        if word.is_name() and word.text not in RESERVED and not self.ends():
+        if word.is_name() and word.text not in RESERVED:
             return Expression("rule", word.place, value=self.take().text)
-        raise self.expected("an expression")
+        raise self.no_expression()
+
+    def no_expression(self):
+        """What is told where no expression begins."""
+        word, what = self.word(), "an expression"
+        if word.is_name() and self.begins_rule():
+            equals = None if self.begins_line() else 'a keyword is written "="'
+            return self.expected(what, "for nothing write empty", equals)
+        signs = SIGNS.get(word.text), INSTEAD_OF_EXPRESSIONS.get(word.text)
+        return self.expected(what, *signs, word.as_name(), word.as_keyword())
 
     def bracketed(self):
         opening = self.take()
@@ -475,7 +595,7 @@ class Grammar:
 
     def number(self, rule, expression):
         """The number of an expression's node. Those inside it have lower ones."""
-        form, _, parts, value = expression
+        form, _, parts, value, _ = expression
         origin = Origin(rule, expression)
         inner = [self.number(rule, part) for part in parts]
         if form in ("sequence", "choice"):
@@ -742,15 +862,12 @@ def file_of(grammar):
 
 def grammar_of(text):
     """The grammar of a text in words, not yet checked by the reader's numbers."""
-    sys.setrecursionlimit(max(sys.getrecursionlimit(), DEEPEST))
-    try:
-        source = Parser(words_of(text))
-        faults = name_faults(source)
-        if faults:
-            raise Faults(*sorted(faults + spelling_faults(source), key=lambda fault: fault.place))
-        return Grammar(source)
-    except RecursionError:
-        raise Faults(Fault(None, "an expression is nested too deep")) from None
+    sys.setrecursionlimit(max(sys.getrecursionlimit(), 8 * DEEPEST))
+    source = Parser(words_of(text))
+    faults = name_faults(source)
+    if faults:
+        raise Faults(*sorted(faults + spelling_faults(source), key=lambda fault: fault.place))
+    return Grammar(source)
 
 
 def built(text):

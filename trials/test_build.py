@@ -46,42 +46,159 @@ class Messages(unittest.TestCase):
     def says(self, text, *lines):
         self.assertEqual(faults_of(text), list(lines))
 
-    def test_words(self):
-        none = "begins no word of the notation"
-        self.says(HEAD + "report = word & word", f"x:4:15: '&' {none}; a keyword is written \"&\"")
-        self.says(HEAD + "report = loss: number", f"x:4:14: ':' {none}; a keyword is written \":\"")
-        self.says(HEAD + "report = [ number ]", f"x:4:10: '[' {none}; a keyword is written \"[\"")
-        self.says(HEAD + "report = word | eol", f"x:4:15: '|' {none}; a choice is written with /, and a keyword \"|\"")
-        self.says(HEAD + "report = word \x07", f"x:4:15: '\\x07' {none}")
-        for sign in (":=", "::=", "<-", "->"):
-            self.says(HEAD + f"report {sign} word", f"x:4:8: {sign[0]!r} {none}; a rule is written `NAME = ..`")
-        for sign in "'\u201c":
-            quotes = 'a keyword is written in double quotes, as "loss"'
-            self.says(HEAD + f"report = {sign}loss", f"x:4:10: {sign!r} {none}; {quotes}")
-        self.says(HEAD + 'report = "loss', 'x:4:10: this keyword is not closed: a second " is expected on its line')
+    def test_signs(self):
+        """A sign that no word has: the parser says what it expected. A keyword is told where one could be meant."""
+        for sign, hints in (
+            ("&", 'a keyword is written "&"'),
+            (":", 'a keyword is written ":"'),
+            (">=", 'a keyword is written ">" "="'),
+            ("|", 'a choice is written with /; a keyword is written "|"'),
+            ("[", 'once or not at all is written `(..)?`; a keyword is written "["'),
+            ("{", 'any number of times is written `(..)*`; a keyword is written "{"'),
+            ("*", '* stands behind an expression; a keyword is written "*"'),
+            (",", 'keywords and expressions are parted by blanks; a keyword is written ","'),
+            (";", 'no sign ends a statement, and a comment begins with #; a keyword is written ";"'),
+            ("%", 'a comment begins with #; a keyword is written "%"'),
+            ("=", 'a rule is written `NAME = ..`, its name without quotes; a keyword is written "="'),
+            ("\\", 'a rule goes on in the next line without a sign; a keyword is written "\\"'),
+            ("1.5", 'a name begins with a letter from a to z; a keyword is written "1.5"'),
+            ("_report", 'a name begins with a letter from a to z; a keyword is written "_report"'),
+            ("\u00e4rger", 'a name begins with a letter from a to z; a keyword is written "\u00e4rger"'),
+            *((sign, "a comment begins with #") for sign in ("//", "/*", "(*", "--")),
+            *((sign, "a rule is written `NAME = ..`") for sign in (":=", "::=", "==", "=>", "<-", "->")),
+        ):
+            self.says(HEAD + f"report = !{sign} word", f"x:4:11: an expression expected, not '{sign}'; {hints}")
+        self.says(HEAD + "report = word \x07", "x:4:15: an expression expected, not '\\x07'")
+
+    def test_quotes(self):
+        quotes = "a keyword is written in double quotes, as"
+        for written, meant in (("'arc'", '"arc"'), ("'arc:'", '"arc" ":"'), ("\u201carc\u201d", '"arc"'), ("`", '"loss"')):
+            self.says(HEAD + f"report = {written} word", f"x:4:10: an expression expected, not {written}; {quotes} {meant}")
+        self.says("keywords 'arc'", f"x:1:10: a keyword in quotes, as \"loss\", expected, not 'arc'; {quotes} \"arc\"")
+        closed = 'this keyword is not closed: a second " is expected on its line'
+        self.says(HEAD + 'report = "loss', f"x:4:10: {closed}")
+        self.says('keywords "loss" ":\nstart report', f"x:1:17: {closed}")
+        self.says('start "', f"x:1:7: {closed}")
+        self.says(HEAD + 'report = & "loss', "x:4:10: an expression expected, not '&'; a keyword is written \"&\"")
+
+    def test_no_sign_goes_unseen(self):
+        """A sign that no word has is a fault, at its place or at the word before, wherever it is put."""
+        rules = 'report = (align entry)* !word / indent any (eol?) end\nentry = "loss" ":" line+\n'
+        words = [word.text for word in build.words_of(HEAD + rules)]
+        self.says("\n".join(words))
+        for sign in "&:;,.<>[]{}|%$@^~\\-'`_0\u00e4\x07":
+            for at in range(len(words)):
+                told = first_line("\n".join([*words[:at], sign, *words[at:]]))
+                self.assertRegex(told, f"^x:({at}|{at + 1}):1: .* expected, not ", sign)
 
     def test_statements(self):
-        self.says(HEAD + "report word", "x:4:1: keywords, start, mode or a rule `NAME = ..` expected, not report")
-        self.says("keywords loss", 'x:1:10: a keyword in quotes, as "loss", expected, not loss')
+        statement = "keywords, start, mode or a rule `NAME = ..` expected, not"
+        self.says(HEAD + "report word", f"x:4:1: {statement} report")
+        self.says("start report;", f"x:1:13: {statement} ';'; no sign ends a statement, and a comment begins with #")
+        self.says("// fibre", f"x:1:1: {statement} '//'; a comment begins with #")
+        for written, meant in (("Keywords", "keywords"), ("keyword", "keywords"), ("Start", "start"), ("modes", "mode")):
+            self.says(f"{written} x", f"x:1:1: {statement} {written}; is it {meant}?")
         self.says("start report\nreport = word", "x:2:14: there is no mode: a line `mode RELATION` is expected")
         self.says("mode any\nreport = word\n", "x:3:1: there is no start: a line `start NAME` is expected")
+        self.says("mode any\nreport = word\nStart report",
+                  "x:3:13: there is no start: a line `start NAME` is expected; Start at 3:1 is written start")
         self.says("", "x:1:1: there is no start: a line `start NAME` is expected")
-        self.says('keywords "say"hi""', "x:1:15: keywords, start, mode or a rule `NAME = ..` expected, not hi, "
-                  'and a keyword cannot hold a "')
-        self.says("mode any\nmode any", "x:2:1: mode is there twice")
-        self.says("mode all", "x:1:6: a relation (equal, greater, at-least or any) expected, not all")
+        self.says("mode any\nmode any", "x:2:1: mode is there twice; the first is at 1:1; in a rule it is position")
+        self.says("start a\nstart b", "x:2:1: start is there twice; the first is at 1:1")
         self.says("start (", "x:1:7: the name of the start rule expected, not '('")
+        self.says("start\nreport = word", "x:2:1: the name of the start rule expected, not the next rule, report")
+        for line, what in (("mode", "a relation (equal, greater, at-least or any)"), ("start", "the name of the start rule"),
+                           ("keywords", 'a keyword in quotes, as "loss",')):
+            for sign in ("=", ":", ":="):
+                hint = f"{line} is written without {sign}, and no rule can be named {line}"
+                self.says(f"{line} {sign} any", f"x:1:{len(line) + 2}: {what} expected, not '{sign}'; {hint}")
+                self.says(f"r = word\n{line} {sign} any", f"x:2:{len(line) + 2}: {what} expected, not '{sign}'; {hint}")
+
+    def test_keyword_lists(self):
+        more = "a keyword in quotes, keywords, start, mode or a rule `NAME = ..` expected, not"
+        self.says("keywords loss", 'x:1:10: a keyword in quotes, as "loss", expected, not loss')
+        self.says("keywords\nreport = word", 'x:2:1: a keyword in quotes, as "loss", expected, not the next rule, report')
+        self.says('keywords "loss", ":"', f"x:1:16: {more} ','; keywords and expressions are parted by blanks")
+        self.says('keywords "loss" :', f"x:1:17: {more} ':'; a keyword is written \":\"")
+        self.says('keywords "loss" gain', f"x:1:17: {more} gain")
+        self.says('keywords "a"\nStart r', "x:2:1: keywords, start, mode or a rule `NAME = ..` expected, not Start; "
+                  "is it start?")
+        self.says('keywords "a"\n"r" = word', f"x:2:5: {more} '='; a rule is written `NAME = ..`, its name without quotes")
+        behind = lambda keyword: f'right behind the keyword "{keyword}": no keyword holds a "'
+        self.says('keywords "say"hi""', f"x:1:15: {more} hi, {behind('say')}")
+        self.says('keywords "loss ":"', f"x:1:17: {more} ':', {behind('loss ')}; a keyword is written \":\"")
+
+    def test_rule_begins(self):
+        """A rule that is written with another sign, behind each kind of statement."""
+        for before in (HEAD, HEAD + "report = word\n", HEAD + "report = (word / eol)*\n", HEAD + 'keywords "gain"\n'):
+            line = before.count("\n") + 1
+            for sign in (":=", "::=", "==", "=>", "<-", "->"):
+                told = f"x:{line}:7: = expected, not '{sign}'; a rule is written `entry = ..`"
+                self.says(before + f"entry {sign} word", told)
+            told = f"x:{line}:6: = expected, not ':'; a rule is written `entry = ..`; a keyword is written \":\""
+            self.says(before + "entry: word", told)
+            for name in ("2entry", "_entry"):
+                told = f"the name of a rule expected, not '{name}'; a name begins with a letter from a to z"
+                self.says(before + f"{name} = word", f"x:{line}:1: {told}")
+        for name, meant in (("Keywords", "keywords"), ("Start", "start"), ("mode-s", "mode")):
+            self.says(f"{name}: any", f"x:1:{len(name) + 1}: = expected, not ':'; is it {meant}, without :?")
+        start = "x:1:7: the name of the start rule expected, not"
+        self.says("start 2report", f"{start} '2report'; a name begins with a letter from a to z")
+        self.says('start "report"', f'{start} the keyword "report"; a name is written without quotes')
+        self.says(HEAD + "report = word loss: number", "x:4:19: an expression expected, not ':'; a keyword is written \":\"")
+
+    def test_relations(self):
+        relation = "a relation (equal, greater, at-least or any) expected, not"
+        for written, meant in ((">", "greater"), (">=", "at-least"), ("=>", "at-least"), ("=", "equal"), ("==", "equal")):
+            for before in ("", "word "):
+                told = f"x:4:{17 + len(before)}: {relation} '{written}'; is it {meant}?"
+                self.says(HEAD + f"report = {before}indent {written} word", told)
+        for written, meant in (("at least", "at-least"), ("at_least", "at-least"), ("Any", "any"), ("equals", "equal")):
+            self.says(f"mode {written}", f"x:1:6: {relation} {written.split()[0]}; is it {meant}?")
+            self.says(HEAD + f"report = position {written} eol", f"x:4:19: {relation} {written.split()[0]}; is it {meant}?")
+        self.says("mode all", f"x:1:6: {relation} all")
+        self.says('mode "greater"', f'x:1:6: {relation} the keyword "greater"; is it greater?')
+        for sign in "=:(":
+            told = f"x:4:22: {relation} '{sign}'; write any without {sign}"
+            self.says(HEAD + f"report = word indent {sign} any eol", told)
+        self.says("mode // any", f"x:1:6: {relation} '//'; a comment begins with #")
+        self.says("mode\nreport = word", f"x:2:1: {relation} the next rule, report")
+        self.says(HEAD + "report = indent word", f"x:4:17: {relation} the reserved word word")
+        self.says(HEAD + "report = indent (word)", f"x:4:17: {relation} '('")
+        self.says(HEAD + 'report = position "loss"', f'x:4:19: {relation} the keyword "loss"')
 
     def test_expressions(self):
-        relation = "a relation (equal, greater, at-least or any) expected, not"
-        self.says(HEAD + "report = ", "x:4:10: an expression expected, not the end of the file")
-        self.says(HEAD + "report = word / * word", "x:4:17: an expression expected, not '*'")
+        none, nothing = "an expression expected, not", "for nothing write empty"
+        behind = "stands behind indent, position or mode"
+        self.says(HEAD + "report = ", f"x:4:10: {none} the end of the file")
+        self.says(HEAD + "report =\nentry = word", f"x:5:1: {none} the next rule, entry; {nothing}")
+        self.says(HEAD + "report = word /\nentry = word", f"x:5:1: {none} the next rule, entry; {nothing}")
+        self.says(HEAD + "report =\ntoken = word", f"x:5:1: {none} the next rule, token; {nothing}")
+        self.says(HEAD + "report = loss = eol", f'x:4:10: {none} the next rule, loss; {nothing}; a keyword is written "="')
+        self.says(HEAD + "report =\n2entry = word", f"x:5:1: {none} '2entry'; a name begins with a letter from a to z; "
+                  'a keyword is written "2entry"')
+        self.says(HEAD + 'report = word "loss" = eol', f"x:4:22: {none} '='; a rule is written `NAME = ..`, its name without "
+                  'quotes; a keyword is written "="')
+        self.says(HEAD + "report =\nstart report", f"x:5:1: {none} the reserved word start")
+        self.says(HEAD + "report = ()", f"x:4:11: {none} ')'; {nothing}; a keyword is written \")\"")
+        self.says(HEAD + "report = / word", f"x:4:10: {none} '/'; {nothing}; a keyword is written \"/\"")
+        self.says(HEAD + "report = word greater", f"x:4:15: {none} the reserved word greater; a relation {behind}")
+        self.says(HEAD + "report = any*", f"x:4:10: {none} the reserved word any; any one token is written token, "
+                  f"and the relation any {behind}")
+        self.says(HEAD + "report = mode any line", f"x:4:10: {none} the reserved word mode; in a rule it is position")
         self.says(HEAD + "report = (word eol", "x:4:19: / or the closing bracket of 4:10 expected, not the end of the file")
-        self.says(HEAD + "report = word) eol", "x:4:14: / or the next statement expected, not ')'")
-        self.says(HEAD + "report = indent word", f"x:4:17: {relation} the reserved word word")
-        self.says(HEAD + 'report = position "loss"', f'x:4:19: {relation} the keyword "loss"')
-        self.says(HEAD + "report = word greater", "x:4:15: an expression expected, not the reserved word greater")
-        self.says(HEAD + "report = " + "(" * 9000 + "word", "x: an expression is nested too deep")
+        self.says(HEAD + "report = (word\nb = eol", "x:5:1: / or the closing bracket of 4:10 expected, not the next rule, b")
+        self.says(HEAD + "report = word) eol", "x:4:14: / or the next statement expected, not ')'; no bracket is open here")
+
+    def test_depth(self):
+        """The place where an expression gets too deep, whatever it is nested by."""
+        deep = "an expression is nested over 1024 deep here; write what is inside as a rule"
+        for column, count, before, after in ((1034, 9000, "(", ")"), (1034, 9000, "!", ""), (1039, 9000, "", "+"),
+                                             (1880, 500, "(", "+++)")):
+            self.says(HEAD + "report = " + before * count + "word" + after * count, f"x:4:{column}: {deep}")
+        for before, after, count in (("(", ")", 1023), ("!(", ")", 511), ("", "?", 510), ("", "+", 255)):
+            self.says(HEAD + "report = " + before * count + "word" + after * count)
+        self.says(HEAD + "report = word\n" + "\n".join(f"r{i} = " + "word " * 300 for i in range(5)))
 
     def test_reserved(self):
         reserved = (
@@ -90,7 +207,7 @@ class Messages(unittest.TestCase):
         )
         expected = "the name of a rule expected, not the reserved word"
         self.says(HEAD + "report = word\ntoken = word", f"x:5:1: {expected} token; {reserved}")
-        self.says(HEAD + "report = word\nmode = word", f"x:5:1: {expected} mode; {reserved}")
+        self.says(HEAD + "report = word\nindent = word", f"x:5:1: {expected} indent; {reserved}")
         self.says("start end", f"x:1:7: the name of the start rule expected, not the reserved word end; {reserved}")
 
     def test_rules_not_there(self):
@@ -114,10 +231,14 @@ class Messages(unittest.TestCase):
             ("numbers", "the reserved word number"),
             ("EOL", "the reserved word eol"),
             ("eof", "the reserved word end"),
+            ("newline", "the reserved word eol"),
             ("Tokens", "the reserved word token"),
             ("idnent", "the reserved word indent"),
             ("not", "the sign `!`"),
             ("or", "the sign `/`"),
+            ("repeat", "the sign `*` behind an expression"),
+            ("Optional", "the sign `?` behind an expression"),
+            ("then", "a blank, as in `number eol`"),
             ("Lines", "lines"),
             ("line-s", "lines"),
         ):
