@@ -787,47 +787,68 @@ class Facts:
         self.well[number] = known or self.is_well(number)
         return known != self.well[number]
 
-    def is_well(self, number):
+    def needs(self, number):
+        """The nodes that a node may come to before a token is read: they must be well formed for it to be."""
         kind, _, b, _ = self.nodes[number]
         if kind in (EMPTY, TERMINAL):
-            return True
+            return ()
         a = self.child(number)
-        if kind == SEQUENCE:
-            return self.well[a] and (self.well[b] or not self.nothing[a])
-        if kind == CHOICE:
-            return self.well[a] and self.well[b]
-        return self.well[a] and not (kind == REPEAT and self.nothing[a])
+        return (a, b) if kind == CHOICE or (kind == SEQUENCE and self.nothing[a]) else (a,)
 
-    def next_bad(self, number):
-        """The node inside a bad one that makes it so; none for a repeat over what may read nothing."""
-        kind, _, b, _ = self.nodes[number]
-        a = self.child(number)
-        if kind == REPEAT and self.nothing[a]:
-            return None
-        return a if not self.well[a] else b
+    def is_well(self, number):
+        repeats_nothing = self.nodes[number][0] == REPEAT and self.nothing[self.child(number)]
+        return not repeats_nothing and all(self.well[node] for node in self.needs(number))
+
+    def called(self, rule):
+        """The rules that a rule may come to before a token is read, not through others."""
+        found, seen, ahead = set(), set(), [self.rules[rule]]
+        while ahead:
+            number = ahead.pop()
+            if self.nodes[number][0] == RULE:
+                found.add(self.nodes[number][1])
+            elif number not in seen:
+                ahead += self.needs(number)
+            seen.add(number)
+        return sorted(found)
+
+
+def empty_repeats(grammar, facts):
+    """Each repeat of what may read nothing: its place, and what is told of it."""
+    for rule in grammar.source.rules:
+        for inner in expressions_of(rule.expression):
+            if inner.form in ("*", "+") and facts.nothing[grammar.number(rule.name, inner.parts[0])]:
+                text = f"{text_of(inner)} repeats what may succeed without reading a token"
+                yield inner.place, f"rule {rule.name}: {text}"
+
+
+def way_back(called, rule):
+    """The shortest way from a rule to itself, from its lowest rule on; none if there is no way."""
+    ways, seen = [(rule,)], set()
+    for way in ways:
+        if rule in called[way[-1]]:
+            lowest = way.index(min(way))
+            return way[lowest:] + way[:lowest]
+        ways += [(*way, other) for other in called[way[-1]] if other not in seen]
+        seen.update(called[way[-1]])
+    return None
+
+
+def left_recursions(grammar, facts):
+    """For each rule that comes back to itself before a token is read the shortest way, each way once."""
+    called = [facts.called(rule) for rule in range(len(facts.rules))]
+    for way in {way_back(called, rule) for rule in range(len(called))} - {None}:
+        names = [grammar.names[rule] for rule in (*way, way[0])]
+        text = f"it comes back to itself before a token is read, {' -> '.join(names)}"
+        yield grammar.source.rules[way[0]].place, f"rule {names[0]} is left recursive: {text}"
 
 
 def well_formed_faults(grammar):
-    """7: the lowest node that is not well formed, and why it is not."""
-    rules = list(grammar.rules.values())
-    facts = Facts(grammar.nodes, rules)
+    """7: all causes why nodes are not well formed, and the lowest such node."""
+    facts = Facts(grammar.nodes, list(grammar.rules.values()))
     if all(facts.well):
         return []
-    lowest = facts.well.index(False)
-    path, number = [], lowest
-    while number is not None and number not in path:
-        path.append(number)
-        number = facts.next_bad(number)
-    if number is None:
-        origin = grammar.origins[path[-1]]
-        text = f"rule {origin.rule}: {text_of(origin.expression)} repeats what may succeed without reading a token"
-        return [Fault(origin.place, text, 7, lowest)]
-    cycle = [grammar.nodes[at][1] for at in path[path.index(number) :] if grammar.nodes[at][0] == RULE]
-    first = cycle.index(min(cycle))
-    names = [grammar.names[rule] for rule in cycle[first:] + cycle[:first]]
-    way = " -> ".join(names + names[:1])
-    text = f"rule {names[0]} is left recursive: it comes back to itself before a token is read, {way}"
-    return [Fault(grammar.source.rules[min(cycle)].place, text, 7, lowest)]
+    causes = sorted([*empty_repeats(grammar, facts), *left_recursions(grammar, facts)])
+    return [Fault(place, text, 7, facts.well.index(False)) for place, text in causes]
 
 
 def refusals(grammar):

@@ -8,6 +8,8 @@ LIBRARY is the reader as a shared library (trials/library.py says how it is made
 
 import pathlib
 import random
+import re
+import shutil
 import subprocess
 import sys
 import tempfile
@@ -444,6 +446,37 @@ class Refusals(unittest.TestCase):
             self.assertEqual(first_line(HEAD + rules), f"x:{place}: {text} (the reader would answer: {answer})")
         self.same(HEAD + "report = (!empty)*", "passed")
         self.same(HEAD + "report = word report / empty", "passed")
+
+    def test_7_all(self):
+        """Each cause is told once, at its place, all with the reader's node; a rule that only leads to one is not told."""
+        reads = "repeats what may succeed without reading a token"
+        left = "is left recursive: it comes back to itself before a token is read,"
+        comes = lambda way: f"rule {way[0]} {left} {' -> '.join(way)}"
+        for rules, answer, *told in (
+            ("report = b c d e\nb = b word\nc = c eol\nd = (word?)*\ne = !b d", "refused 7 0",
+             f"5:1: {comes('bb')}", f"6:1: {comes('cc')}", f"7:6: rule d: (word?)* {reads}"),
+            ("report = b\nb = c\nc = d b\nd = word?\ne = b", "refused 7 0", f"5:1: {comes('bcb')}"),
+            ("report = b\nb = c / d / b word\nc = !word b\nd = b", "refused 7 0",
+             f"5:1: {comes('bb')}", f"5:1: {comes('bcb')}", f"5:1: {comes('bdb')}"),
+            ("report = b c\nb = (eol?)* c\nc = (eol?)+", "refused 7 0",
+             f"5:6: rule b: (eol?)* {reads}", f"6:6: rule c: (eol?)+ {reads}"),
+            ("report = word\nb = (word? / (eol?)*)* word", "refused 7 5",
+             f"5:6: rule b: (word? / (eol?)*)* {reads}", f"5:15: rule b: (eol?)* {reads}"),
+        ):
+            self.same(HEAD + rules, answer)
+            self.assertEqual(faults_of(HEAD + rules), [f"x:{line} (the reader would answer: {answer})" for line in told])
+
+    def test_7_none_is_missed(self):
+        """Where all rules that are told of random grammars read a word instead, the rest passes."""
+        chance, mended = random.Random(SEED), 0
+        for _ in range(GRAMMARS):
+            text = random_grammar(chance)
+            told = " ".join(faults_of(text))
+            for name in set(re.findall(r"(?:rule|->) (r\d)", told)):
+                text = re.sub(f"(?m)^{name} = .*$", f"{name} = word", text)
+            self.assertEqual(faults_of(text), [], text)
+            mended += "rule" in told
+        self.assertGreater(mended, GRAMMARS // 5)
 
     def test_random(self):
         """Random grammars: the verdict and the node are the reader's."""
