@@ -30,6 +30,7 @@ already is written over only if it is a grammar file, or empty.
 import argparse
 import difflib
 import errno
+import itertools
 import re
 import sys
 from pathlib import Path
@@ -107,16 +108,15 @@ class Place(NamedTuple):
 class Fault(NamedTuple):
     """What is wrong, where, and by which number the reader would refuse it (0: it is no grammar at all)."""
 
-    place: Optional[Place]
+    place: Place
     text: str
     number: int = 0
     node: Optional[int] = None
 
     def line(self, path):
         """The message of a fault, as a line."""
-        where = f"{path}:{self.place}" if self.place else str(path)
         answer = f" (the reader would answer: {self.answer()})" if self.number else ""
-        return f"{where}: {self.text}{answer}"
+        return f"{path}:{self.place}: {self.text}{answer}"
 
     def answer(self):
         return f"refused {self.number}" + ("" if self.node is None else f" {self.node}")
@@ -641,13 +641,22 @@ class Grammar:
         position = self.node(origin, POSITION, self.token(origin), relation=ANY)
         return self.node(origin, NOT, self.node(origin, INDENT, position, relation=ANY))
 
+    def sizes(self):
+        """How many bytes each field of the grammar file has: the first one, keywords, rules, nodes, the start."""
+        keywords = [3 + len(spelling.encode()) for spelling in self.keywords]
+        return [4, *keywords, *(5 + len(name.encode()) for name in self.rules), *[9] * len(self.nodes), 6]
+
     def bytes(self):
         """How many bytes the grammar file has."""
-        keywords = sum(3 + len(spelling.encode()) for spelling in self.keywords)
-        return 4 + keywords + sum(5 + len(name.encode()) for name in self.rules) + 9 * len(self.nodes) + 6
+        return sum(self.sizes())
 
     def summary(self):
-        return f"{len(self.nodes)} nodes, {len(self.rules)} rules, {len(self.keywords)} keywords, {self.bytes()} bytes"
+        nodes, rules = counted(len(self.nodes), "node"), counted(len(self.rules), "rule")
+        return f"{nodes}, {rules}, {counted(len(self.keywords), 'keyword')}, {self.bytes()} bytes"
+
+
+def counted(count, what):
+    return f"{count} {what}" if count == 1 else f"{count} {what}s"
 
 
 # Checks: what the reader refuses by 1, 2, 3 and 7. What is built here never gives 4 or 5.
@@ -661,8 +670,16 @@ def file_faults(grammar):
         faults.append(Fault(place, f"{len(grammar.keywords)} keywords, and at most {MOST_KEYWORDS} can be", 1))
     if grammar.bytes() > MOST_BYTES:
         text = f"the grammar file would have {grammar.bytes()} bytes, and at most {MOST_BYTES} can be"
-        faults.append(Fault(None, text, 1))
+        faults.append(Fault(too_far(grammar), text, 1))
     return faults
+
+
+def too_far(grammar):
+    """The place of the first field that ends behind the last byte that can be."""
+    source = grammar.source
+    fields = [source.start, *source.keywords, *source.rules, *grammar.origins, source.start]
+    ends = itertools.accumulate(grammar.sizes())
+    return next(field.place for field, end in zip(fields, ends) if end > MOST_BYTES)
 
 
 def spelling_faults(source):
@@ -725,11 +742,12 @@ def size_faults(grammar):
         origin = grammar.origins[MOST_NODES]
         text = f"rule {origin.rule}: {len(grammar.nodes)} nodes, and at most {MOST_NODES} can be"
         if grammar.taken:
-            text += f"; token, line and end take {len(grammar.taken)} of them, for {len(grammar.keywords)} keywords"
+            taken, keywords = len(grammar.taken), counted(len(grammar.keywords), "keyword")
+            text += f"; token, line and end take {taken} of them, for {keywords}"
         faults.append(Fault(origin.place, text, 3))
     if len(grammar.rules) > MOST_RULES:
-        place = grammar.source.rules[MOST_RULES].place
-        faults.append(Fault(place, f"{len(grammar.rules)} rules, and at most {MOST_RULES} can be", 3))
+        rule = grammar.source.rules[MOST_RULES]
+        faults.append(Fault(rule.place, f"rule {rule.name}: {len(grammar.rules)} rules, and at most {MOST_RULES} can be", 3))
     return faults
 
 
@@ -917,7 +935,7 @@ def spelled(grammar, words):
 
 def node_lines(grammar):
     """A line for each node, then one for each rule."""
-    width = max(len(name) for name in grammar.rules)
+    width = max(len(name) for name in ("rule", *grammar.rules))
     yield f"node  kind       a     b     relation  {'rule':{width}}  place    in words"
     for number, (words, origin) in enumerate(zip(grammar.nodes, grammar.origins)):
         kind, a, b, relation = words
@@ -931,8 +949,11 @@ def node_lines(grammar):
 def version():
     """The version, which stands in the header of the C interface."""
     header = Path(__file__).resolve().parent.parent / "include" / "saktroum.h"
-    found = re.search(r'^#define SAKTROUM_VERSION "(.*)"$', header.read_text(encoding="utf-8"), re.MULTILINE)
-    return found[1] if found else "unknown"
+    text = header.read_text(encoding="utf-8") if header.is_file() else ""
+    found = re.search(r'^#define SAKTROUM_VERSION "(.*)"$', text, re.MULTILINE)
+    if not found:
+        sys.exit("the version is not known: include/saktroum.h, where it stands, is not beside the folder of this build.py")
+    return found[1]
 
 
 def options():
@@ -953,10 +974,22 @@ def options():
     return given
 
 
+def text_in(file):
+    """The text of a file. Each kind of line end is one."""
+    if file.startswith(FIRST_FIELD):
+        raise Faults(Fault(Place(1, 1), "a grammar in words expected, not a grammar file; GRAMMAR comes before FILE"))
+    try:
+        return re.sub("\r\n?", "\n", file.decode("utf-8-sig"))
+    except UnicodeDecodeError as wrong:
+        before = re.sub("\r\n?", "\n", wrong.object[: wrong.start].decode())
+        place = Place(before.count("\n") + 1, len(before) - before.rfind("\n"))
+        byte = wrong.object[wrong.start]
+        raise Faults(Fault(place, f"text in UTF-8 expected, not the byte {byte}; save the file as UTF-8")) from None
+
+
 def build(given):
     """Lists the nodes, or builds the file."""
-    text = Path(given.grammar).read_text(encoding="utf-8-sig")
-    grammar = grammar_of(text)
+    grammar = grammar_of(text_in(Path(given.grammar).read_bytes()))
     for warning in unused(grammar.source):
         print(warning.line(given.grammar), file=sys.stderr)
     if given.nodes:
@@ -987,8 +1020,6 @@ def main():
             build(given)
     except Faults as wrong:
         sys.exit("\n".join(fault.line(given.grammar) for fault in wrong.faults))
-    except UnicodeDecodeError as wrong:
-        sys.exit(f"{given.grammar}: no UTF-8 text: {wrong.reason} at byte {wrong.start}")
     except OSError as wrong:
         sys.exit(f"{wrong.filename or 'standard output'}: {wrong.strerror}")
 

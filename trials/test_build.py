@@ -380,8 +380,11 @@ class Refusals(unittest.TestCase):
         self.same(self.keywords("k" * 65502), "refused 2")
         self.same(self.keywords("k" * 65503), "refused 1")
         self.assertEqual(first_line(self.keywords("k" * 65503)),
-                         "x: the grammar file would have 65536 bytes, and at most 65535 can be "
+                         "x:2:7: the grammar file would have 65536 bytes, and at most 65535 can be "
                          "(the reader would answer: refused 1)")
+        for length, place in ((65529, "1:10"), (65528, "1:65541"), (65515, "4:1"), (65505, "4:10"), (65500, "4:15")):
+            text = self.keywords("k" * length, "l").replace("= word", "= word eol")
+            self.assertRegex(first_line(text), f"^x:{place}: the grammar file would have 655.. bytes, ")
         self.same(self.keywords("a b", *(f"k{i}" for i in range(254))), "refused 1")
 
     def test_2(self):
@@ -418,7 +421,7 @@ class Refusals(unittest.TestCase):
         self.same(self.rules(128), "passed")
         self.same(self.rules(129), "refused 3")
         self.assertEqual(first_line(self.rules(129)),
-                         "x:131:1: 129 rules, and at most 128 can be (the reader would answer: refused 3)")
+                         "x:131:1: rule r128: 129 rules, and at most 128 can be (the reader would answer: refused 3)")
         self.same("start r\nmode any\nr = " + "!" * 511 + "word", "passed")
         self.same("start r\nmode any\nr = " + "!" * 512 + "word", "refused 3")
         self.assertEqual(first_line("start r\nmode any\nr = " + "!" * 512 + "word"),
@@ -428,6 +431,8 @@ class Refusals(unittest.TestCase):
             self.same(text, answer)
         self.assertEqual(first_line(text), "x:4:10: rule report: 514 nodes, and at most 512 can be; "
                          "token, line and end take 514 of them, for 253 keywords (the reader would answer: refused 3)")
+        text = self.keywords("a").replace("= word", "= end " + "!" * 511 + "word")
+        self.assertIn("take 10 of them, for 1 keyword (", first_line(text))
 
     def test_7(self):
         reads = "repeats what may succeed without reading a token"
@@ -515,8 +520,8 @@ def random_expression(chance, names, depth):
 class Command(unittest.TestCase):
     """The builder as it is started."""
 
-    def start(self, *words):
-        command = [sys.executable, str(ROOT / "tools/build.py"), *words]
+    def start(self, *words, builder=ROOT / "tools/build.py"):
+        command = [sys.executable, str(builder), *words]
         done = subprocess.run(command, capture_output=True, text=True, cwd=self.folder.name)
         return done.returncode, done.stdout, done.stderr
 
@@ -566,6 +571,53 @@ class Command(unittest.TestCase):
         self.assertEqual(lines[4], "3     terminal   1     0     0         report  4:17     word  (of line)")
         self.assertEqual(lines[-1], "rule 0, report, is node 12")
         self.assertEqual((status, err[:16]), (1, "x.grammar:4:10: "))
+        self.write("start r\nmode any\nr = word")
+        self.assertEqual(self.start("--nodes", "x.grammar"), (0, "\n".join((
+            "node  kind       a     b     relation  rule  place    in words",
+            "0     terminal   1     0     0         r     3:5      word",
+            "rule 0, r, is node 0\n")), ""))
+
+    def test_counts(self):
+        for rules, says in (
+            ("r = word", "1 node, 1 rule, 0 keywords"),
+            ('r = "a"\nkeywords "a"', "1 node, 1 rule, 1 keyword"),
+            ("r = word eol\ns = r", "4 nodes, 2 rules, 0 keywords"),
+        ):
+            self.write(f"start r\nmode any\n{rules}")
+            self.assertRegex(self.start("x.grammar", "x.bin")[1], f"^x.bin: {says}, [0-9]+ bytes\n$")
+
+    def test_line_ends(self):
+        """Line ends of other systems count as line ends, in comments and in places too."""
+        grammar = "# one\n" + HEAD + "report = word # two\nentry = &\n"
+        for end in ("\n", "\r\n", "\r"):
+            self.write(grammar.replace("\n", end))
+            self.assertEqual(self.start("x.grammar", "x.bin")[2],
+                             "x.grammar:6:9: an expression expected, not '&'; a keyword is written \"&\"\n")
+            self.write(grammar.replace("&", "eol").replace("\n", end))
+            self.assertEqual(self.start("x.grammar", "x.bin")[0], 0)
+
+    def test_no_text(self):
+        save = "save the file as UTF-8"
+        for file, place, byte in ((b"\xff\xfe", "1:1", 255), (b"start r\n# \xc3\xa4 \xe4", "2:5", 228),
+                                  (b"\xef\xbb\xbf\xff", "1:1", 255), (b"\r\n\r\r\n \xc3", "4:2", 195)):
+            self.write(file)
+            told = f"x.grammar:{place}: text in UTF-8 expected, not the byte {byte}; {save}\n"
+            self.assertEqual(self.start("x.grammar", "x.bin"), (1, "", told))
+        self.write(build.built(HEAD + "report = word")[1])
+        told = "x.grammar:1:1: a grammar in words expected, not a grammar file; GRAMMAR comes before FILE\n"
+        self.assertEqual(self.start("x.grammar", "x.bin"), (1, "", told))
+        self.write(bytes(range(256)))
+        self.assertRegex(self.start("x.grammar", "x.bin")[2], "^x.grammar:[0-9]+:[0-9]+: ")
+        self.assertEqual(self.start(".", "x.bin"), (1, "", ".: Is a directory\n"))
+
+    def test_copied_alone(self):
+        """The builder without the rest of the repository builds, and does not know its version."""
+        copy = pathlib.Path(self.folder.name) / "copy.py"
+        shutil.copy(ROOT / "tools/build.py", copy)
+        told = "the version is not known: include/saktroum.h, where it stands, is not beside the folder of this build.py\n"
+        self.assertEqual(self.start("--version", builder=copy), (1, "", told))
+        self.write(HEAD + "report = word")
+        self.assertEqual(self.start("x.grammar", "x.bin", builder=copy)[0], 0)
 
     def test_words(self):
         header = (ROOT / "include/saktroum.h").read_text()
@@ -577,8 +629,6 @@ class Command(unittest.TestCase):
         self.assertEqual(self.start("x.grammar")[0], 2)
         self.assertEqual(self.start("--nodes", "x.grammar", "x.bin")[0], 2)
         self.assertEqual(self.start("x.grammar", "x.bin"), (1, "", "x.grammar: No such file or directory\n"))
-        self.write(b"\xff\xfe")
-        self.assertEqual(self.start("x.grammar", "x.bin"), (1, "", "x.grammar: no UTF-8 text: invalid start byte at byte 0\n"))
         self.write(HEAD + "report = word")
         self.assertEqual(self.start("x.grammar", "no/x.bin"), (1, "", "no/x.bin: No such file or directory\n"))
 
