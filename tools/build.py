@@ -472,36 +472,37 @@ def near(name, names, least=0.6):
 
 
 def unknown_rule(source, name, place, reserved=()):
-    """A rule that is not there. Reserved: the words of the notation that could have been meant."""
-    names, spellings = [rule.name for rule in source.rules], {word.text for word in source.keywords}
+    """A rule that is not there. Reserved: the words of the notation that could have been meant; none as the start."""
+    names, spellings = [rule.name for rule in source.rules], [word.text[1:-1] for word in source.keywords]
+    keyword = name if name in spellings else near(name, spellings, 1)
     like = near(name, filter(None, (near(name, reserved, 0.8), near(name, names))))
     declared = f"rule is declared by a line `{name} = ..`"
-    if f'"{name}"' in spellings:
-        hint = f'the keyword is written "{name}"'
+    if reserved and keyword:
+        hint = f'the keyword is written "{keyword}"'
     elif reserved and name.lower() in ELSEWHERE:
         hint = f"is it {ELSEWHERE[name.lower()]}? A {declared}"
     elif like:
         hint = f"is it {like if like in names else f'the reserved word {like}'}? A {declared}"
     else:
-        hint = f"a {declared}"
+        hint = f"a {declared}" + (f', and a keyword is written "{name}"' if reserved else "")
     return Fault(place, f"no rule is named {name}; {hint}")
 
 
 def unknown_keyword(source, spelling, place):
     """A keyword that is not there, and how it could be; where its spelling is wrong, that it cannot be."""
-    spellings = [word.text[1:-1] for word in source.keywords]
-    missing, parts = f'"{spelling}" is not among the keywords', parts_of(spelling)
-    if wrong_spelling(spelling):
-        quote = "" if spelling else ', and no keyword holds a "'
-        return Fault(place, f"{missing} and cannot be: it {wrong_spelling(spelling)}{quote}")
-    if len(parts) > 1:
-        return Fault(place, f"{missing} and cannot be: it {holds_single(parts)}; write {quoted(parts)}")
-    like = near(spelling, [other for other in spellings if not wrong_spelling(other) and len(parts_of(other)) == 1])
+    spellings, names = [word.text[1:-1] for word in source.keywords], [rule.name for rule in source.rules]
+    missing, wrong, cut = f'"{spelling}" is not among the keywords', wrong_keyword(spelling), cut_of(spelling)
+    if wrong:
+        hint = f"; write {quoted(cut)}" if cut else "" if spelling else ', and no keyword holds a "'
+        return Fault(place, f"{missing} and cannot be: it {wrong}{hint}")
+    like = near(spelling, [other for other in spellings if not wrong_keyword(other)])
     if source.keywords:
         hint = f"add it to the keywords of line {source.keywords[0].place.line}"
     else:
         hint = f'declare it by a line `keywords "{spelling}"`'
-    if like:
+    if spelling in (*IN_EXPRESSIONS, *names):
+        hint = f"is it {spelling}, without quotes? Otherwise {hint}"
+    elif like:
         hint = f'is it "{like}"? Otherwise {hint}'
     return Fault(place, f"{missing}; {hint}")
 
@@ -687,7 +688,9 @@ def spelling_faults(source):
     faults, first, named = [], {}, {word.text[1:-1] for word in source.keywords}
     for word in source.keywords:
         spelling = word.text[1:-1]
-        wrong = wrong_spelling(spelling) or wrong_single(spelling, named)
+        wrong = wrong_keyword(spelling)
+        if wrong:
+            wrong += instead(spelling, named)
         if spelling in first:
             wrong = f"is there twice; the first is at {first[spelling]}"
         first.setdefault(spelling, word.place)
@@ -712,23 +715,33 @@ def wrong_spelling(spelling):
     return None
 
 
-def wrong_single(spelling, named):
-    """A keyword that the scanner cuts: which of its parts are still to be named. They count as named from then on."""
-    parts = parts_of(spelling)
-    if len(parts) < 2:
-        return None
-    missing = [part for part in dict.fromkeys(parts) if part not in named]
-    named.update(missing)
-    return f"{holds_single(parts)}; " + (f"write {quoted(missing)}" if missing else "leave it out, its parts are keywords")
+def wrong_keyword(spelling):
+    """What is wrong with a keyword, if anything is."""
+    single = next((sign for sign in spelling if sign in SINGLES), None)
+    if wrong_spelling(spelling) or not single or len(spelling) == 1:
+        return wrong_spelling(spelling)
+    return f"holds '{single}', which is a token by itself"
 
 
 def parts_of(spelling):
     """The tokens that the scanner cuts a spelling into: each of the nine single bytes is one by itself."""
-    return re.findall(r"[:,()\[\]=;%]|[^:,()\[\]=;%]+", spelling)
+    return re.findall(r"[:,()\[\]=;%]|[^:,()\[\]=;%\x00-\x20\x7f]+", spelling)
 
 
-def holds_single(parts):
-    return f"holds '{next(part for part in parts if part in SINGLES)}', which is a token by itself"
+def cut_of(spelling):
+    """What can be written for a wrong keyword: its parts, if they are right."""
+    parts = parts_of(spelling)
+    return [] if parts == [spelling] or any(map(wrong_spelling, parts)) else parts
+
+
+def instead(spelling, named):
+    """What is told of a wrong keyword: those of its parts that are not named. They count as named from then on."""
+    parts = cut_of(spelling)
+    missing = [part for part in dict.fromkeys(parts) if part not in named]
+    named.update(missing)
+    if missing:
+        return f"; write {quoted(missing)}"
+    return "; leave it out, its parts are keywords" if parts else ""
 
 
 def quoted(spellings):

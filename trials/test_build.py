@@ -216,11 +216,15 @@ class Messages(unittest.TestCase):
         declared = lambda name: f"rule is declared by a line `{name} = ..`"
         like = f"is it entry? A {declared('entri')}"
         self.says(HEAD + "report = entri eol\nentry = word", f"x:4:10: no rule is named entri; {like}")
-        self.says(HEAD + "report = other", f"x:4:10: no rule is named other; a {declared('other')}")
-        self.says(HEAD + "report = loss", 'x:4:10: no rule is named loss; the keyword is written "loss"')
+        other = lambda name: f"a {declared(name)}, and a keyword is written \"{name}\""
+        self.says(HEAD + "report = other", f"x:4:10: no rule is named other; {other('other')}")
+        for name in ("loss", "Loss"):
+            self.says(HEAD + f"report = {name}", f'x:4:10: no rule is named {name}; the keyword is written "loss"')
+        self.says('keywords "loss"\nstart loss\nmode any\nreport = word',
+                  f"x:2:7: no rule is named loss; a {declared('loss')}")
         like = f"is it report? A {declared('repot')}"
         self.says("start repot\nmode any\nreport = word", f"x:1:7: no rule is named repot; {like}")
-        both = [f"x:4:{c}: no rule is named {name}; a {declared(name)}" for c, name in ((10, "one"), (14, "two"))]
+        both = [f"x:4:{c}: no rule is named {name}; {other(name)}" for c, name in ((10, "one"), (14, "two"))]
         self.says(HEAD + "report = one two", *both)
         twice = "x:5:1: rule report is there twice; the first is at 4:1 (the reader would answer: refused 2)"
         self.says(HEAD + "report = word\nreport = eol", twice)
@@ -246,7 +250,8 @@ class Messages(unittest.TestCase):
         ):
             told = f"x:4:10: no rule is named {name}; is it {meant}? A {declared(name)}"
             self.says(HEAD + f"report = {name} lines\nlines = word", told)
-        self.says(HEAD + "report = entry", f"x:4:10: no rule is named entry; a {declared('entry')}")
+        told = f"x:4:10: no rule is named entry; a {declared('entry')}, and a keyword is written \"entry\""
+        self.says(HEAD + "report = entry", told)
         self.says("start numbers\nmode any\nreport = word", f"x:1:7: no rule is named numbers; a {declared('numbers')}")
 
     def test_keywords_not_there(self):
@@ -254,6 +259,9 @@ class Messages(unittest.TestCase):
         self.says(HEAD + 'report = "arc"', f'x:4:10: "arc" {missing} {add}')
         self.says(HEAD + 'report = "los"', f'x:4:10: "los" {missing} is it "loss"? Otherwise {add}')
         self.says('start r\nmode any\nr = "arc"', f'x:3:5: "arc" {missing} declare it by a line `keywords "arc"`')
+        for name in ("number", "end", "entry"):
+            quotes = f"is it {name}, without quotes? Otherwise {add}"
+            self.says(HEAD + f'report = "{name}"\nentry = word', f'x:4:10: "{name}" {missing} {quotes}')
 
     def test_keywords_that_cannot_be(self):
         """No spelling is told that the reader would refuse."""
@@ -262,7 +270,8 @@ class Messages(unittest.TestCase):
         self.says(HEAD + 'report = "loss:"', f'x:4:10: "loss:" {cannot} {single} "loss" ":"')
         self.says(HEAD + 'report = "a:b:"', f'x:4:10: "a:b:" {cannot} {single} "a" ":" "b" ":"')
         self.says(HEAD + 'report = ""', f'x:4:10: "" {cannot} is empty, and no keyword holds a "')
-        self.says(HEAD + 'report = "a b"', f'x:4:10: "a b" {cannot} holds a blank or a control character')
+        self.says(HEAD + 'report = "a b"', f'x:4:10: "a b" {cannot} holds a blank or a control character; write "a" "b"')
+        self.says(HEAD + 'report = " "', f'x:4:10: " " {cannot} holds a blank or a control character')
         self.says('keywords "loss:"\nstart r\nmode any\nr = "loss"',
                   f'x:1:10: the keyword "loss:" {single} "loss" ":" (the reader would answer: refused 2)',
                   'x:4:5: "loss" is not among the keywords; add it to the keywords of line 1')
@@ -392,9 +401,12 @@ class Refusals(unittest.TestCase):
             ("", "is empty"),
             ("k" * 33, "has 33 bytes, and at most 32 can be"),
             ("µ" * 17, "has 34 bytes, and at most 32 can be"),
-            ("a b", "holds a blank or a control character"),
-            ("a\tb", "holds a blank or a control character"),
-            ("a\x7f", "holds a blank or a control character"),
+            ("a b", 'holds a blank or a control character; write "a" "b"'),
+            ("a\tb", 'holds a blank or a control character; write "a" "b"'),
+            ("a\x7f", 'holds a blank or a control character; write "a"'),
+            (" ", "holds a blank or a control character"),
+            ("k" * 32 + ":", 'has 33 bytes, and at most 32 can be; write "' + "k" * 32 + '" ":"'),
+            ("k" * 33 + ":", "has 34 bytes, and at most 32 can be"),
             ("loss:", "holds ':', which is a token by itself; write \"loss\" \":\""),
             ("a(b", "holds '(', which is a token by itself; write \"a\" \"(\" \"b\""),
             ("%%", "holds '%', which is a token by itself; write \"%\""),
