@@ -374,7 +374,7 @@ class Parser:
     def relation(self):
         word, after = self.word(), self.word(1).text
         if word.text not in RELATIONS:
-            like = RELATIONS_ELSEWHERE.get(word.text) or near(word.text.strip('"'), RELATIONS)
+            like = RELATIONS_ELSEWHERE.get(word.text) or near(word.text, RELATIONS)
             apart = word.text in ("=", ":", "(") and after in RELATIONS
             hint = f"write {after} without {word.text}" if apart else like and f"is it {like}?"
             raise self.expected("a relation (equal, greater, at-least or any)", hint)
@@ -731,7 +731,7 @@ def parts_of(spelling):
 def cut_of(spelling):
     """What can be written for a wrong keyword: its parts, if they are right."""
     parts = parts_of(spelling)
-    return [] if parts == [spelling] or any(map(wrong_spelling, parts)) else parts
+    return [] if any(map(wrong_spelling, parts)) else parts
 
 
 def instead(spelling, named):
