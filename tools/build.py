@@ -30,6 +30,7 @@ already is written over only if it is a grammar file, or empty.
 import argparse
 import difflib
 import errno
+import itertools
 import re
 import sys
 from pathlib import Path
@@ -55,10 +56,40 @@ IN_EXPRESSIONS = ("align", "indent", "position", "empty", *TERMINALS, *BUILT_IN)
 RESERVED = (*STATEMENTS, *IN_EXPRESSIONS, *RELATIONS)
 
 # What other notations write, and what it is called here.
-ELSEWHERE = {"not": "the sign `!`", "or": "the sign `/`", "eof": "the reserved word end", "newline": "the reserved word eol"}
+ELSEWHERE = {
+    "not": "the sign `!`",
+    "or": "the sign `/`",
+    "repeat": "the sign `*` behind an expression",
+    "optional": "the sign `?` behind an expression",
+    "then": "a blank, as in `number eol`",
+    "eof": "the reserved word end",
+    "newline": "the reserved word eol",
+}
+RELATIONS_ELSEWHERE = {">": "greater", ">=": "at-least", "=>": "at-least", "=": "equal", "==": "equal", "at": "at-least"}
+EQUALS_ELSEWHERE = (":=", "::=", "==", "=>", "<-", "->")
 
-# Enough for a table's 512 nodes one in the other, each in brackets.
-DEEPEST = 6000
+# What is told of a sign where it cannot stand: anywhere, and where an expression is expected.
+SIGNS = {
+    **dict.fromkeys(EQUALS_ELSEWHERE, "a rule is written `NAME = ..`"),
+    **dict.fromkeys(("//", "/*", "(*", "--", "%"), "a comment begins with #"),
+    "=": "a rule is written `NAME = ..`, its name without quotes",
+    ",": "keywords and expressions are parted by blanks",
+    ";": "no sign ends a statement, and a comment begins with #",
+    "\\": "a rule goes on in the next line without a sign",
+}
+INSTEAD_OF_EXPRESSIONS = {
+    "|": "a choice is written with /",
+    "[": "once or not at all is written `(..)?`",
+    "{": "any number of times is written `(..)*`",
+    **{sign: f"{sign} stands behind an expression" for sign in "*+?"},
+    **dict.fromkeys("/)", "for nothing write empty"),
+    **dict.fromkeys(RELATIONS, "a relation stands behind indent, position or mode"),
+    "any": "any one token is written token, and the relation any stands behind indent, position or mode",
+    "mode": "in a rule it is position",
+}
+
+# How deep an expression may be nested: enough for a table's 512 nodes one in the other, each in brackets.
+DEEPEST = 1024
 
 
 # Faults
@@ -77,16 +108,15 @@ class Place(NamedTuple):
 class Fault(NamedTuple):
     """What is wrong, where, and by which number the reader would refuse it (0: it is no grammar at all)."""
 
-    place: Optional[Place]
+    place: Place
     text: str
     number: int = 0
     node: Optional[int] = None
 
     def line(self, path):
         """The message of a fault, as a line."""
-        where = f"{path}:{self.place}" if self.place else str(path)
         answer = f" (the reader would answer: {self.answer()})" if self.number else ""
-        return f"{where}: {self.text}{answer}"
+        return f"{path}:{self.place}: {self.text}{answer}"
 
     def answer(self):
         return f"refused {self.number}" + ("" if self.node is None else f" {self.node}")
@@ -103,17 +133,38 @@ class Faults(Exception):
 # Lexer
 
 
+QUOTES = "'`\u2018\u2019\u201c\u201d\u201e"
+LEXEME = re.compile(
+    rf'\s+|#[^\n]*|(?P<word>"[^"\n]*"?|[A-Za-z][\w-]*|\w[\w.-]*|[{QUOTES}][^\s"{QUOTES}]*[{QUOTES}]?'
+    r"|//|/\*|\(\*|--|::?=|[<>=]=|=>|<-|->|.)"
+)
+
+
 class Word(NamedTuple):
-    """A word of the notation. The last one of a grammar is empty."""
+    """A word of the notation, or what stands in the place of one. The last one of a grammar is empty."""
 
     text: str
     place: Place
 
     def is_keyword(self):
-        return self.text.startswith('"')
+        return len(self.text) > 1 and self.text[0] == self.text[-1] == '"'
+
+    def is_open(self):
+        """Whether it is a keyword without its second quote."""
+        return self.text.startswith('"') and not self.is_keyword()
 
     def is_name(self):
-        return self.text[:1].isalpha()
+        return bool(re.match("[A-Za-z]", self.text))
+
+    def is_like_name(self):
+        """Whether it is a name, or would be one if it began with another letter."""
+        return bool(re.match(r"\w", self.text))
+
+    def as_name(self):
+        """Why a word is no name, where one could be meant."""
+        if self.is_keyword():
+            return "a name is written without quotes"
+        return "a name begins with a letter from a to z" if self.is_like_name() and not self.is_name() else None
 
     def told(self):
         """The word as a message shows it."""
@@ -123,24 +174,17 @@ class Word(NamedTuple):
             return f"the keyword {self.text}"
         if self.text in RESERVED:
             return f"the reserved word {self.text}"
-        return self.text if self.is_name() else f"'{self.text}'"
+        if self.is_name() or self.text[0] in QUOTES:
+            return self.text
+        return f"'{self.text}'" if self.text.isprintable() else repr(self.text)
 
-
-LEXEME = re.compile(r'\s+|#[^\n]*|(?P<word>"[^"\n]*"|[A-Za-z][\w-]*|[=/!*?+()])')
-
-
-def begins_none(text, at):
-    """What is told of a sign that begins no word."""
-    sign = text[at]
-    if re.match("::?=|<-|->", text[at:]):
-        hint = "; a rule is written `NAME = ..`"
-    elif sign in "'`\u2018\u2019\u201c\u201d":
-        hint = '; a keyword is written in double quotes, as "loss"'
-    elif sign == "|":
-        hint = '; a choice is written with /, and a keyword "|"'
-    else:
-        hint = f'; a keyword is written "{sign}"' if sign.isprintable() else ""
-    return f"{sign!r} begins no word of the notation{hint}"
+    def as_keyword(self):
+        """How the keyword is written that could be meant by a sign, if one could be."""
+        if not self.text or not self.text.isprintable() or self.is_name() or (self.text in SIGNS and len(self.text) > 1):
+            return None
+        spelling = self.text.strip(QUOTES)
+        parts = ["loss"] if wrong_spelling(spelling) else parts_of(spelling)
+        return f"a keyword is written {'in double quotes, as ' if self.text[0] in QUOTES else ''}{quoted(parts)}"
 
 
 def words_of(text):
@@ -148,13 +192,8 @@ def words_of(text):
     words, at, line, line_at = [], 0, 1, 0
     while at < len(text):
         found = LEXEME.match(text, at)
-        place = Place(line, at - line_at + 1)
-        if not found and text[at] == '"':
-            raise Faults(Fault(place, 'this keyword is not closed: a second " is expected on its line'))
-        if not found:
-            raise Faults(Fault(place, begins_none(text, at)))
         if found["word"]:
-            words.append(Word(found["word"], place))
+            words.append(Word(found["word"], Place(line, at - line_at + 1)))
         breaks = text.count("\n", at, found.end())
         at = found.end()
         if breaks:
@@ -166,12 +205,13 @@ def words_of(text):
 
 
 class Expression(NamedTuple):
-    """An expression: its form, where it stands, its parts, and a relation, a terminal or a spelling."""
+    """An expression: its form, where it stands, its parts, a relation or a spelling, and how deep it is nested."""
 
     form: str
     place: Place
     parts: Tuple["Expression", ...] = ()
     value: object = None
+    deep: int = 0
 
 
 LOOSE = ("sequence", "choice", "not", "align", "indent", "position")
@@ -179,7 +219,7 @@ LOOSE = ("sequence", "choice", "not", "align", "indent", "position")
 
 def text_of(expression, tight=False):
     """An expression in the notation. Tight: a sequence or choice stands in brackets."""
-    form, _, parts, value = expression
+    form, _, parts, value, _ = expression
     if form in ("sequence", "choice"):
         inner = [text_of(part, form == "sequence" or part.form == "choice") for part in parts]
         joined = (" " if form == "sequence" else " / ").join(inner)
@@ -207,71 +247,119 @@ class Parser:
     """Reads the words of a grammar from front to back and collects its statements."""
 
     def __init__(self, words):
-        self.words, self.at = words, 0
+        self.words, self.at, self.depth = words, 0, 0
         self.keywords, self.rules = [], []
         self.start = self.mode = None
+        self.first = {}  # where start and mode stand
         while self.word().text:
             self.statement()
-        for name, given in (("start", self.start), ("mode", self.mode)):
-            if given is None:
-                form = "start NAME" if name == "start" else "mode RELATION"
-                raise Faults(Fault(self.word().place, f"there is no {name}: a line `{form}` is expected"))
+        for name, form in (("start", "start NAME"), ("mode", "mode RELATION")):
+            if name not in self.first:
+                capital = [f"; {word.text} at {word.place} is written {name}" for word in words if word.text.lower() == name]
+                text = f"there is no {name}: a line `{form}` is expected{''.join(capital[:1])}"
+                raise Faults(Fault(self.word().place, text))
 
     def word(self, ahead=0):
         """The next word, or one further ahead."""
         return self.words[min(self.at + ahead, len(self.words) - 1)]
 
+    def before(self):
+        """The word before the next one; before the first one it is empty."""
+        return self.words[self.at - 1]
+
     def take(self):
         self.at += 1
         return self.words[self.at - 1]
 
-    def expected(self, what):
-        """Says what was expected in the place of the next word."""
-        quote = ', and a keyword cannot hold a "' if self.touches_keyword() else ""
-        return Faults(Fault(self.word().place, f"{what} expected, not {self.word().told()}{quote}"))
+    def expected(self, what, *hints):
+        """Says what was expected in the place of the next word, and what could be meant by it."""
+        word, before = self.word(), self.before()
+        if word.is_open():
+            return Faults(Fault(word.place, 'this keyword is not closed: a second " is expected on its line'))
+        hints = [hint for hint in hints if hint] or [SIGNS.get(word.text, "")]
+        if before.text in STATEMENTS and word.text in ("=", ":", *EQUALS_ELSEWHERE):
+            hints = [f"{before.text} is written without {word.text}, and no rule can be named {before.text}"]
+        told = f"the next rule, {word.text}" if word.is_name() and self.begins_rule() else word.told()
+        if self.touches_keyword():
+            told += f', right behind the keyword {before.text}: no keyword holds a "'
+        return Faults(Fault(word.place, "; ".join(filter(None, [f"{what} expected, not {told}", *hints]))))
 
     def touches_keyword(self):
-        """Whether the next word is a name right behind a closing quote, with no blank between."""
-        before, word = self.words[self.at - 1], self.word()
-        column = before.place.column + len(before.text)
-        return before.is_keyword() and word.is_name() and word.place == Place(before.place.line, column)
+        """Whether the next word stands right behind a keyword that seems to end too early."""
+        before, word = self.before(), self.word()
+        early = before.is_keyword() and (word.is_name() or " " in before.text)
+        return early and word.place == Place(before.place.line, before.place.column + len(before.text))
+
+    def begins_line(self):
+        return self.at == 0 or self.before().place.line < self.word().place.line
+
+    def begins_rule(self):
+        """Whether a rule begins here: a name and =, or first on a line a name and a sign that others write for =."""
+        word, sign = self.word(), self.word(1).text
+        if sign == "=":
+            return word.is_like_name() and (self.begins_line() or word.text not in ("indent", "position"))
+        return self.begins_line() and word.is_name() and sign in (":", *EQUALS_ELSEWHERE)
 
     def ends(self):
         """Whether the next word begins a statement, or there is none."""
-        return self.word().text in ("", *STATEMENTS) or self.word(1).text == "="
+        return self.word().text in ("", *STATEMENTS) or self.begins_rule()
 
     def statement(self):
         word = self.word()
-        if self.word(1).text == "=":
-            self.rule()
-        elif word.text == "keywords":
+        if word.text == "keywords":
             self.take()
             if not self.word().is_keyword():
-                raise self.expected('a keyword in quotes, as "loss",')
+                raise self.expected('a keyword in quotes, as "loss",', self.word().as_keyword())
             while self.word().is_keyword():
                 self.keywords.append(self.take())
-        elif word.text in ("start", "mode"):
+        elif word.text in STATEMENTS:
             self.setting()
+        elif self.begins_rule():
+            self.rule()
         else:
-            raise self.expected("keywords, start, mode or a rule `NAME = ..`")
+            raise self.no_statement()
+
+    def no_statement(self):
+        """What is told where no statement begins. Behind keywords, one more of them could be meant."""
+        word, what = self.word(), "keywords, start, mode or a rule `NAME = ..`"
+        like = near(word.text, STATEMENTS, 0.8) if word.is_name() else None
+        if like:
+            return self.expected(what, f"is it {like}?")
+        if self.before().is_keyword():
+            return self.expected(f"a keyword in quotes, {what}", SIGNS.get(word.text) or word.as_keyword())
+        return self.expected(what)
 
     def setting(self):
         """`start NAME` or `mode RELATION`, once."""
-        word = self.take()
-        if getattr(self, word.text) is not None:
-            raise Faults(Fault(word.place, f"{word.text} is there twice"))
+        word, what = self.take(), "the name of the start rule"
         if word.text == "mode":
             self.mode = self.relation()
+        elif self.begins_rule():
+            raise self.expected(what)
         else:
-            self.start = self.name("the name of the start rule")
+            self.start = self.name(what)
+        if word.text in self.first:
+            other = "; in a rule it is position" if word.text == "mode" else ""
+            text = f"{word.text} is there twice; the first is at {self.first[word.text]}{other}"
+            raise Faults(Fault(word.place, text))
+        self.first[word.text] = word.place
 
     def rule(self):
         """`NAME = expression`. What follows must begin a statement."""
         name = self.name("the name of a rule")
+        if self.word().text != "=":
+            raise self.no_equals(name.text)
         self.take()
         self.rules.append(Rule(name.text, name.place, self.choice()))
         if not self.ends():
-            raise self.expected("/ or the next statement")
+            raise self.expected("/ or the next statement", "no bracket is open here")
+
+    def no_equals(self, name):
+        """What is told where = is missing behind the name of a rule."""
+        like, word = near(name, STATEMENTS, 0.8), self.word()
+        if like:
+            return self.expected("=", f"is it {like}, without {word.text}?")
+        return self.expected("=", f"a rule is written `{name} = ..`", word.as_keyword())
 
     def name(self, what):
         """The next word as the name of a rule, which is no reserved word."""
@@ -280,16 +368,31 @@ class Parser:
             text = f"{what} expected, not {word.told()}; reserved are: {', '.join(RESERVED)}"
             raise Faults(Fault(word.place, text))
         if not word.is_name():
-            raise self.expected(what)
+            raise self.expected(what, word.as_name())
         return self.take()
 
     def relation(self):
-        if self.word().text not in RELATIONS:
-            raise self.expected("a relation (equal, greater, at-least or any)")
+        word, after = self.word(), self.word(1).text
+        if word.text not in RELATIONS:
+            like = RELATIONS_ELSEWHERE.get(word.text) or near(word.text, RELATIONS)
+            apart = word.text in ("=", ":", "(") and after in RELATIONS
+            hint = f"write {after} without {word.text}" if apart else like and f"is it {like}?"
+            raise self.expected("a relation (equal, greater, at-least or any)", hint)
         return RELATIONS.index(self.take().text)
 
+    def too_deep(self):
+        text = f"an expression is nested over {DEEPEST} deep here; write what is inside as a rule"
+        return Faults(Fault(self.word().place, text))
+
+    def around(self, form, place, parts, value=None):
+        """An expression around others."""
+        deep = 1 + max(part.deep for part in parts)
+        if deep > DEEPEST:
+            raise self.too_deep()
+        return Expression(form, place, tuple(parts), value, deep)
+
     def joined(self, form, parts):
-        return parts[0] if len(parts) == 1 else Expression(form, parts[0].place, tuple(parts))
+        return parts[0] if len(parts) == 1 else self.around(form, parts[0].place, parts)
 
     def choice(self):
         parts = [self.sequence()]
@@ -306,32 +409,49 @@ class Parser:
 
     def prefixed(self):
         """`!`, `align`, `indent` and `position` before an expression."""
+        self.depth += 1
+        if self.depth > DEEPEST:
+            raise self.too_deep()
         word = self.word()
-        if word.text not in ("!", "align", "indent", "position"):
-            return self.postfixed()
-        self.take()
-        relation = self.relation() if word.text in ("indent", "position") else None
-        inner = self.prefixed()
-        return Expression("not" if word.text == "!" else word.text, word.place, (inner,), relation)
+        if word.text in ("!", "align", "indent", "position"):
+            self.take()
+            relation = self.relation() if word.text in ("indent", "position") else None
+            form = "not" if word.text == "!" else word.text
+            expression = self.around(form, word.place, (self.prefixed(),), relation)
+        else:
+            expression = self.postfixed()
+        self.depth -= 1
+        return expression
 
     def postfixed(self):
         """`*`, `+` and `?` behind an expression."""
         inner = self.single()
         while self.word().text in ("*", "+", "?"):
-            inner = Expression(self.take().text, inner.place, (inner,))
+            inner = self.around(self.take().text, inner.place, (inner,))
         return inner
 
     def single(self):
         word = self.word()
+        if self.ends():
+            raise self.no_expression()
         if word.text == "(":
             return self.bracketed()
         if word.is_keyword():
             return Expression("keyword", word.place, value=self.take().text[1:-1])
         if word.text in (*TERMINALS, *BUILT_IN, "empty"):
             return Expression(self.take().text, word.place)
-        if word.is_name() and word.text not in RESERVED and not self.ends():
+        if word.is_name() and word.text not in RESERVED:
             return Expression("rule", word.place, value=self.take().text)
-        raise self.expected("an expression")
+        raise self.no_expression()
+
+    def no_expression(self):
+        """What is told where no expression begins."""
+        word, what = self.word(), "an expression"
+        if word.is_name() and self.begins_rule():
+            equals = None if self.begins_line() else 'a keyword is written "="'
+            return self.expected(what, "for nothing write empty", equals)
+        signs = SIGNS.get(word.text), INSTEAD_OF_EXPRESSIONS.get(word.text)
+        return self.expected(what, *signs, word.as_name(), word.as_keyword())
 
     def bracketed(self):
         opening = self.take()
@@ -352,36 +472,37 @@ def near(name, names, least=0.6):
 
 
 def unknown_rule(source, name, place, reserved=()):
-    """A rule that is not there. Reserved: the words of the notation that could have been meant."""
-    names, spellings = [rule.name for rule in source.rules], {word.text for word in source.keywords}
+    """A rule that is not there. Reserved: the words of the notation that could have been meant; none as the start."""
+    names, spellings = [rule.name for rule in source.rules], [word.text[1:-1] for word in source.keywords]
+    keyword = name if name in spellings else near(name, spellings, 1)
     like = near(name, filter(None, (near(name, reserved, 0.8), near(name, names))))
     declared = f"rule is declared by a line `{name} = ..`"
-    if f'"{name}"' in spellings:
-        hint = f'the keyword is written "{name}"'
+    if reserved and keyword:
+        hint = f'the keyword is written "{keyword}"'
     elif reserved and name.lower() in ELSEWHERE:
         hint = f"is it {ELSEWHERE[name.lower()]}? A {declared}"
     elif like:
         hint = f"is it {like if like in names else f'the reserved word {like}'}? A {declared}"
     else:
-        hint = f"a {declared}"
+        hint = f"a {declared}" + (f', and a keyword is written "{name}"' if reserved else "")
     return Fault(place, f"no rule is named {name}; {hint}")
 
 
 def unknown_keyword(source, spelling, place):
     """A keyword that is not there, and how it could be; where its spelling is wrong, that it cannot be."""
-    spellings = [word.text[1:-1] for word in source.keywords]
-    missing, parts = f'"{spelling}" is not among the keywords', parts_of(spelling)
-    if wrong_spelling(spelling):
-        quote = "" if spelling else ', and no keyword holds a "'
-        return Fault(place, f"{missing} and cannot be: it {wrong_spelling(spelling)}{quote}")
-    if len(parts) > 1:
-        return Fault(place, f"{missing} and cannot be: it {holds_single(parts)}; write {quoted(parts)}")
-    like = near(spelling, [other for other in spellings if not wrong_spelling(other) and len(parts_of(other)) == 1])
+    spellings, names = [word.text[1:-1] for word in source.keywords], [rule.name for rule in source.rules]
+    missing, wrong, cut = f'"{spelling}" is not among the keywords', wrong_keyword(spelling), cut_of(spelling)
+    if wrong:
+        hint = f"; write {quoted(cut)}" if cut else "" if spelling else ', and no keyword holds a "'
+        return Fault(place, f"{missing} and cannot be: it {wrong}{hint}")
+    like = near(spelling, [other for other in spellings if not wrong_keyword(other)])
     if source.keywords:
         hint = f"add it to the keywords of line {source.keywords[0].place.line}"
     else:
         hint = f'declare it by a line `keywords "{spelling}"`'
-    if like:
+    if spelling in (*IN_EXPRESSIONS, *names):
+        hint = f"is it {spelling}, without quotes? Otherwise {hint}"
+    elif like:
         hint = f'is it "{like}"? Otherwise {hint}'
     return Fault(place, f"{missing}; {hint}")
 
@@ -475,7 +596,7 @@ class Grammar:
 
     def number(self, rule, expression):
         """The number of an expression's node. Those inside it have lower ones."""
-        form, _, parts, value = expression
+        form, _, parts, value, _ = expression
         origin = Origin(rule, expression)
         inner = [self.number(rule, part) for part in parts]
         if form in ("sequence", "choice"):
@@ -521,13 +642,22 @@ class Grammar:
         position = self.node(origin, POSITION, self.token(origin), relation=ANY)
         return self.node(origin, NOT, self.node(origin, INDENT, position, relation=ANY))
 
+    def sizes(self):
+        """How many bytes each field of the grammar file has: the first one, keywords, rules, nodes, the start."""
+        keywords = [3 + len(spelling.encode()) for spelling in self.keywords]
+        return [4, *keywords, *(5 + len(name.encode()) for name in self.rules), *[9] * len(self.nodes), 6]
+
     def bytes(self):
         """How many bytes the grammar file has."""
-        keywords = sum(3 + len(spelling.encode()) for spelling in self.keywords)
-        return 4 + keywords + sum(5 + len(name.encode()) for name in self.rules) + 9 * len(self.nodes) + 6
+        return sum(self.sizes())
 
     def summary(self):
-        return f"{len(self.nodes)} nodes, {len(self.rules)} rules, {len(self.keywords)} keywords, {self.bytes()} bytes"
+        nodes, rules = counted(len(self.nodes), "node"), counted(len(self.rules), "rule")
+        return f"{nodes}, {rules}, {counted(len(self.keywords), 'keyword')}, {self.bytes()} bytes"
+
+
+def counted(count, what):
+    return f"{count} {what}" if count == 1 else f"{count} {what}s"
 
 
 # Checks: what the reader refuses by 1, 2, 3 and 7. What is built here never gives 4 or 5.
@@ -541,8 +671,16 @@ def file_faults(grammar):
         faults.append(Fault(place, f"{len(grammar.keywords)} keywords, and at most {MOST_KEYWORDS} can be", 1))
     if grammar.bytes() > MOST_BYTES:
         text = f"the grammar file would have {grammar.bytes()} bytes, and at most {MOST_BYTES} can be"
-        faults.append(Fault(None, text, 1))
+        faults.append(Fault(too_far(grammar), text, 1))
     return faults
+
+
+def too_far(grammar):
+    """The place of the first field that ends behind the last byte that can be."""
+    source = grammar.source
+    fields = [source.start, *source.keywords, *source.rules, *grammar.origins, source.start]
+    ends = itertools.accumulate(grammar.sizes())
+    return next(field.place for field, end in zip(fields, ends) if end > MOST_BYTES)
 
 
 def spelling_faults(source):
@@ -550,7 +688,9 @@ def spelling_faults(source):
     faults, first, named = [], {}, {word.text[1:-1] for word in source.keywords}
     for word in source.keywords:
         spelling = word.text[1:-1]
-        wrong = wrong_spelling(spelling) or wrong_single(spelling, named)
+        wrong = wrong_keyword(spelling)
+        if wrong:
+            wrong += instead(spelling, named)
         if spelling in first:
             wrong = f"is there twice; the first is at {first[spelling]}"
         first.setdefault(spelling, word.place)
@@ -575,23 +715,33 @@ def wrong_spelling(spelling):
     return None
 
 
-def wrong_single(spelling, named):
-    """A keyword that the scanner cuts: which of its parts are still to be named. They count as named from then on."""
-    parts = parts_of(spelling)
-    if len(parts) < 2:
-        return None
-    missing = [part for part in dict.fromkeys(parts) if part not in named]
-    named.update(missing)
-    return f"{holds_single(parts)}; " + (f"write {quoted(missing)}" if missing else "leave it out, its parts are keywords")
+def wrong_keyword(spelling):
+    """What is wrong with a keyword, if anything is."""
+    single = next((sign for sign in spelling if sign in SINGLES), None)
+    if wrong_spelling(spelling) or not single or len(spelling) == 1:
+        return wrong_spelling(spelling)
+    return f"holds '{single}', which is a token by itself"
 
 
 def parts_of(spelling):
     """The tokens that the scanner cuts a spelling into: each of the nine single bytes is one by itself."""
-    return re.findall(r"[:,()\[\]=;%]|[^:,()\[\]=;%]+", spelling)
+    return re.findall(r"[:,()\[\]=;%]|[^:,()\[\]=;%\x00-\x20\x7f]+", spelling)
 
 
-def holds_single(parts):
-    return f"holds '{next(part for part in parts if part in SINGLES)}', which is a token by itself"
+def cut_of(spelling):
+    """What can be written for a wrong keyword: its parts, if they are right."""
+    parts = parts_of(spelling)
+    return [] if any(map(wrong_spelling, parts)) else parts
+
+
+def instead(spelling, named):
+    """What is told of a wrong keyword: those of its parts that are not named. They count as named from then on."""
+    parts = cut_of(spelling)
+    missing = [part for part in dict.fromkeys(parts) if part not in named]
+    named.update(missing)
+    if missing:
+        return f"; write {quoted(missing)}"
+    return "; leave it out, its parts are keywords" if parts else ""
 
 
 def quoted(spellings):
@@ -605,11 +755,12 @@ def size_faults(grammar):
         origin = grammar.origins[MOST_NODES]
         text = f"rule {origin.rule}: {len(grammar.nodes)} nodes, and at most {MOST_NODES} can be"
         if grammar.taken:
-            text += f"; token, line and end take {len(grammar.taken)} of them, for {len(grammar.keywords)} keywords"
+            taken, keywords = len(grammar.taken), counted(len(grammar.keywords), "keyword")
+            text += f"; token, line and end take {taken} of them, for {keywords}"
         faults.append(Fault(origin.place, text, 3))
     if len(grammar.rules) > MOST_RULES:
-        place = grammar.source.rules[MOST_RULES].place
-        faults.append(Fault(place, f"{len(grammar.rules)} rules, and at most {MOST_RULES} can be", 3))
+        rule = grammar.source.rules[MOST_RULES]
+        faults.append(Fault(rule.place, f"rule {rule.name}: {len(grammar.rules)} rules, and at most {MOST_RULES} can be", 3))
     return faults
 
 
@@ -667,47 +818,68 @@ class Facts:
         self.well[number] = known or self.is_well(number)
         return known != self.well[number]
 
-    def is_well(self, number):
+    def needs(self, number):
+        """The nodes that a node may come to before a token is read: they must be well formed for it to be."""
         kind, _, b, _ = self.nodes[number]
         if kind in (EMPTY, TERMINAL):
-            return True
+            return ()
         a = self.child(number)
-        if kind == SEQUENCE:
-            return self.well[a] and (self.well[b] or not self.nothing[a])
-        if kind == CHOICE:
-            return self.well[a] and self.well[b]
-        return self.well[a] and not (kind == REPEAT and self.nothing[a])
+        return (a, b) if kind == CHOICE or (kind == SEQUENCE and self.nothing[a]) else (a,)
 
-    def next_bad(self, number):
-        """The node inside a bad one that makes it so; none for a repeat over what may read nothing."""
-        kind, _, b, _ = self.nodes[number]
-        a = self.child(number)
-        if kind == REPEAT and self.nothing[a]:
-            return None
-        return a if not self.well[a] else b
+    def is_well(self, number):
+        repeats_nothing = self.nodes[number][0] == REPEAT and self.nothing[self.child(number)]
+        return not repeats_nothing and all(self.well[node] for node in self.needs(number))
+
+    def called(self, rule):
+        """The rules that a rule may come to before a token is read, not through others."""
+        found, seen, ahead = set(), set(), [self.rules[rule]]
+        while ahead:
+            number = ahead.pop()
+            if self.nodes[number][0] == RULE:
+                found.add(self.nodes[number][1])
+            elif number not in seen:
+                ahead += self.needs(number)
+            seen.add(number)
+        return sorted(found)
+
+
+def empty_repeats(grammar, facts):
+    """Each repeat of what may read nothing: its place, and what is told of it."""
+    for rule in grammar.source.rules:
+        for inner in expressions_of(rule.expression):
+            if inner.form in ("*", "+") and facts.nothing[grammar.number(rule.name, inner.parts[0])]:
+                text = f"{text_of(inner)} repeats what may succeed without reading a token"
+                yield inner.place, f"rule {rule.name}: {text}"
+
+
+def way_back(called, rule):
+    """The shortest way from a rule to itself, from its lowest rule on; none if there is no way."""
+    ways, seen = [(rule,)], set()
+    for way in ways:
+        if rule in called[way[-1]]:
+            lowest = way.index(min(way))
+            return way[lowest:] + way[:lowest]
+        ways += [(*way, other) for other in called[way[-1]] if other not in seen]
+        seen.update(called[way[-1]])
+    return None
+
+
+def left_recursions(grammar, facts):
+    """For each rule that comes back to itself before a token is read the shortest way, each way once."""
+    called = [facts.called(rule) for rule in range(len(facts.rules))]
+    for way in {way_back(called, rule) for rule in range(len(called))} - {None}:
+        names = [grammar.names[rule] for rule in (*way, way[0])]
+        text = f"it comes back to itself before a token is read, {' -> '.join(names)}"
+        yield grammar.source.rules[way[0]].place, f"rule {names[0]} is left recursive: {text}"
 
 
 def well_formed_faults(grammar):
-    """7: the lowest node that is not well formed, and why it is not."""
-    rules = list(grammar.rules.values())
-    facts = Facts(grammar.nodes, rules)
+    """7: all causes why nodes are not well formed, and the lowest such node."""
+    facts = Facts(grammar.nodes, list(grammar.rules.values()))
     if all(facts.well):
         return []
-    lowest = facts.well.index(False)
-    path, number = [], lowest
-    while number is not None and number not in path:
-        path.append(number)
-        number = facts.next_bad(number)
-    if number is None:
-        origin = grammar.origins[path[-1]]
-        text = f"rule {origin.rule}: {text_of(origin.expression)} repeats what may succeed without reading a token"
-        return [Fault(origin.place, text, 7, lowest)]
-    cycle = [grammar.nodes[at][1] for at in path[path.index(number) :] if grammar.nodes[at][0] == RULE]
-    first = cycle.index(min(cycle))
-    names = [grammar.names[rule] for rule in cycle[first:] + cycle[:first]]
-    way = " -> ".join(names + names[:1])
-    text = f"rule {names[0]} is left recursive: it comes back to itself before a token is read, {way}"
-    return [Fault(grammar.source.rules[min(cycle)].place, text, 7, lowest)]
+    causes = sorted([*empty_repeats(grammar, facts), *left_recursions(grammar, facts)])
+    return [Fault(place, text, 7, facts.well.index(False)) for place, text in causes]
 
 
 def refusals(grammar):
@@ -742,15 +914,12 @@ def file_of(grammar):
 
 def grammar_of(text):
     """The grammar of a text in words, not yet checked by the reader's numbers."""
-    sys.setrecursionlimit(max(sys.getrecursionlimit(), DEEPEST))
-    try:
-        source = Parser(words_of(text))
-        faults = name_faults(source)
-        if faults:
-            raise Faults(*sorted(faults + spelling_faults(source), key=lambda fault: fault.place))
-        return Grammar(source)
-    except RecursionError:
-        raise Faults(Fault(None, "an expression is nested too deep")) from None
+    sys.setrecursionlimit(max(sys.getrecursionlimit(), 8 * DEEPEST))
+    source = Parser(words_of(text))
+    faults = name_faults(source)
+    if faults:
+        raise Faults(*sorted(faults + spelling_faults(source), key=lambda fault: fault.place))
+    return Grammar(source)
 
 
 def built(text):
@@ -779,7 +948,7 @@ def spelled(grammar, words):
 
 def node_lines(grammar):
     """A line for each node, then one for each rule."""
-    width = max(len(name) for name in grammar.rules)
+    width = max(len(name) for name in ("rule", *grammar.rules))
     yield f"node  kind       a     b     relation  {'rule':{width}}  place    in words"
     for number, (words, origin) in enumerate(zip(grammar.nodes, grammar.origins)):
         kind, a, b, relation = words
@@ -793,8 +962,11 @@ def node_lines(grammar):
 def version():
     """The version, which stands in the header of the C interface."""
     header = Path(__file__).resolve().parent.parent / "include" / "saktroum.h"
-    found = re.search(r'^#define SAKTROUM_VERSION "(.*)"$', header.read_text(encoding="utf-8"), re.MULTILINE)
-    return found[1] if found else "unknown"
+    text = header.read_text(encoding="utf-8") if header.is_file() else ""
+    found = re.search(r'^#define SAKTROUM_VERSION "(.*)"$', text, re.MULTILINE)
+    if not found:
+        sys.exit("the version is not known: include/saktroum.h, where it stands, is not beside the folder of this build.py")
+    return found[1]
 
 
 def options():
@@ -815,10 +987,22 @@ def options():
     return given
 
 
+def text_in(file):
+    """The text of a file. Each kind of line end is one."""
+    if file.startswith(FIRST_FIELD):
+        raise Faults(Fault(Place(1, 1), "a grammar in words expected, not a grammar file; GRAMMAR comes before FILE"))
+    try:
+        return re.sub("\r\n?", "\n", file.decode("utf-8-sig"))
+    except UnicodeDecodeError as wrong:
+        before = re.sub("\r\n?", "\n", wrong.object[: wrong.start].decode())
+        place = Place(before.count("\n") + 1, len(before) - before.rfind("\n"))
+        byte = wrong.object[wrong.start]
+        raise Faults(Fault(place, f"text in UTF-8 expected, not the byte {byte}; save the file as UTF-8")) from None
+
+
 def build(given):
     """Lists the nodes, or builds the file."""
-    text = Path(given.grammar).read_text(encoding="utf-8-sig")
-    grammar = grammar_of(text)
+    grammar = grammar_of(text_in(Path(given.grammar).read_bytes()))
     for warning in unused(grammar.source):
         print(warning.line(given.grammar), file=sys.stderr)
     if given.nodes:
@@ -849,8 +1033,6 @@ def main():
             build(given)
     except Faults as wrong:
         sys.exit("\n".join(fault.line(given.grammar) for fault in wrong.faults))
-    except UnicodeDecodeError as wrong:
-        sys.exit(f"{given.grammar}: no UTF-8 text: {wrong.reason} at byte {wrong.start}")
     except OSError as wrong:
         sys.exit(f"{wrong.filename or 'standard output'}: {wrong.strerror}")
 

@@ -8,6 +8,8 @@ LIBRARY is the reader as a shared library (trials/library.py says how it is made
 
 import pathlib
 import random
+import re
+import shutil
 import subprocess
 import sys
 import tempfile
@@ -46,42 +48,159 @@ class Messages(unittest.TestCase):
     def says(self, text, *lines):
         self.assertEqual(faults_of(text), list(lines))
 
-    def test_words(self):
-        none = "begins no word of the notation"
-        self.says(HEAD + "report = word & word", f"x:4:15: '&' {none}; a keyword is written \"&\"")
-        self.says(HEAD + "report = loss: number", f"x:4:14: ':' {none}; a keyword is written \":\"")
-        self.says(HEAD + "report = [ number ]", f"x:4:10: '[' {none}; a keyword is written \"[\"")
-        self.says(HEAD + "report = word | eol", f"x:4:15: '|' {none}; a choice is written with /, and a keyword \"|\"")
-        self.says(HEAD + "report = word \x07", f"x:4:15: '\\x07' {none}")
-        for sign in (":=", "::=", "<-", "->"):
-            self.says(HEAD + f"report {sign} word", f"x:4:8: {sign[0]!r} {none}; a rule is written `NAME = ..`")
-        for sign in "'\u201c":
-            quotes = 'a keyword is written in double quotes, as "loss"'
-            self.says(HEAD + f"report = {sign}loss", f"x:4:10: {sign!r} {none}; {quotes}")
-        self.says(HEAD + 'report = "loss', 'x:4:10: this keyword is not closed: a second " is expected on its line')
+    def test_signs(self):
+        """A sign that no word has: the parser says what it expected. A keyword is told where one could be meant."""
+        for sign, hints in (
+            ("&", 'a keyword is written "&"'),
+            (":", 'a keyword is written ":"'),
+            (">=", 'a keyword is written ">" "="'),
+            ("|", 'a choice is written with /; a keyword is written "|"'),
+            ("[", 'once or not at all is written `(..)?`; a keyword is written "["'),
+            ("{", 'any number of times is written `(..)*`; a keyword is written "{"'),
+            ("*", '* stands behind an expression; a keyword is written "*"'),
+            (",", 'keywords and expressions are parted by blanks; a keyword is written ","'),
+            (";", 'no sign ends a statement, and a comment begins with #; a keyword is written ";"'),
+            ("%", 'a comment begins with #; a keyword is written "%"'),
+            ("=", 'a rule is written `NAME = ..`, its name without quotes; a keyword is written "="'),
+            ("\\", 'a rule goes on in the next line without a sign; a keyword is written "\\"'),
+            ("1.5", 'a name begins with a letter from a to z; a keyword is written "1.5"'),
+            ("_report", 'a name begins with a letter from a to z; a keyword is written "_report"'),
+            ("\u00e4rger", 'a name begins with a letter from a to z; a keyword is written "\u00e4rger"'),
+            *((sign, "a comment begins with #") for sign in ("//", "/*", "(*", "--")),
+            *((sign, "a rule is written `NAME = ..`") for sign in (":=", "::=", "==", "=>", "<-", "->")),
+        ):
+            self.says(HEAD + f"report = !{sign} word", f"x:4:11: an expression expected, not '{sign}'; {hints}")
+        self.says(HEAD + "report = word \x07", "x:4:15: an expression expected, not '\\x07'")
+
+    def test_quotes(self):
+        quotes = "a keyword is written in double quotes, as"
+        for written, meant in (("'arc'", '"arc"'), ("'arc:'", '"arc" ":"'), ("\u201carc\u201d", '"arc"'), ("`", '"loss"')):
+            self.says(HEAD + f"report = {written} word", f"x:4:10: an expression expected, not {written}; {quotes} {meant}")
+        self.says("keywords 'arc'", f"x:1:10: a keyword in quotes, as \"loss\", expected, not 'arc'; {quotes} \"arc\"")
+        closed = 'this keyword is not closed: a second " is expected on its line'
+        self.says(HEAD + 'report = "loss', f"x:4:10: {closed}")
+        self.says('keywords "loss" ":\nstart report', f"x:1:17: {closed}")
+        self.says('start "', f"x:1:7: {closed}")
+        self.says(HEAD + 'report = & "loss', "x:4:10: an expression expected, not '&'; a keyword is written \"&\"")
+
+    def test_no_sign_goes_unseen(self):
+        """A sign that no word has is a fault, at its place or at the word before, wherever it is put."""
+        rules = 'report = (align entry)* !word / indent any (eol?) end\nentry = "loss" ":" line+\n'
+        words = [word.text for word in build.words_of(HEAD + rules)]
+        self.says("\n".join(words))
+        for sign in "&:;,.<>[]{}|%$@^~\\-'`_0\u00e4\x07":
+            for at in range(len(words)):
+                told = first_line("\n".join([*words[:at], sign, *words[at:]]))
+                self.assertRegex(told, f"^x:({at}|{at + 1}):1: .* expected, not ", sign)
 
     def test_statements(self):
-        self.says(HEAD + "report word", "x:4:1: keywords, start, mode or a rule `NAME = ..` expected, not report")
-        self.says("keywords loss", 'x:1:10: a keyword in quotes, as "loss", expected, not loss')
+        statement = "keywords, start, mode or a rule `NAME = ..` expected, not"
+        self.says(HEAD + "report word", f"x:4:1: {statement} report")
+        self.says("start report;", f"x:1:13: {statement} ';'; no sign ends a statement, and a comment begins with #")
+        self.says("// fibre", f"x:1:1: {statement} '//'; a comment begins with #")
+        for written, meant in (("Keywords", "keywords"), ("keyword", "keywords"), ("Start", "start"), ("modes", "mode")):
+            self.says(f"{written} x", f"x:1:1: {statement} {written}; is it {meant}?")
         self.says("start report\nreport = word", "x:2:14: there is no mode: a line `mode RELATION` is expected")
         self.says("mode any\nreport = word\n", "x:3:1: there is no start: a line `start NAME` is expected")
+        self.says("mode any\nreport = word\nStart report",
+                  "x:3:13: there is no start: a line `start NAME` is expected; Start at 3:1 is written start")
         self.says("", "x:1:1: there is no start: a line `start NAME` is expected")
-        self.says('keywords "say"hi""', "x:1:15: keywords, start, mode or a rule `NAME = ..` expected, not hi, "
-                  'and a keyword cannot hold a "')
-        self.says("mode any\nmode any", "x:2:1: mode is there twice")
-        self.says("mode all", "x:1:6: a relation (equal, greater, at-least or any) expected, not all")
+        self.says("mode any\nmode any", "x:2:1: mode is there twice; the first is at 1:1; in a rule it is position")
+        self.says("start a\nstart b", "x:2:1: start is there twice; the first is at 1:1")
         self.says("start (", "x:1:7: the name of the start rule expected, not '('")
+        self.says("start\nreport = word", "x:2:1: the name of the start rule expected, not the next rule, report")
+        for line, what in (("mode", "a relation (equal, greater, at-least or any)"), ("start", "the name of the start rule"),
+                           ("keywords", 'a keyword in quotes, as "loss",')):
+            for sign in ("=", ":", ":="):
+                hint = f"{line} is written without {sign}, and no rule can be named {line}"
+                self.says(f"{line} {sign} any", f"x:1:{len(line) + 2}: {what} expected, not '{sign}'; {hint}")
+                self.says(f"r = word\n{line} {sign} any", f"x:2:{len(line) + 2}: {what} expected, not '{sign}'; {hint}")
+
+    def test_keyword_lists(self):
+        more = "a keyword in quotes, keywords, start, mode or a rule `NAME = ..` expected, not"
+        self.says("keywords loss", 'x:1:10: a keyword in quotes, as "loss", expected, not loss')
+        self.says("keywords\nreport = word", 'x:2:1: a keyword in quotes, as "loss", expected, not the next rule, report')
+        self.says('keywords "loss", ":"', f"x:1:16: {more} ','; keywords and expressions are parted by blanks")
+        self.says('keywords "loss" :', f"x:1:17: {more} ':'; a keyword is written \":\"")
+        self.says('keywords "loss" gain', f"x:1:17: {more} gain")
+        self.says('keywords "a"\nStart r', "x:2:1: keywords, start, mode or a rule `NAME = ..` expected, not Start; "
+                  "is it start?")
+        self.says('keywords "a"\n"r" = word', f"x:2:5: {more} '='; a rule is written `NAME = ..`, its name without quotes")
+        behind = lambda keyword: f'right behind the keyword "{keyword}": no keyword holds a "'
+        self.says('keywords "say"hi""', f"x:1:15: {more} hi, {behind('say')}")
+        self.says('keywords "loss ":"', f"x:1:17: {more} ':', {behind('loss ')}; a keyword is written \":\"")
+
+    def test_rule_begins(self):
+        """A rule that is written with another sign, behind each kind of statement."""
+        for before in (HEAD, HEAD + "report = word\n", HEAD + "report = (word / eol)*\n", HEAD + 'keywords "gain"\n'):
+            line = before.count("\n") + 1
+            for sign in (":=", "::=", "==", "=>", "<-", "->"):
+                told = f"x:{line}:7: = expected, not '{sign}'; a rule is written `entry = ..`"
+                self.says(before + f"entry {sign} word", told)
+            told = f"x:{line}:6: = expected, not ':'; a rule is written `entry = ..`; a keyword is written \":\""
+            self.says(before + "entry: word", told)
+            for name in ("2entry", "_entry"):
+                told = f"the name of a rule expected, not '{name}'; a name begins with a letter from a to z"
+                self.says(before + f"{name} = word", f"x:{line}:1: {told}")
+        for name, meant in (("Keywords", "keywords"), ("Start", "start"), ("mode-s", "mode")):
+            self.says(f"{name}: any", f"x:1:{len(name) + 1}: = expected, not ':'; is it {meant}, without :?")
+        start = "x:1:7: the name of the start rule expected, not"
+        self.says("start 2report", f"{start} '2report'; a name begins with a letter from a to z")
+        self.says('start "report"', f'{start} the keyword "report"; a name is written without quotes')
+        self.says(HEAD + "report = word loss: number", "x:4:19: an expression expected, not ':'; a keyword is written \":\"")
+
+    def test_relations(self):
+        relation = "a relation (equal, greater, at-least or any) expected, not"
+        for written, meant in ((">", "greater"), (">=", "at-least"), ("=>", "at-least"), ("=", "equal"), ("==", "equal")):
+            for before in ("", "word "):
+                told = f"x:4:{17 + len(before)}: {relation} '{written}'; is it {meant}?"
+                self.says(HEAD + f"report = {before}indent {written} word", told)
+        for written, meant in (("at least", "at-least"), ("at_least", "at-least"), ("Any", "any"), ("equals", "equal")):
+            self.says(f"mode {written}", f"x:1:6: {relation} {written.split()[0]}; is it {meant}?")
+            self.says(HEAD + f"report = position {written} eol", f"x:4:19: {relation} {written.split()[0]}; is it {meant}?")
+        self.says("mode all", f"x:1:6: {relation} all")
+        self.says('mode "greater"', f'x:1:6: {relation} the keyword "greater"; is it greater?')
+        for sign in "=:(":
+            told = f"x:4:22: {relation} '{sign}'; write any without {sign}"
+            self.says(HEAD + f"report = word indent {sign} any eol", told)
+        self.says("mode // any", f"x:1:6: {relation} '//'; a comment begins with #")
+        self.says("mode\nreport = word", f"x:2:1: {relation} the next rule, report")
+        self.says(HEAD + "report = indent word", f"x:4:17: {relation} the reserved word word")
+        self.says(HEAD + "report = indent (word)", f"x:4:17: {relation} '('")
+        self.says(HEAD + 'report = position "loss"', f'x:4:19: {relation} the keyword "loss"')
 
     def test_expressions(self):
-        relation = "a relation (equal, greater, at-least or any) expected, not"
-        self.says(HEAD + "report = ", "x:4:10: an expression expected, not the end of the file")
-        self.says(HEAD + "report = word / * word", "x:4:17: an expression expected, not '*'")
+        none, nothing = "an expression expected, not", "for nothing write empty"
+        behind = "stands behind indent, position or mode"
+        self.says(HEAD + "report = ", f"x:4:10: {none} the end of the file")
+        self.says(HEAD + "report =\nentry = word", f"x:5:1: {none} the next rule, entry; {nothing}")
+        self.says(HEAD + "report = word /\nentry = word", f"x:5:1: {none} the next rule, entry; {nothing}")
+        self.says(HEAD + "report =\ntoken = word", f"x:5:1: {none} the next rule, token; {nothing}")
+        self.says(HEAD + "report = loss = eol", f'x:4:10: {none} the next rule, loss; {nothing}; a keyword is written "="')
+        self.says(HEAD + "report =\n2entry = word", f"x:5:1: {none} '2entry'; a name begins with a letter from a to z; "
+                  'a keyword is written "2entry"')
+        self.says(HEAD + 'report = word "loss" = eol', f"x:4:22: {none} '='; a rule is written `NAME = ..`, its name without "
+                  'quotes; a keyword is written "="')
+        self.says(HEAD + "report =\nstart report", f"x:5:1: {none} the reserved word start")
+        self.says(HEAD + "report = ()", f"x:4:11: {none} ')'; {nothing}; a keyword is written \")\"")
+        self.says(HEAD + "report = / word", f"x:4:10: {none} '/'; {nothing}; a keyword is written \"/\"")
+        self.says(HEAD + "report = word greater", f"x:4:15: {none} the reserved word greater; a relation {behind}")
+        self.says(HEAD + "report = any*", f"x:4:10: {none} the reserved word any; any one token is written token, "
+                  f"and the relation any {behind}")
+        self.says(HEAD + "report = mode any line", f"x:4:10: {none} the reserved word mode; in a rule it is position")
         self.says(HEAD + "report = (word eol", "x:4:19: / or the closing bracket of 4:10 expected, not the end of the file")
-        self.says(HEAD + "report = word) eol", "x:4:14: / or the next statement expected, not ')'")
-        self.says(HEAD + "report = indent word", f"x:4:17: {relation} the reserved word word")
-        self.says(HEAD + 'report = position "loss"', f'x:4:19: {relation} the keyword "loss"')
-        self.says(HEAD + "report = word greater", "x:4:15: an expression expected, not the reserved word greater")
-        self.says(HEAD + "report = " + "(" * 9000 + "word", "x: an expression is nested too deep")
+        self.says(HEAD + "report = (word\nb = eol", "x:5:1: / or the closing bracket of 4:10 expected, not the next rule, b")
+        self.says(HEAD + "report = word) eol", "x:4:14: / or the next statement expected, not ')'; no bracket is open here")
+
+    def test_depth(self):
+        """The place where an expression gets too deep, whatever it is nested by."""
+        deep = "an expression is nested over 1024 deep here; write what is inside as a rule"
+        for column, count, before, after in ((1034, 9000, "(", ")"), (1034, 9000, "!", ""), (1039, 9000, "", "+"),
+                                             (1880, 500, "(", "+++)")):
+            self.says(HEAD + "report = " + before * count + "word" + after * count, f"x:4:{column}: {deep}")
+        for before, after, count in (("(", ")", 1023), ("!(", ")", 511), ("", "?", 510), ("", "+", 255)):
+            self.says(HEAD + "report = " + before * count + "word" + after * count)
+        self.says(HEAD + "report = word\n" + "\n".join(f"r{i} = " + "word " * 300 for i in range(5)))
 
     def test_reserved(self):
         reserved = (
@@ -90,18 +209,22 @@ class Messages(unittest.TestCase):
         )
         expected = "the name of a rule expected, not the reserved word"
         self.says(HEAD + "report = word\ntoken = word", f"x:5:1: {expected} token; {reserved}")
-        self.says(HEAD + "report = word\nmode = word", f"x:5:1: {expected} mode; {reserved}")
+        self.says(HEAD + "report = word\nindent = word", f"x:5:1: {expected} indent; {reserved}")
         self.says("start end", f"x:1:7: the name of the start rule expected, not the reserved word end; {reserved}")
 
     def test_rules_not_there(self):
         declared = lambda name: f"rule is declared by a line `{name} = ..`"
         like = f"is it entry? A {declared('entri')}"
         self.says(HEAD + "report = entri eol\nentry = word", f"x:4:10: no rule is named entri; {like}")
-        self.says(HEAD + "report = other", f"x:4:10: no rule is named other; a {declared('other')}")
-        self.says(HEAD + "report = loss", 'x:4:10: no rule is named loss; the keyword is written "loss"')
+        other = lambda name: f"a {declared(name)}, and a keyword is written \"{name}\""
+        self.says(HEAD + "report = other", f"x:4:10: no rule is named other; {other('other')}")
+        for name in ("loss", "Loss"):
+            self.says(HEAD + f"report = {name}", f'x:4:10: no rule is named {name}; the keyword is written "loss"')
+        self.says('keywords "loss"\nstart loss\nmode any\nreport = word',
+                  f"x:2:7: no rule is named loss; a {declared('loss')}")
         like = f"is it report? A {declared('repot')}"
         self.says("start repot\nmode any\nreport = word", f"x:1:7: no rule is named repot; {like}")
-        both = [f"x:4:{c}: no rule is named {name}; a {declared(name)}" for c, name in ((10, "one"), (14, "two"))]
+        both = [f"x:4:{c}: no rule is named {name}; {other(name)}" for c, name in ((10, "one"), (14, "two"))]
         self.says(HEAD + "report = one two", *both)
         twice = "x:5:1: rule report is there twice; the first is at 4:1 (the reader would answer: refused 2)"
         self.says(HEAD + "report = word\nreport = eol", twice)
@@ -114,16 +237,21 @@ class Messages(unittest.TestCase):
             ("numbers", "the reserved word number"),
             ("EOL", "the reserved word eol"),
             ("eof", "the reserved word end"),
+            ("newline", "the reserved word eol"),
             ("Tokens", "the reserved word token"),
             ("idnent", "the reserved word indent"),
             ("not", "the sign `!`"),
             ("or", "the sign `/`"),
+            ("repeat", "the sign `*` behind an expression"),
+            ("Optional", "the sign `?` behind an expression"),
+            ("then", "a blank, as in `number eol`"),
             ("Lines", "lines"),
             ("line-s", "lines"),
         ):
             told = f"x:4:10: no rule is named {name}; is it {meant}? A {declared(name)}"
             self.says(HEAD + f"report = {name} lines\nlines = word", told)
-        self.says(HEAD + "report = entry", f"x:4:10: no rule is named entry; a {declared('entry')}")
+        told = f"x:4:10: no rule is named entry; a {declared('entry')}, and a keyword is written \"entry\""
+        self.says(HEAD + "report = entry", told)
         self.says("start numbers\nmode any\nreport = word", f"x:1:7: no rule is named numbers; a {declared('numbers')}")
 
     def test_keywords_not_there(self):
@@ -131,6 +259,9 @@ class Messages(unittest.TestCase):
         self.says(HEAD + 'report = "arc"', f'x:4:10: "arc" {missing} {add}')
         self.says(HEAD + 'report = "los"', f'x:4:10: "los" {missing} is it "loss"? Otherwise {add}')
         self.says('start r\nmode any\nr = "arc"', f'x:3:5: "arc" {missing} declare it by a line `keywords "arc"`')
+        for name in ("number", "end", "entry"):
+            quotes = f"is it {name}, without quotes? Otherwise {add}"
+            self.says(HEAD + f'report = "{name}"\nentry = word', f'x:4:10: "{name}" {missing} {quotes}')
 
     def test_keywords_that_cannot_be(self):
         """No spelling is told that the reader would refuse."""
@@ -139,7 +270,8 @@ class Messages(unittest.TestCase):
         self.says(HEAD + 'report = "loss:"', f'x:4:10: "loss:" {cannot} {single} "loss" ":"')
         self.says(HEAD + 'report = "a:b:"', f'x:4:10: "a:b:" {cannot} {single} "a" ":" "b" ":"')
         self.says(HEAD + 'report = ""', f'x:4:10: "" {cannot} is empty, and no keyword holds a "')
-        self.says(HEAD + 'report = "a b"', f'x:4:10: "a b" {cannot} holds a blank or a control character')
+        self.says(HEAD + 'report = "a b"', f'x:4:10: "a b" {cannot} holds a blank or a control character; write "a" "b"')
+        self.says(HEAD + 'report = " "', f'x:4:10: " " {cannot} holds a blank or a control character')
         self.says('keywords "loss:"\nstart r\nmode any\nr = "loss"',
                   f'x:1:10: the keyword "loss:" {single} "loss" ":" (the reader would answer: refused 2)',
                   'x:4:5: "loss" is not among the keywords; add it to the keywords of line 1')
@@ -257,8 +389,11 @@ class Refusals(unittest.TestCase):
         self.same(self.keywords("k" * 65502), "refused 2")
         self.same(self.keywords("k" * 65503), "refused 1")
         self.assertEqual(first_line(self.keywords("k" * 65503)),
-                         "x: the grammar file would have 65536 bytes, and at most 65535 can be "
+                         "x:2:7: the grammar file would have 65536 bytes, and at most 65535 can be "
                          "(the reader would answer: refused 1)")
+        for length, place in ((65529, "1:10"), (65528, "1:65541"), (65515, "4:1"), (65505, "4:10"), (65500, "4:15")):
+            text = self.keywords("k" * length, "l").replace("= word", "= word eol")
+            self.assertRegex(first_line(text), f"^x:{place}: the grammar file would have 655.. bytes, ")
         self.same(self.keywords("a b", *(f"k{i}" for i in range(254))), "refused 1")
 
     def test_2(self):
@@ -266,9 +401,12 @@ class Refusals(unittest.TestCase):
             ("", "is empty"),
             ("k" * 33, "has 33 bytes, and at most 32 can be"),
             ("µ" * 17, "has 34 bytes, and at most 32 can be"),
-            ("a b", "holds a blank or a control character"),
-            ("a\tb", "holds a blank or a control character"),
-            ("a\x7f", "holds a blank or a control character"),
+            ("a b", 'holds a blank or a control character; write "a" "b"'),
+            ("a\tb", 'holds a blank or a control character; write "a" "b"'),
+            ("a\x7f", 'holds a blank or a control character; write "a"'),
+            (" ", "holds a blank or a control character"),
+            ("k" * 32 + ":", 'has 33 bytes, and at most 32 can be; write "' + "k" * 32 + '" ":"'),
+            ("k" * 33 + ":", "has 34 bytes, and at most 32 can be"),
             ("loss:", "holds ':', which is a token by itself; write \"loss\" \":\""),
             ("a(b", "holds '(', which is a token by itself; write \"a\" \"(\" \"b\""),
             ("%%", "holds '%', which is a token by itself; write \"%\""),
@@ -295,7 +433,7 @@ class Refusals(unittest.TestCase):
         self.same(self.rules(128), "passed")
         self.same(self.rules(129), "refused 3")
         self.assertEqual(first_line(self.rules(129)),
-                         "x:131:1: 129 rules, and at most 128 can be (the reader would answer: refused 3)")
+                         "x:131:1: rule r128: 129 rules, and at most 128 can be (the reader would answer: refused 3)")
         self.same("start r\nmode any\nr = " + "!" * 511 + "word", "passed")
         self.same("start r\nmode any\nr = " + "!" * 512 + "word", "refused 3")
         self.assertEqual(first_line("start r\nmode any\nr = " + "!" * 512 + "word"),
@@ -305,6 +443,8 @@ class Refusals(unittest.TestCase):
             self.same(text, answer)
         self.assertEqual(first_line(text), "x:4:10: rule report: 514 nodes, and at most 512 can be; "
                          "token, line and end take 514 of them, for 253 keywords (the reader would answer: refused 3)")
+        text = self.keywords("a").replace("= word", "= end " + "!" * 511 + "word")
+        self.assertIn("take 10 of them, for 1 keyword (", first_line(text))
 
     def test_7(self):
         reads = "repeats what may succeed without reading a token"
@@ -323,6 +463,37 @@ class Refusals(unittest.TestCase):
             self.assertEqual(first_line(HEAD + rules), f"x:{place}: {text} (the reader would answer: {answer})")
         self.same(HEAD + "report = (!empty)*", "passed")
         self.same(HEAD + "report = word report / empty", "passed")
+
+    def test_7_all(self):
+        """Each cause is told once, at its place, all with the reader's node; a rule that only leads to one is not told."""
+        reads = "repeats what may succeed without reading a token"
+        left = "is left recursive: it comes back to itself before a token is read,"
+        comes = lambda way: f"rule {way[0]} {left} {' -> '.join(way)}"
+        for rules, answer, *told in (
+            ("report = b c d e\nb = b word\nc = c eol\nd = (word?)*\ne = !b d", "refused 7 0",
+             f"5:1: {comes('bb')}", f"6:1: {comes('cc')}", f"7:6: rule d: (word?)* {reads}"),
+            ("report = b\nb = c\nc = d b\nd = word?\ne = b", "refused 7 0", f"5:1: {comes('bcb')}"),
+            ("report = b\nb = c / d / b word\nc = !word b\nd = b", "refused 7 0",
+             f"5:1: {comes('bb')}", f"5:1: {comes('bcb')}", f"5:1: {comes('bdb')}"),
+            ("report = b c\nb = (eol?)* c\nc = (eol?)+", "refused 7 0",
+             f"5:6: rule b: (eol?)* {reads}", f"6:6: rule c: (eol?)+ {reads}"),
+            ("report = word\nb = (word? / (eol?)*)* word", "refused 7 5",
+             f"5:6: rule b: (word? / (eol?)*)* {reads}", f"5:15: rule b: (eol?)* {reads}"),
+        ):
+            self.same(HEAD + rules, answer)
+            self.assertEqual(faults_of(HEAD + rules), [f"x:{line} (the reader would answer: {answer})" for line in told])
+
+    def test_7_none_is_missed(self):
+        """Where all rules that are told of random grammars read a word instead, the rest passes."""
+        chance, mended = random.Random(SEED), 0
+        for _ in range(GRAMMARS):
+            text = random_grammar(chance)
+            told = " ".join(faults_of(text))
+            for name in set(re.findall(r"(?:rule|->) (r\d)", told)):
+                text = re.sub(f"(?m)^{name} = .*$", f"{name} = word", text)
+            self.assertEqual(faults_of(text), [], text)
+            mended += "rule" in told
+        self.assertGreater(mended, GRAMMARS // 5)
 
     def test_random(self):
         """Random grammars: the verdict and the node are the reader's."""
@@ -361,8 +532,8 @@ def random_expression(chance, names, depth):
 class Command(unittest.TestCase):
     """The builder as it is started."""
 
-    def start(self, *words):
-        command = [sys.executable, str(ROOT / "tools/build.py"), *words]
+    def start(self, *words, builder=ROOT / "tools/build.py"):
+        command = [sys.executable, str(builder), *words]
         done = subprocess.run(command, capture_output=True, text=True, cwd=self.folder.name)
         return done.returncode, done.stdout, done.stderr
 
@@ -412,6 +583,53 @@ class Command(unittest.TestCase):
         self.assertEqual(lines[4], "3     terminal   1     0     0         report  4:17     word  (of line)")
         self.assertEqual(lines[-1], "rule 0, report, is node 12")
         self.assertEqual((status, err[:16]), (1, "x.grammar:4:10: "))
+        self.write("start r\nmode any\nr = word")
+        self.assertEqual(self.start("--nodes", "x.grammar"), (0, "\n".join((
+            "node  kind       a     b     relation  rule  place    in words",
+            "0     terminal   1     0     0         r     3:5      word",
+            "rule 0, r, is node 0\n")), ""))
+
+    def test_counts(self):
+        for rules, says in (
+            ("r = word", "1 node, 1 rule, 0 keywords"),
+            ('r = "a"\nkeywords "a"', "1 node, 1 rule, 1 keyword"),
+            ("r = word eol\ns = r", "4 nodes, 2 rules, 0 keywords"),
+        ):
+            self.write(f"start r\nmode any\n{rules}")
+            self.assertRegex(self.start("x.grammar", "x.bin")[1], f"^x.bin: {says}, [0-9]+ bytes\n$")
+
+    def test_line_ends(self):
+        """Line ends of other systems count as line ends, in comments and in places too."""
+        grammar = "# one\n" + HEAD + "report = word # two\nentry = &\n"
+        for end in ("\n", "\r\n", "\r"):
+            self.write(grammar.replace("\n", end))
+            self.assertEqual(self.start("x.grammar", "x.bin")[2],
+                             "x.grammar:6:9: an expression expected, not '&'; a keyword is written \"&\"\n")
+            self.write(grammar.replace("&", "eol").replace("\n", end))
+            self.assertEqual(self.start("x.grammar", "x.bin")[0], 0)
+
+    def test_no_text(self):
+        save = "save the file as UTF-8"
+        for file, place, byte in ((b"\xff\xfe", "1:1", 255), (b"start r\n# \xc3\xa4 \xe4", "2:5", 228),
+                                  (b"\xef\xbb\xbf\xff", "1:1", 255), (b"\r\n\r\r\n \xc3", "4:2", 195)):
+            self.write(file)
+            told = f"x.grammar:{place}: text in UTF-8 expected, not the byte {byte}; {save}\n"
+            self.assertEqual(self.start("x.grammar", "x.bin"), (1, "", told))
+        self.write(build.built(HEAD + "report = word")[1])
+        told = "x.grammar:1:1: a grammar in words expected, not a grammar file; GRAMMAR comes before FILE\n"
+        self.assertEqual(self.start("x.grammar", "x.bin"), (1, "", told))
+        self.write(bytes(range(256)))
+        self.assertRegex(self.start("x.grammar", "x.bin")[2], "^x.grammar:[0-9]+:[0-9]+: ")
+        self.assertEqual(self.start(".", "x.bin"), (1, "", ".: Is a directory\n"))
+
+    def test_copied_alone(self):
+        """The builder without the rest of the repository builds, and does not know its version."""
+        copy = pathlib.Path(self.folder.name) / "copy.py"
+        shutil.copy(ROOT / "tools/build.py", copy)
+        told = "the version is not known: include/saktroum.h, where it stands, is not beside the folder of this build.py\n"
+        self.assertEqual(self.start("--version", builder=copy), (1, "", told))
+        self.write(HEAD + "report = word")
+        self.assertEqual(self.start("x.grammar", "x.bin", builder=copy)[0], 0)
 
     def test_words(self):
         header = (ROOT / "include/saktroum.h").read_text()
@@ -423,8 +641,6 @@ class Command(unittest.TestCase):
         self.assertEqual(self.start("x.grammar")[0], 2)
         self.assertEqual(self.start("--nodes", "x.grammar", "x.bin")[0], 2)
         self.assertEqual(self.start("x.grammar", "x.bin"), (1, "", "x.grammar: No such file or directory\n"))
-        self.write(b"\xff\xfe")
-        self.assertEqual(self.start("x.grammar", "x.bin"), (1, "", "x.grammar: no UTF-8 text: invalid start byte at byte 0\n"))
         self.write(HEAD + "report = word")
         self.assertEqual(self.start("x.grammar", "no/x.bin"), (1, "", "no/x.bin: No such file or directory\n"))
 
