@@ -6,7 +6,7 @@ use mathlib.Core.List.{List, [], _∷_}
 use lib.ListN.{length, getD, drop}
 use lib.Dec.{eqb}
 use Rattle.file_fields.specs.Offsets.{offsetOf, keywordsFrom}
-use Rattle.spellings.specs.InternalKeys.{keyOf}
+use Rattle.spellings.specs.Keys.{keyOf}
 
 -- The first of some keywords, numbered from k on, that has a key; 255 where none has it.
 unfoldable pub firstOf : ℕ → List (List ℕ) → ℕ → ℕ
