@@ -29,13 +29,15 @@ returns-2 c =
 
 returns-3 : tie.Need-returns-3
 returns-3 c =
-    let h = passed (c .before .before .before .before .before) in
+    let first = c .before .before .before .before .before in
+    let h = passed first in
     (scan-short _ _ _ h (c .before .before .before .measure .ensures) (c .before .before .if1 .left) (c .if3 .taken), refl)
 
 write-requires : tie.Need-write-requires
 write-requires c κs =
     let measure = c .before .before .before .before .measure in
-    let h = passed (c .before .before .before .before .before .before) in
+    let first = c .before .before .before .before .before .before in
+    let h = passed first in
     (h .few, (h .short, omega (arith, measure .ensures .count, c .before .if3 .left)))
 
 returns-4 : tie.Need-returns-4
