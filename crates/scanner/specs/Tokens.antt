@@ -4,8 +4,7 @@ use mathlib.Core.Bool.{Bool, cond}
 use mathlib.Core.List.{List, [], _∷_}
 use lib.ListN.{take, drop}
 use Rattle.spellings.specs.Spellings.{sameBytes}
-pub use Rattle.number_spelling.specs.Number.{digitClass, isDigit, afterDigits, digitFirst, isEmpty}
-pub use Rattle.number_spelling.specs.Number.{fraction, unsigned, isNumber}
+use Rattle.number_spelling.specs.Number.{isNumber}
 use Rattle.places.specs.Places.{Place}
 
 -- "Terminal: 3 + k where the spelling equals keyword k ..", else 0 for a number, else 1: the keywords from k on.

@@ -9,7 +9,7 @@ use Rattle.table.specs.Words.{eachWords}
 use Rattle.table.specs.Limits.{mostTokens, mostColumn}
 use Rattle.table.specs.Answer.{Answer, given, refuseIf, andThen}
 use Rattle.grammar_file.specs.File.{keywords, fieldsOf, fileAnswer}
-pub use Rattle.report_checks.specs.Report.{mostBytes, refusedClass, fails8}
+pub use Rattle.report_checks.specs.Report.{fails8}
 use Rattle.places.specs.Places.{Place}
 use Rattle.scanner.specs.Tokens.{Token, tokenOf}
 use Rattle.token_words.specs.Places.{places}
