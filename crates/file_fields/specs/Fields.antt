@@ -37,6 +37,7 @@ fieldsUpTo zero (t ∷ bytes) = none
 fieldsUpTo (suc n) [] = some []
 fieldsUpTo (suc n) (t ∷ bytes) = firstField (t ∷ bytes) (fieldsUpTo n)
 
+-- The fields of a byte list: the bound is the number of its bytes.
 unfoldable pub fields : List ℕ → Option (List Field)
 fields bytes = fieldsUpTo (length bytes) bytes
 

@@ -106,7 +106,7 @@ fn both(a: bool, b: bool) -> bool
 }
 
 // Whether one of two tests holds.
-fn either(a: bool, b: bool) -> bool
+pub fn either(a: bool, b: bool) -> bool
     ensures { λ r. ⌜ r ≡ (a || b) ⌝ }
 {
     if a { true } else { b }

@@ -16,9 +16,8 @@ use Rattle.clauses.specs.Clauses.{Outcome}
 use Rattle.clauses.specs.RunAnswer.{ourOutcome, runAnswer}
 use lib.ListN.{length}
 use Rattle.grammar_file.specs.File.{Contents, fieldsOf, nodeTable, ruleList, startNode, startMode, fails1, fails2, fails5ByFile, fails6, contents, fileAnswer, readAnswer}
-use Rattle.scanner.specs.Places.{places}
-use Rattle.scanner.specs.Tokens.{wordsOf}
-use Rattle.scanner.specs.Scan.{scanTokens, scanAnswer, fails8, fails9, fails10}
+use Rattle.token_words.specs.Places.{places}
+use Rattle.token_words.specs.Scan.{wordsOf, scanTokens, scanAnswer, fails8, fails9, fails10}
 use Rattle.well_formed.specs.Check.{checkAnswer, verdictFrom, isWell}
 use Rattle.clauses.specs.Limits.{fails11, fails12}
 use Rattle.line.specs.Line.{startAt, scanAndRun, checkAndRun, lineAnswer}

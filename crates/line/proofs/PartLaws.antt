@@ -14,9 +14,8 @@ use Rattle.table.proofs.Every.{both-false}
 use Rattle.table.proofs.Words.{length-words}
 use Rattle.grammar_file.specs.File.{Contents, contents, fieldsOf, nodeTable, ruleList, fourWords, startNode, startMode, fails6, fileAnswer, readAnswer}
 use Rattle.file_fields.specs.Fields.{Field, tagged}
-use Rattle.scanner.specs.Places.{places}
-use Rattle.scanner.specs.Tokens.{tokens, tokenWords, wordsOf}
-use Rattle.scanner.specs.Scan.{scanTokens, scanAnswer, fails8, fails9, fails10}
+use Rattle.token_words.specs.Places.{places}
+use Rattle.token_words.specs.Scan.{tokens, tokenWords, wordsOf, scanTokens, scanAnswer, fails8, fails9, fails10}
 use Rattle.well_formed.specs.Check.{checkAnswer}
 use Rattle.columns.specs.declared.Interval.{Interval}
 use Rattle.clauses.specs.Clauses.{Outcome}

@@ -11,8 +11,7 @@ use Rattle.columns.specs.declared.Upper.the-variants.{Endless}
 use Rattle.columns.specs.declared.Interval.{Interval}
 use Rattle.columns.specs.declared.Start.{Start}
 use Rattle.grammar_file.specs.File.{fieldsOf, nodeTable, ruleList, startNode, startMode, readAnswer}
-use Rattle.scanner.specs.Tokens.{wordsOf}
-use Rattle.scanner.specs.Scan.{scanTokens, scanAnswer}
+use Rattle.token_words.specs.Scan.{wordsOf, scanTokens, scanAnswer}
 use Rattle.well_formed.specs.Check.{checkAnswer}
 use Rattle.clauses.specs.Clauses.{Outcome}
 use Rattle.clauses.specs.RunAnswer.{runAnswer}

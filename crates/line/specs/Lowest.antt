@@ -5,8 +5,7 @@ use mathlib.Core.List.{List}
 use Rattle.table.specs.Answer.{Answer, given, refused, refusedAt}
 use Rattle.table.specs.Limits.{mostNodes, mostRules, mostTokens}
 use Rattle.grammar_file.specs.File.{fieldsOf, nodeTable, ruleList, startNode, startMode, readAnswer}
-use Rattle.scanner.specs.Tokens.{wordsOf}
-use Rattle.scanner.specs.Scan.{scanTokens, scanAnswer}
+use Rattle.token_words.specs.Scan.{wordsOf, scanTokens, scanAnswer}
 use Rattle.well_formed.specs.Check.{checkAnswer}
 use Rattle.clauses.specs.RunAnswer.{runAnswer}
 use Rattle.line.specs.Line.{startAt}

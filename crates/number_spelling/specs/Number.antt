@@ -7,6 +7,7 @@ use Rattle.byte_class.specs.Bytes.{classOf}
 use Rattle.byte_class.specs.declared.Class.{Class}
 use Rattle.byte_class.specs.declared.Class.the-variants.{Break, Tab, Blank, Single, Digit, Run, Refused}
 
+-- The class of digits.
 abbrev pub digitClass : Class → Bool
 digitClass Break = false
 digitClass Tab = false
@@ -16,6 +17,7 @@ digitClass Digit = true
 digitClass Run = false
 digitClass Refused = false
 
+-- Whether a byte is a digit.
 unfoldable pub isDigit : ℕ → Bool
 isDigit byte = digitClass (classOf byte)
 
@@ -29,6 +31,7 @@ unfoldable pub digitFirst : List ℕ → Bool
 digitFirst [] = false
 digitFirst (b ∷ bytes) = isDigit b
 
+-- Whether no byte is left.
 unfoldable pub isEmpty : List ℕ → Bool
 isEmpty [] = true
 isEmpty (b ∷ bytes) = false

@@ -1,17 +1,29 @@
-// Spellings of numbers, and the terminal of a spelling that no keyword has.
+// Spellings of numbers, and the terminal of a spelling: a keyword's, or one that no keyword has.
 ghost use mathlib.Core.Path.{_≡_};
 ghost use mathlib.Core.Bool.{cond};
-ghost use Prim.Native.Nat.{_≤_};
+ghost use Prim.Native.Nat.{_+_, _≤_};
 ghost use lib.ListN.{length, drop};
 ghost use Rattle.number_spelling.specs.Number.{isDigit, isNumber, unsigned, afterDigits};
 use byte_class::Class;
 use byte_class::class_of;
+use table::terminals;
 
 // The terminal of a spelling that no keyword has.
 pub fn no_keyword(s: &[u8]) -> u32
     ensures { λ r. ⌜ r ≡ cond (isNumber (now (s .entry))) 0 1 ⌝ }
 {
-    if number(s) { 0 } else { 1 }
+    if number(s) {
+        terminals::NUMBER
+    } else {
+        terminals::WORD
+    }
+}
+
+// The terminal of keyword k.
+pub fn keyword_terminal(k: u8) -> u32
+    ensures { λ r. ⌜ r ≡ 3 + k ⌝ }
+{
+    terminals::FIRST_KEYWORD + k as u32
 }
 
 // The end of the digits from an index on.

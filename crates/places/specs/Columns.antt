@@ -17,6 +17,7 @@ columnBy Digit c = c + 1
 columnBy Run c = c + 1
 columnBy Refused c = c + 1
 
+-- The column behind a byte.
 unfoldable pub columnAfter : ℕ → ℕ → ℕ
 columnAfter byte c = columnBy (classOf byte) c
 

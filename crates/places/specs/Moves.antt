@@ -18,6 +18,7 @@ pub record Position : Type 0 where
   pub column : ℕ
   pub mark : Bool
 
+-- The position at an offset, a column and a mark.
 abbrev pub position : ℕ → ℕ → Bool → Position
 position o c m = record { offset = o; column = c; mark = m }
 
@@ -26,6 +27,7 @@ pub record Move : Type 0 where
   pub found : Option Place
   pub reached : Position
 
+-- The move that finds a place and goes to a position.
 abbrev pub move : Bool → ℕ → ℕ → ℕ → Position → Move
 move ends c o n to = record { found = some (record { ends = ends; column = c; offset = o; length = n }); reached = to }
 

@@ -13,7 +13,7 @@ pub record Place : Type 0 where
   pub offset : ℕ
   pub length : ℕ
 
--- "other tokens are longest runs of the remaining bytes": a digit or a run byte.
+-- "other tokens are longest runs of the remaining bytes": the classes of these bytes.
 abbrev pub runClass : Class → Bool
 runClass Break = false
 runClass Tab = false
@@ -23,6 +23,7 @@ runClass Digit = true
 runClass Run = true
 runClass Refused = false
 
+-- Whether a byte belongs to a run.
 unfoldable pub inRun : ℕ → Bool
 inRun byte = runClass (classOf byte)
 

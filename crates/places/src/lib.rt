@@ -1,8 +1,9 @@
-// Where the next token of a report stands.
+// Where the next token of a report stands, and the bytes of a token.
 mod classes;
 
 ghost use mathlib.Core.Path.{_≡_};
 ghost use mathlib.Core.Option.{none};
+ghost use lib.ListN.{take, drop};
 ghost use Rattle.places.specs.Moves.{position, nextIn, nextWithin, moveOf};
 ghost use Rattle.places.specs.InternalFind.{Room, RunEnd, Skipped, endFound, spellingFound};
 use classes::column_after;
@@ -148,5 +149,22 @@ fn spelling(column: u32, offset: usize, length: usize, at: usize, reached: u32) 
         at,
         reached,
         mark: true,
+    }
+}
+
+// The bytes of the token at a place, as a part of the report; what lies past the report is left out.
+pub fn bytes_at(report: &[u8], f: Found) -> &[u8]
+    ensures { λ r. ⌜ now r ≡ take (f .length) (drop (f .offset) (now (report .entry))) ⌝ }
+{
+    let from = f.offset;
+    let n = f.length;
+    if report.len() < from {
+        return &report[..0];
+    }
+    if n <= report.len() - from {
+        let end = from + n;
+        &report[from..end]
+    } else {
+        &report[from..]
     }
 }

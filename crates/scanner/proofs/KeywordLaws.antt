@@ -9,7 +9,8 @@ use lib.Seq.{drop-cons}
 use Rattle.spellings.specs.Spellings.{sameBytes}
 use Rattle.file_fields.specs.Offsets.{valueAt, offsetOf, fieldsFrom, keywordsFrom}
 use Rattle.file_fields.proofs.Offsets.{length-from, map-at}
-use Rattle.scanner.specs.Tokens.{isNumber, terminalFrom}
+use Rattle.number_spelling.specs.Number.{isNumber}
+use Rattle.scanner.specs.Tokens.{terminalFrom}
 
 pub length-keywords : (file : List ℕ) (count : ℕ) → length (keywordsFrom file count) ≡ count
 unfolding keywordsFrom

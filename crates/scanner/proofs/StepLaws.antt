@@ -13,11 +13,11 @@ use Rattle.file_fields.specs.Offsets.{keywordsFrom}
 use Rattle.grammar_file.specs.File.{Contents, keywords, fieldsOf, fileAnswer}
 use Rattle.table.proofs.AnswerLaws.{first-refuses, first-passes}
 use Rattle.scanner.specs.Tokens.{tokenOf}
-use Rattle.scanner.specs.Scan.{fails8}
 use Rattle.places.specs.Moves.{Position, nextIn, nextWithin, moveOf}
 use Rattle.scanner.specs.Steps.{stepFails8, stepFails9, stepAnswer, standing, numbers, positionOf}
 use Rattle.places.specs.InternalFind.{Room}
 use Rattle.scanner.specs.InternalFind.{Ready, HandsOut}
+use Rattle.report_checks.specs.Report.{fails8}
 use Rattle.report_checks.specs.FirstChecks.{firstAnswer, Passed, Checks}
 use Rattle.report_checks.specs.declared.Checked.{Checked}
 use Rattle.report_checks.specs.declared.Checked.the-variants.{Refused as NotChecked}

@@ -8,10 +8,10 @@ use lib.Dec.{ltb}
 use Rattle.table.specs.Limits.{mostColumn}
 use Rattle.table.specs.Answer.{Answer, given, refused, refusedAt, refuseIf, andThen}
 use Rattle.grammar_file.specs.File.{keywords, fieldsOf, fileAnswer}
+use Rattle.report_checks.specs.Report.{fails8}
 use Rattle.places.specs.Places.{Place}
 pub use Rattle.places.specs.Moves.{Position, position, Move, nextIn}
 use Rattle.scanner.specs.Tokens.{Token, tokenOf}
-use Rattle.scanner.specs.Scan.{fails8}
 use Rattle.scanner.specs.declared.Step.{Step}
 use Rattle.scanner.specs.declared.Handed.{Handed}
 use Rattle.scanner.specs.declared.Handed.the-variants.{Token as HandedToken, Nothing, Refused}
@@ -53,13 +53,14 @@ numbers (HandedToken t c o n) = given (some (record { terminal = t; column = c; 
 numbers Nothing = given none
 numbers (Refused n) = refused n
 
--- The tokens that are handed out one by one from a position on, at most n of them.
+-- A token in front of the later ones; none where a step hands none out.
 abbrev pub handOn : Answer (Option Token) → List Token → List Token
 handOn (given (some t)) later = t ∷ later
 handOn (given none) later = []
 handOn (refused n) later = []
 handOn (refusedAt n node) later = []
 
+-- The tokens that are handed out one by one from a position on, at most n of them.
 unfoldable pub handedOut : ℕ → List ℕ → List ℕ → Position → List Token
 handedOut zero file text p = []
 handedOut (suc n) file text p = handOn (stepAnswer file text p) (handedOut n file text (standing (stepAnswer file text p) text p))

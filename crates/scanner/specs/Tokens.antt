@@ -1,14 +1,11 @@
--- Tokens: the terminal, column, offset and length of each place (01, "The scanner").
+-- A token: the terminal, column, offset and length of a place (01, "The scanner").
 use Prim.Native.Nat.{ℕ, suc, _+_}
 use mathlib.Core.Bool.{Bool, cond}
-use mathlib.Core.List.{List, [], _∷_, map}
+use mathlib.Core.List.{List, [], _∷_}
 use lib.ListN.{take, drop}
-use Rattle.table.specs.Words.{eachWords}
 use Rattle.spellings.specs.Spellings.{sameBytes}
-pub use Rattle.number_spelling.specs.Number.{digitClass, isDigit, afterDigits, digitFirst, isEmpty}
-pub use Rattle.number_spelling.specs.Number.{fraction, unsigned, isNumber}
+use Rattle.number_spelling.specs.Number.{isNumber}
 use Rattle.places.specs.Places.{Place}
-use Rattle.scanner.specs.Places.{places}
 
 -- "Terminal: 3 + k where the spelling equals keyword k ..", else 0 for a number, else 1: the keywords from k on.
 unfoldable pub terminalFrom : ℕ → List (List ℕ) → List ℕ → ℕ
@@ -35,14 +32,3 @@ tokenOf keywords text p =
       offset = p .offset;
       length = p .length;
     }
-
--- The tokens of a text.
-unfoldable pub tokens : List (List ℕ) → List ℕ → List Token
-tokens keywords text = map (tokenOf keywords text) (places text)
-
--- "A token is four words".
-abbrev pub tokenWords : Token → List ℕ
-tokenWords t = t .terminal ∷ t .column ∷ t .offset ∷ t .length ∷ []
-
-abbrev pub wordsOf : List Token → List ℕ
-wordsOf ts = eachWords tokenWords ts

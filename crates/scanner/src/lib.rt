@@ -2,15 +2,16 @@
 mod terminals;
 
 ghost use mathlib.Core.Path.{_≡_};
-ghost use mathlib.Core.Bool.{true};
-ghost use Prim.Native.Nat.{_+_, _≤_};
-ghost use lib.ListN.{length, take, drop};
+ghost use Prim.Native.Nat.{_≤_};
 ghost use Rattle.file_fields.specs.Offsets.{keywordsFrom};
+ghost use Rattle.grammar_file.specs.File.{mostKeywords};
 ghost use Rattle.places.specs.Moves.{position, moveOf};
+ghost use Rattle.scanner.specs.Tokens.{terminalAt};
 ghost use Rattle.scanner.specs.Steps.{stepFails9, stepAnswer, standing, positionOf};
 ghost use Rattle.scanner.specs.Steps.{numbers as stepNumbers};
-ghost use Rattle.scanner.specs.InternalFind.{terminalOf, Ready, HandsOut};
+ghost use Rattle.scanner.specs.InternalFind.{Ready, HandsOut};
 use places::Found;
+use places::bytes_at;
 use places::find;
 use report_checks::Checked;
 use report_checks::first_checks;
@@ -19,9 +20,6 @@ use terminals::terminal;
 
 // The last column of a step.
 const LAST_STEP: u32 = 524280;
-
-// The last column of a token.
-const LAST_COLUMN: u32 = 65535;
 
 // What a step hands out.
 pub enum Handed {
@@ -85,7 +83,11 @@ fn stay(number: u8, at: usize, column: u32, mark: bool) -> Step
 fn too_wide(f: Found) -> bool
     ensures { λ r. ⌜ r ≡ stepFails9 (moveOf f .found) ⌝ }
 {
-    if f.any { LAST_COLUMN < f.column } else { false }
+    if f.any {
+        table::LAST_COLUMN < f.column
+    } else {
+        false
+    }
 }
 
 // The step to a place that was found.
@@ -115,24 +117,17 @@ fn hand_out(file: &[u8], keywords: usize, report: &[u8], f: Found) -> Step
     }
 }
 
-// The terminal of the token at a place: 2 at a line's end.
+// The terminal of the token at a place.
 fn terminal_at(file: &[u8], keywords: usize, report: &[u8], f: Found) -> u32
-    requires { ⌜ Ready (now report) keywords f ⌝ }
-    requires { ⌜ f .any ≡ true ⌝ }
-    ensures { λ r. ⌜ r ≡ terminalOf (now (file .entry)) keywords (now (report .entry)) f ⌝ }
+    requires { ⌜ keywords ≤ mostKeywords ⌝ }
+    ensures { λ r. ⌜
+        r
+        ≡ terminalAt (keywordsFrom (now (file .entry)) keywords) (now (report .entry)) (f .ends) (f .offset)
+        (f .length)
+        ⌝ }
 {
     if f.ends {
-        return 2;
+        return table::terminals::LINE_END;
     }
     terminal(file, keywords, bytes_at(report, f))
-}
-
-// The bytes of the token at a place.
-fn bytes_at(report: &[u8], f: Found) -> &[u8]
-    requires { ⌜ f .offset + f .length ≤ length (now report) ⌝ }
-    ensures { λ r. ⌜ now r ≡ take (f .length) (drop (f .offset) (now (report .entry))) ⌝ }
-{
-    let from = f.offset;
-    let end = from + f.length;
-    &report[from..end]
 }

@@ -11,7 +11,7 @@ use lib.Seq.{getD-set-same}
 use Rattle.table.specs.Every.{every}
 use Rattle.table.proofs.Cells.{set-stays}
 use Rattle.spellings.specs.Spellings.{sameBytes}
-use Rattle.spellings.specs.InternalKeys.{keyOf}
+use Rattle.spellings.specs.Keys.{keyOf}
 use Rattle.spellings.proofs.SpellingLaws.{every-each, same-exactly}
 
 -- The key of each of the first j spellings is marked.

@@ -1,2 +1,2 @@
 pub mod Spellings
-pub mod InternalKeys
+pub mod Keys

@@ -9,7 +9,7 @@ ghost use Rattle.byte_class.specs.Bytes.{isSingle};
 ghost use Rattle.spellings.specs.Spellings.{spelled as isSpelled, singleAlone, sameBytes};
 ghost use Rattle.spellings.specs.Spellings.{distinct as areDistinct, rightSpellings};
 ghost use Rattle.file_fields.specs.Offsets.{spellingsFrom};
-ghost use Rattle.spellings.specs.InternalKeys.{keyOf};
+ghost use Rattle.spellings.specs.Keys.{keyOf};
 use byte_class::Class;
 use byte_class::class_of;
 use file_fields::byte_in;

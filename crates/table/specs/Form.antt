@@ -29,16 +29,19 @@ decode (suc (suc (suc (suc (suc (suc (suc (suc zero)))))))) a b r = position a r
 decode (suc (suc (suc (suc (suc (suc (suc (suc (suc zero))))))))) a b r = align a  -- 9
 decode (suc (suc (suc (suc (suc (suc (suc (suc (suc (suc k)))))))))) a b r = other  -- over 9
 
--- The four words of node n.
+-- The first word of node n: its kind.
 abbrev pub kindOf : List ℕ → ℕ → ℕ
 kindOf nodes n = getD nodes (n * 4) 0
 
+-- The second: a.
 abbrev pub aOf : List ℕ → ℕ → ℕ
 aOf nodes n = getD nodes (n * 4 + 1) 0
 
+-- The third: b.
 abbrev pub bOf : List ℕ → ℕ → ℕ
 bOf nodes n = getD nodes (n * 4 + 2) 0
 
+-- The fourth: its relation.
 abbrev pub relationOf : List ℕ → ℕ → ℕ
 relationOf nodes n = getD nodes (n * 4 + 3) 0
 

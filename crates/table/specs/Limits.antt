@@ -1,10 +1,12 @@
--- The limits of tables and tokens (01, "The grammar table" and "The scanner"). The code has a constant beside each.
+-- The limits of tables and tokens (01, "The grammar table" and "The scanner"). The code has a constant beside each
+-- (`crates/table/src/lib.rt`).
 use Prim.Native.Nat.{ℕ}
 
--- "1 to 512 nodes, 0 to 128 rules"
+-- "1 to 512 nodes"
 abbrev pub mostNodes : ℕ
 mostNodes = 512
 
+-- "0 to 128 rules"
 abbrev pub mostRules : ℕ
 mostRules = 128
 
@@ -16,9 +18,10 @@ lastTerminal = 255
 abbrev pub relationCount : ℕ
 relationCount = 4
 
--- "At most 4,096 tokens, columns at most 65,535."
+-- "At most 4,096 tokens"
 abbrev pub mostTokens : ℕ
 mostTokens = 4096
 
+-- "columns at most 65,535"
 abbrev pub mostColumn : ℕ
 mostColumn = 65535

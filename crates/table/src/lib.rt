@@ -1,4 +1,5 @@
-// The grammar table: its limits, and whether two lent slices of words are a table and its rules (numbers 3, 4 and 5).
+// The grammar table: its limits and those of tokens, and whether two lent slices of words are a table and its rules
+// (numbers 3, 4 and 5).
 ghost use mathlib.Core.Path.{_≡_};
 ghost use mathlib.Core.Bool.{_&&_};
 ghost use Rattle.table.specs.Checks.{numbers, tableAnswer, rightWords, fails3, fails4, fails5};
@@ -6,6 +7,7 @@ ghost use Rattle.table.specs.Checks.{numbers, tableAnswer, rightWords, f
 pub mod kinds;
 pub mod refusals;
 pub mod relations;
+pub mod terminals;
 
 // The most nodes and rules of a table.
 pub const NODES: usize = 512;
@@ -17,6 +19,11 @@ pub const LAST_TERMINAL: u16 = 255;
 
 // How many relations, and token modes, there are.
 pub const RELATIONS: u16 = 4;
+
+// The most tokens, and the last column of one.
+pub const TOKENS: usize = 4096;
+
+pub const LAST_COLUMN: u32 = 65535;
 
 // Whether a table and its rules pass 3, 4 and 5, or the number of the first that fails.
 pub enum Checked {

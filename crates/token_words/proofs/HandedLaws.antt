@@ -15,9 +15,9 @@ use Rattle.table.specs.Answer.{Answer, given, refused, refusedAt, refuseIf, and
 use Rattle.table.proofs.AnswerLaws.{first-refuses, first-names, first-passes}
 use Rattle.grammar_file.specs.File.{Contents, keywords, fieldsOf, fileAnswer}
 use Rattle.places.specs.Places.{Place}
-use Rattle.scanner.specs.Places.{places}
-use Rattle.scanner.specs.Tokens.{Token, tokenOf, tokens}
-use Rattle.scanner.specs.Scan.{fails8, fails9, fails10, overColumn, scanTokens, scanAnswer}
+use Rattle.token_words.specs.Places.{places}
+use Rattle.scanner.specs.Tokens.{Token, tokenOf}
+use Rattle.token_words.specs.Scan.{tokens, fails8, fails9, fails10, overColumn, scanTokens, scanAnswer}
 use Rattle.places.specs.Moves.{Position, position, nextIn}
 use Rattle.scanner.specs.Steps.{stepFails8, stepFails9, stepAnswer, standing, handOn, handedOut}
 use Rattle.places.specs.InternalFind.{Room}

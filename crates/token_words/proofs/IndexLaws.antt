@@ -13,7 +13,7 @@ use lib.Seq.{drop-cons, getD-set-same, getD-set-other}
 use lib.Dec.{eqb}
 use Rattle.spellings.specs.Spellings.{sameBytes}
 use Rattle.file_fields.specs.Offsets.{valueAt, offsetOf, keywordsFrom}
-use Rattle.spellings.specs.InternalKeys.{keyOf}
+use Rattle.spellings.specs.Keys.{keyOf}
 use Rattle.spellings.proofs.SpellingLaws.{same-exactly}
 use Rattle.scanner.specs.Tokens.{terminalFrom}
 use Rattle.token_words.specs.InternalIndex.{firstOf, Starts, Linked, Indexed}

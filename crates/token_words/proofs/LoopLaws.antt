@@ -12,9 +12,9 @@ use Rattle.file_fields.proofs.Lists.{four-more, length-written}
 use Rattle.table.specs.Words.{eachWords}
 use Rattle.table.proofs.Words.{words-append, length-words}
 use Rattle.places.specs.Places.{Place}
-use Rattle.scanner.specs.Places.{places}
-use Rattle.scanner.specs.Tokens.{Token, tokenOf, terminalAt, tokens, tokenWords, wordsOf}
-use Rattle.scanner.specs.Scan.{overColumn}
+use Rattle.token_words.specs.Places.{places}
+use Rattle.scanner.specs.Tokens.{Token, tokenOf, terminalAt}
+use Rattle.token_words.specs.Scan.{tokens, tokenWords, wordsOf, overColumn}
 use Rattle.places.specs.Moves.{Position, position, nextWithin, moveOf}
 use Rattle.places.specs.InternalFind.{Room}
 use Rattle.token_words.specs.InternalScan.{Measured}

@@ -15,7 +15,7 @@ use Rattle.byte_class.specs.declared.Class.the-variants.{Break, Tab, Blank, Sin
 use Rattle.file_fields.proofs.FieldLaws.{from-one}
 use Rattle.places.specs.Columns.{columnBy, columnAfter, columnAt, columnOver}
 use Rattle.places.specs.Places.{Place, runClass, inRun, runLength}
-use Rattle.scanner.specs.Places.{midRun, markBy, markAfter, hadToken, lineEnd, spelling, placeBy, placeAt, placesAt, places}
+use Rattle.token_words.specs.Places.{midRun, markBy, markAfter, hadToken, lineEnd, spelling, placeBy, placeAt, placesAt, places}
 use Rattle.places.specs.Moves.{Position, position, Move, nextPlace, nextIn}
 use Rattle.places.specs.InternalFind.{passedBy, passedOver, Room}
 use Rattle.places.proofs.FindLaws.{column-grows, over-move, run-move, break-move, single-move, run-more, run-none}

@@ -12,9 +12,9 @@ use Rattle.table.proofs.Words.{length-words}
 use Rattle.table.specs.Answer.{Answer, given, refused, refusedAt, refuseIf, andThen, afterwards}
 use Rattle.table.proofs.AnswerLaws.{first-refuses, first-passes}
 use Rattle.grammar_file.specs.File.{Contents, keywords, fieldsOf, fileAnswer}
-use Rattle.scanner.specs.Places.{places}
-use Rattle.scanner.specs.Tokens.{tokenOf, tokens, tokenWords, wordsOf}
-use Rattle.scanner.specs.Scan.{fails8, fails9, fails10, scanTokens, scanAnswer}
+use Rattle.token_words.specs.Places.{places}
+use Rattle.scanner.specs.Tokens.{tokenOf}
+use Rattle.token_words.specs.Scan.{tokens, tokenWords, wordsOf, fails8, fails9, fails10, scanTokens, scanAnswer}
 use Rattle.report_checks.specs.FirstChecks.{firstAnswer, Passed, Checks}
 use Rattle.report_checks.specs.declared.Checked.{Checked}
 use Rattle.report_checks.specs.declared.Checked.the-variants.{Refused as NotChecked}

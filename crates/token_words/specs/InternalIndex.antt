@@ -1,4 +1,4 @@
--- The scanner's index of a grammar file's keywords by the keys of their spellings. No public promise rests on this file.
+-- The index of a grammar file's keywords by the keys of their spellings. No public promise rests on this file.
 use Prim.Native.Nat.{ℕ, suc, _+_, _≤_, _<_}
 use mathlib.Core.Path.{_≡_}
 use mathlib.Core.Bool.{cond}
@@ -6,7 +6,8 @@ use mathlib.Core.List.{List, [], _∷_}
 use lib.ListN.{length, getD, drop}
 use lib.Dec.{eqb}
 use Rattle.file_fields.specs.Offsets.{offsetOf, keywordsFrom}
-use Rattle.spellings.specs.InternalKeys.{keyOf}
+use Rattle.spellings.specs.Keys.{keyOf}
+use Rattle.grammar_file.specs.File.{mostKeywords}
 
 -- The first of some keywords, numbered from k on, that has a key; 255 where none has it.
 unfoldable pub firstOf : ℕ → List (List ℕ) → ℕ → ℕ
@@ -29,7 +30,8 @@ pub record Linked (keywords : List (List ℕ)) (k : ℕ) (firsts nexts : List �
       → i < length keywords
       → getD nexts i 0 ≡ firstOf (i + 1) (drop (i + 1) keywords) (keyOf (getD keywords i []))
 
+-- A whole index of the first keywords of a file.
 pub record Indexed (file : List ℕ) (count : ℕ) (offsets firsts nexts : List ℕ) : Type 0 where
-  pub few : count ≤ 253
+  pub few : count ≤ mostKeywords
   pub starts : Starts file count offsets
   pub linked : Linked (keywordsFrom file count) 0 firsts nexts

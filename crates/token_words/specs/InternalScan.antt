@@ -4,11 +4,11 @@ use mathlib.Core.Path.{_≡_}
 use mathlib.Core.List.{List, _++_}
 use lib.ListN.{length, drop}
 use Rattle.file_fields.specs.Offsets.{keywordsFrom}
-use Rattle.scanner.specs.Places.{places}
-use Rattle.scanner.specs.Tokens.{tokens, wordsOf}
-use Rattle.scanner.specs.Scan.{overColumn}
+use Rattle.token_words.specs.Places.{places}
+use Rattle.token_words.specs.Scan.{tokens, wordsOf, overColumn}
 use Rattle.token_words.specs.declared.Tally.{Tally}
 
+-- The tally of a report: how many tokens it has, and whether one stands past the last column.
 pub record Measured (text : List ℕ) (m : Tally) : Type 0 where
   pub count : m .count ≡ length (places text)
   pub over : m .over ≡ overColumn (places text)

@@ -3,6 +3,7 @@ ghost use mathlib.Core.Path.{_≡_};
 ghost use Prim.Native.Nat.{_≤_};
 ghost use lib.ListN.{length, replicate};
 ghost use Rattle.file_fields.specs.Offsets.{keywordsFrom};
+ghost use Rattle.grammar_file.specs.File.{mostKeywords};
 ghost use Rattle.token_words.specs.InternalIndex.{Starts, Linked};
 use file_fields::next_at;
 use file_fields::value_at;
@@ -30,7 +31,7 @@ pub(crate) fn link(
     firsts: &mut [u8],
     nexts: &mut [u8],
 )
-    requires { ⌜ count ≤ 253 ⌝ }
+    requires { ⌜ count ≤ mostKeywords ⌝ }
     requires { ⌜ Starts (now file) count (now offsets) ⌝ }
     requires { ⌜ now firsts ≡ replicate 4096 255 ⌝ }
     requires { ⌜ count ≤ length (now nexts) ⌝ }

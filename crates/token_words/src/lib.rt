@@ -4,33 +4,33 @@ mod index;
 ghost use mathlib.Core.Path.{_≡_};
 ghost use mathlib.Core.Bool.{_||_};
 ghost use lib.Dec.{ltb};
-ghost use Prim.Native.Nat.{_+_, _*_, _≤_, _<_};
-ghost use lib.ListN.{length, take, drop};
+ghost use Prim.Native.Nat.{_*_, _≤_};
+ghost use lib.ListN.{length};
+ghost use Rattle.table.specs.Limits.{mostColumn};
 ghost use Rattle.table.specs.Answer.{afterwards};
 ghost use Rattle.file_fields.specs.Offsets.{keywordsFrom};
-ghost use Rattle.scanner.specs.Places.{places};
-ghost use Rattle.scanner.specs.Tokens.{terminalFrom, wordsOf};
-ghost use Rattle.scanner.specs.Scan.{scanTokens, scanAnswer};
-ghost use Rattle.scanner.specs.InternalFind.{terminalOf};
+ghost use Rattle.grammar_file.specs.File.{mostKeywords};
+ghost use Rattle.report_checks.specs.Report.{mostBytes};
+ghost use Rattle.scanner.specs.Tokens.{terminalFrom, terminalAt};
+ghost use Rattle.token_words.specs.Places.{places};
+ghost use Rattle.token_words.specs.Scan.{wordsOf, scanTokens, scanAnswer};
 ghost use Rattle.token_words.specs.Numbers.{numbers as scanNumbers};
 ghost use Rattle.token_words.specs.InternalScan.{written, Measured};
 ghost use Rattle.token_words.specs.InternalIndex.{Indexed};
 use file_fields::value_at;
 use index::link;
 use index::starts;
+use number_spelling::keyword_terminal;
 use number_spelling::no_keyword;
 use places::Found;
+use places::bytes_at;
 use places::find;
 use report_checks::Checked;
 use report_checks::first_checks;
 use spellings::key;
 use spellings::same;
 use table::refusals;
-
-// The most tokens, and the last column of one.
-const TOKENS: usize = 4096;
-
-const LAST_COLUMN: u32 = 65535;
+use table::terminals;
 
 // How many tokens were written, or the number of the first check that fails.
 pub enum Scanned {
@@ -64,7 +64,7 @@ pub fn scan(file: &[u8], report: &[u8], tokens: &mut [u32]) -> Scanned
                 return Scanned::Refused(refusals::COLUMN);
             }
             let count = m.count;
-            if count > TOKENS {
+            if count > table::TOKENS {
                 return Scanned::Refused(refusals::TOKEN_ROOM);
             }
             if tokens.len() / 4 < count {
@@ -78,7 +78,7 @@ pub fn scan(file: &[u8], report: &[u8], tokens: &mut [u32]) -> Scanned
 
 // Goes through the tokens of a report without their terminals.
 fn measure(report: &[u8]) -> Tally
-    requires { ⌜ length (now report) ≤ 65535 ⌝ }
+    requires { ⌜ length (now report) ≤ mostBytes ⌝ }
     ensures { λ r. ⌜ Measured (now (report .entry)) r ⌝ }
 {
     let mut count = 0;
@@ -101,15 +101,19 @@ fn measure(report: &[u8]) -> Tally
 
 // Whether a column is over the last, or one before it was.
 fn wider(over: bool, column: u32) -> bool
-    ensures { λ r. ⌜ r ≡ (over || ltb 65535 column) ⌝ }
+    ensures { λ r. ⌜ r ≡ (over || ltb mostColumn column) ⌝ }
 {
-    if over { true } else { LAST_COLUMN < column }
+    if over {
+        true
+    } else {
+        table::LAST_COLUMN < column
+    }
 }
 
 // Writes the tokens of a report.
 fn write(file: &[u8], keywords: usize, report: &[u8], tokens: &mut [u32])
-    requires { ⌜ keywords ≤ 253 ⌝ }
-    requires { ⌜ length (now report) ≤ 65535 ⌝ }
+    requires { ⌜ keywords ≤ mostKeywords ⌝ }
+    requires { ⌜ length (now report) ≤ mostBytes ⌝ }
     requires { ⌜ length (places (now report)) * 4 ≤ length (now tokens) ⌝ }
     ensures { λ _. ⌜
         now (tokens .exit) ≡ written (now (file .entry)) keywords (now (report .entry)) (now (tokens .entry))
@@ -134,7 +138,7 @@ fn write_all(
     tokens: &mut [u32],
 )
     requires { ⌜ Indexed (now file) keywords (now offsets) (now firsts) (now nexts) ⌝ }
-    requires { ⌜ length (now report) ≤ 65535 ⌝ }
+    requires { ⌜ length (now report) ≤ mostBytes ⌝ }
     requires { ⌜ length (places (now report)) * 4 ≤ length (now tokens) ⌝ }
     ensures { λ _. ⌜
         now (tokens .exit) ≡ written (now (file .entry)) keywords (now (report .entry)) (now (tokens .entry))
@@ -160,7 +164,7 @@ fn write_all(
     }
 }
 
-// The terminal of the token at a place, by an index of the keywords: 2 at a line's end.
+// The terminal of the token at a place, by an index of the keywords.
 fn indexed_at(
     file: &[u8],
     keywords: usize,
@@ -171,23 +175,16 @@ fn indexed_at(
     f: Found,
 ) -> u32
     requires { ⌜ Indexed (now file) keywords (now offsets) (now firsts) (now nexts) ⌝ }
-    requires { ⌜ f .offset + f .length ≤ length (now report) ⌝ }
-    ensures { λ r. ⌜ r ≡ terminalOf (now (file .entry)) keywords (now (report .entry)) f ⌝ }
+    ensures { λ r. ⌜
+        r
+        ≡ terminalAt (keywordsFrom (now (file .entry)) keywords) (now (report .entry)) (f .ends) (f .offset)
+        (f .length)
+        ⌝ }
 {
     if f.ends {
-        return 2;
+        return terminals::LINE_END;
     }
     indexed(file, keywords, offsets, firsts, nexts, bytes_at(report, f))
-}
-
-// The bytes of the token at a place.
-fn bytes_at(report: &[u8], f: Found) -> &[u8]
-    requires { ⌜ f .offset + f .length ≤ length (now report) ⌝ }
-    ensures { λ r. ⌜ now r ≡ take (f .length) (drop (f .offset) (now (report .entry))) ⌝ }
-{
-    let from = f.offset;
-    let end = from + f.length;
-    &report[from..end]
 }
 
 // 3 + k where a spelling equals keyword k of count, else 0 for a number, else 1, by an index of the keywords.
@@ -205,16 +202,9 @@ fn indexed(
     let mut k = firsts[key(s)] as usize;
     while k < count {
         if same(value_at(file, offsets[k]), s) {
-            return keyword_terminal(k);
+            return keyword_terminal(k as u8);
         }
         k = nexts[k] as usize;
     }
     no_keyword(s)
-}
-
-fn keyword_terminal(k: usize) -> u32
-    requires { ⌜ k < 253 ⌝ }
-    ensures { λ r. ⌜ r ≡ 3 + k ⌝ }
-{
-    3 + k as u32
 }

@@ -13,10 +13,11 @@ use Rattle.well_formed.specs.Rounds.{knownAfter, wellAfter}
 use Rattle.well_formed.specs.declared.Verdict.{Verdict}
 use Rattle.well_formed.specs.declared.Verdict.the-variants.{Passes, Refused, IllFormed}
 
--- Whether node n may succeed reading nothing, and whether it is well formed, by as many rounds as settle either.
+-- Whether node n may succeed reading nothing, by as many rounds as settle it.
 unfoldable pub mayNothing : List ℕ → List ℕ → ℕ → Bool
 mayNothing nodes rules n = knownAfter nodes rules (nodeCount nodes * 3) nothing n
 
+-- Whether it is well formed, by as many rounds as settle that.
 unfoldable pub isWell : List ℕ → List ℕ → ℕ → Bool
 isWell nodes rules n = wellAfter nodes rules (mayNothing nodes rules) (nodeCount nodes) n
 

@@ -18,7 +18,7 @@ learnt cells n b = cond b (set cells n true) cells
 
 -- The node that a form asks first: its rule's node, or a.
 abbrev pub firstChild : List ℕ → ℕ → ℕ → ℕ
-firstChild rules kind a = cond (eqb kind 2) (standsFor rules a) a
+firstChild rules kind a = cond (eqb kind 2) (standsFor rules a) a  -- 2 is a rule
 
 -- The cells of each fact, out of three lists.
 abbrev pub three : List Bool → List Bool → List Bool → Fact → List Bool

@@ -7,6 +7,7 @@ use Rattle.table.specs.Form.{align, form, standsFor, nodeCount}
 use Rattle.well_formed.specs.Facts.{nothing, May}
 
 module _ (nodes rules : List ℕ) where
+  -- WellFormed f: a form f is well formed. A constructor for each rule.
   pub data WellFormed : Form → Type 0 where
     -- "empty and terminal;"
     empty-well : WellFormed empty

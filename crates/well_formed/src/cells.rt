@@ -1,7 +1,7 @@
 // A truth value for each node.
 use table::kinds;
 ghost use mathlib.Core.Path.{_≡_};
-ghost use mathlib.Core.Bool.{false, not, _&&_, _||_};
+ghost use mathlib.Core.Bool.{false, not, _&&_};
 ghost use Prim.Native.Nat.{_<_};
 ghost use lib.ListN.{length, getD};
 ghost use Rattle.well_formed.specs.InternalPasses.{learnt, firstChild};
@@ -40,11 +40,4 @@ pub(crate) fn first_child(rules: &[u16], kind: u16, a: u16) -> usize
     } else {
         0
     }
-}
-
-// Whether one of two tests holds.
-pub(crate) fn either(a: bool, b: bool) -> bool
-    ensures { λ r. ⌜ r ≡ (a || b) ⌝ }
-{
-    if a { true } else { b }
 }

@@ -1,9 +1,9 @@
 // The three facts of each node, found in passes over the table.
-use crate::cells::either;
 use crate::cells::first_child;
 use crate::cells::has;
 use crate::cells::learn;
 use form_facts::Facts;
+use form_facts::either;
 use form_facts::facts_by_form;
 ghost use mathlib.Core.Path.{_≡_};
 ghost use Prim.Native.Nat.{_<_};

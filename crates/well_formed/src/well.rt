@@ -1,8 +1,8 @@
 // The nodes that are well formed, found in passes over the table.
-use crate::cells::either;
 use crate::cells::first_child;
 use crate::cells::has;
 use crate::cells::learn;
+use form_facts::either;
 use form_facts::well_by_form;
 ghost use mathlib.Core.Path.{_≡_};
 ghost use mathlib.Core.Bool.{false};

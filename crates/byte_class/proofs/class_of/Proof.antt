@@ -88,8 +88,10 @@ returns-5 c = plain _ false (omega arith) (c .before .before .before .before .ma
 returns-6 : tie.Need-returns-6
 returns-6 c =
     let byte = c .before .before .before .before .before .before .before .args .b in
-    plain _ false (omega arith) (c .before .before .before .before .before .before .match .rest .1)
-    (rw (le-leb _ _ (c .before .before .if4 .left), lt-leb byte 57 (omega arith)))
+    let apart : Apart byte = omega arith in
+    let above : 57 < byte = omega arith in
+    let match = c .before .before .before .before .before .before .match in
+    plain _ false apart (match .rest .1) (rw (le-leb _ _ (c .before .before .if4 .left), lt-leb byte 57 above))
 
 returns-7 : tie.Need-returns-7
 returns-7 c = lone _ (c .match .keys6)

@@ -120,12 +120,14 @@ returns-3 c =
 returns-4 : tie.Need-returns-4
 returns-4 c =
     let point = c .before .before .if3 .left in
-    sym (behind (c .before .before .before .before .before) ∙ no-fraction _ _ _ (omega arith) point (c .before .digits-end2 .ensures) (c .if4 .taken))
+    let earlier = c .before .before .before .before .before in
+    sym (behind earlier ∙ no-fraction _ _ _ (omega arith) point (c .before .digits-end2 .ensures) (c .if4 .taken))
 
 returns-5 : tie.Need-returns-5
 returns-5 c =
     let point = c .before .before .if3 .left in
-    sym (behind (c .before .before .before .before .before) ∙ with-fraction _ _ _ (omega arith) point (c .before .digits-end2 .ensures) (c .if4 .left))
+    let earlier = c .before .before .before .before .before in
+    sym (behind earlier ∙ with-fraction _ _ _ (omega arith) point (c .before .digits-end2 .ensures) (c .if4 .left))
 
 pub number-spec : {M : Type 1} → statement M
 number-spec =

@@ -4,8 +4,7 @@ use Rattle.saktroum.proofs.saktroum_scan.Statement.{statement}
 use Rattle.saktroum.proofs.saktroum_scan.Tie as tie
 use mathlib.Core.Path.{refl, sym, ap, _∙_}
 use Rattle.table.specs.Answer.{afterwards}
-use Rattle.scanner.specs.Tokens.{wordsOf}
-use Rattle.scanner.specs.Scan.{scanTokens}
+use Rattle.token_words.specs.Scan.{wordsOf, scanTokens}
 use Rattle.token_words.specs.Numbers.{numbers}
 
 returns : tie.Need-returns

@@ -9,7 +9,7 @@ returns : tie.Need-returns
 returns c = record { token = rw (not-true (c .before .before .before .before .args .f .any) (c .if1 .taken)) refl; reached = refl }
 
 terminal-at-requires : tie.Need-terminal-at-requires
-terminal-at-requires c κs = (c .before .before .before .before .pre, not-false _ (c .if1 .left))
+terminal-at-requires c κs = c .before .before .before .before .pre .few
 
 cast-t9 : tie.Need-cast-t9
 cast-t9 c =

@@ -14,8 +14,7 @@ from c = let args = c .before .before .before .before .before .args in position 
 
 passed :
     (c : tie.After-first2)
-    → Passed (c .before .before .before .before .before .args .file .now) (c .before .before .before .before .before .args .report .now)
-    (c .first2 .given .0 .0)
+    → (let args = c .before .before .before .before .before .args in Passed (args .file .now) (args .report .now) (c .first2 .given .0 .0))
 passed c = passed-of (c .before .before .first-checks .ensures) (c .first2 .given .1)
 
 returns : tie.Need-returns

@@ -9,12 +9,9 @@ returns : tie.Need-returns
 unfolding terminalAt
 returns c = rw (c .if1 .taken) refl
 
-bytes-at-requires : tie.Need-bytes-at-requires
-bytes-at-requires c κs = c .before .before .before .pre .0 .inside (c .before .before .before .pre .1)
-
 returns-2 : tie.Need-returns-2
 unfolding terminalAt
 returns-2 c = c .terminal .ensures ∙ rw (c .before .before .if1 .left, c .before .bytes-at .ensures) refl
 
 pub terminal-at-spec : {M : Type 1} → statement M
-terminal-at-spec = tie.close (tie.spec returns bytes-at-requires (λ c κs. search needs) returns-2)
+terminal-at-spec = tie.close (tie.spec returns (λ c κs. search needs) (λ c κs. search needs) returns-2)

@@ -4,7 +4,7 @@ use Rattle.spellings.proofs.key.Statement.{statement}
 use Rattle.spellings.proofs.key.Tie as tie
 use native.Mathlib.Omega.{arith}
 use mathlib.Core.Path.{refl}
-use Rattle.spellings.specs.InternalKeys.{keyOf}
+use Rattle.spellings.specs.Keys.{keyOf}
 
 returns : tie.Need-returns
 unfolding keyOf

@@ -34,8 +34,8 @@ shared-slice-read-value-at c =
     let start = c .before .before .before .before .before .before .before .before .before .before in
     omega (arith, start .pre .starts .room)
 
-keyword-terminal-requires : tie.Need-keyword-terminal-requires Inv-loop μ-loop
-keyword-terminal-requires c κs =
+cast-keyword-terminal : tie.Need-cast-keyword-terminal Inv-loop μ-loop
+cast-keyword-terminal c =
     let start = c .before .before .before .before .before .before .before .before .before .before .before .before .before in
     omega (arith, start .pre .few)
 
@@ -95,5 +95,5 @@ pub indexed-spec : {M : Type 1} → statement M
 indexed-spec =
     tie.close
     (tie.spec Inv-loop μ-loop (λ c κs. tt) shared-slice-read-k cast-k loop-holds (λ c. search needs)
-    shared-slice-read-value-at (λ c κs. tt) (λ c κs. tt) keyword-terminal-requires returns shared-slice-read-k-2
+    shared-slice-read-value-at (λ c κs. tt) (λ c κs. tt) cast-keyword-terminal (λ c κs. tt) returns shared-slice-read-k-2
     cast-k-2 loop-less loop-again (λ c κs. tt) returns-2)

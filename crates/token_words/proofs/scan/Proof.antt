@@ -12,8 +12,8 @@ use Rattle.token_words.proofs.ScanLaws.{scan-first, scan-9, scan-many, 
 -- What the first checks give where they passed.
 passed :
     (c : tie.After-first2)
-    → Passed (c .before .before .before .before .before .before .args .file .now) (c .before .before .before .before .before .before .args .report .now)
-    (c .first2 .given .0 .0)
+    → (let args = c .before .before .before .before .before .before .args in
+    Passed (args .file .now) (args .report .now) (c .first2 .given .0 .0))
 passed c = passed-of (c .before .before .first-checks .ensures) (c .first2 .given .1)
 
 measure-requires : tie.Need-measure-requires
@@ -29,13 +29,15 @@ returns-2 c =
 
 returns-3 : tie.Need-returns-3
 returns-3 c =
-    let h = passed (c .before .before .before .before .before) in
+    let first = c .before .before .before .before .before in
+    let h = passed first in
     (scan-short _ _ _ h (c .before .before .before .measure .ensures) (c .before .before .if1 .left) (c .if3 .taken), refl)
 
 write-requires : tie.Need-write-requires
 write-requires c κs =
     let measure = c .before .before .before .before .measure in
-    let h = passed (c .before .before .before .before .before .before) in
+    let first = c .before .before .before .before .before .before in
+    let h = passed first in
     (h .few, (h .short, omega (arith, measure .ensures .count, c .before .if3 .left)))
 
 returns-4 : tie.Need-returns-4

@@ -21,8 +21,9 @@ abbrev μ-loop : tie.MeasureT-loop
 -- Where a place was found: it lies in the report, and four words more have room.
 inside :
     (c : tie.Else1 Inv-loop μ-loop)
-    → c .before .before .find .result .offset + c .before .before .find .result .length ≤ length
-    (c .before .before .before .before .before .before .before .before .before .before .args .report .now)
+    → (let found = c .before .before .find .result in
+    let start = c .before .before .before .before .before .before .before .before .before .before in
+    found .offset + found .length ≤ length (start .args .report .now))
 inside c =
     let find = c .before .before .find in
     let loop = c .before .before .before .loop in
@@ -74,7 +75,7 @@ returns c =
 indexed-at-requires : tie.Need-indexed-at-requires Inv-loop μ-loop
 indexed-at-requires c κs =
     let start = c .before .before .before .before .before .before .before .before .before .before in
-    (start .pre .0, inside c)
+    start .pre .0
 
 mul-tokens : tie.Need-mul-tokens Inv-loop μ-loop
 mul-tokens c = omega (arith, room (c .before))

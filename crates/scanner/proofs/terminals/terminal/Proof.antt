@@ -62,5 +62,5 @@ returns-2 c =
 pub terminal-spec : {M : Type 1} → statement M
 terminal-spec =
     tie.close
-    (tie.spec Inv-loop μ-loop loop-holds (λ c κs. tt) (λ c κs. tt) (λ c κs. omega arith) returns
+    (tie.spec Inv-loop μ-loop loop-holds (λ c κs. tt) (λ c κs. tt) (λ c. omega arith) (λ c κs. tt) returns
     (λ c κs. tt) (λ c. omega arith) (λ c. omega arith) loop-again (λ c κs. tt) returns-2)

@@ -26,9 +26,11 @@ markBy Digit m = true
 markBy Run m = true
 markBy Refused m = m
 
+-- The same behind a byte.
 unfoldable pub markAfter : ℕ → Bool → Bool
 markAfter byte m = markBy (classOf byte) m
 
+-- Whether the line at an offset has had a token.
 unfoldable pub hadToken : List ℕ → ℕ → Bool
 hadToken text zero = false
 hadToken text (suc i) = markAfter (getD text i 0) (hadToken text i)
@@ -37,6 +39,7 @@ hadToken text (suc i) = markAfter (getD text i 0) (hadToken text i)
 abbrev pub lineEnd : Bool → ℕ → ℕ → List Place
 lineEnd had c o = cond had (record { ends = true; column = c; offset = o; length = 0 } ∷ []) []
 
+-- A single byte or a run: its column, offset and length.
 abbrev pub spelling : ℕ → ℕ → ℕ → List Place
 spelling c o n = record { ends = false; column = c; offset = o; length = n } ∷ []
 
@@ -51,6 +54,7 @@ placeBy Digit had mid c o n = cond mid [] (spelling c o n)
 placeBy Run had mid c o n = cond mid [] (spelling c o n)
 placeBy Refused had mid c o n = []
 
+-- The token that begins at an offset, if one does.
 unfoldable pub placeAt : List ℕ → ℕ → List Place
 placeAt text i = placeBy (classOf (getD text i 0)) (hadToken text i) (midRun text i) (columnAt text i) i (runLength (drop i text))
 

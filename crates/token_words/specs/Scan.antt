@@ -1,22 +1,37 @@
--- Numbers 8, 9 and 10, and what a whole scan answers (01, "The scanner" and "Turned-down calls").
+-- The tokens of a report and their words, numbers 9 and 10, and what a whole scan answers (01, "The scanner" and
+-- "Turned-down calls").
 use Prim.Native.Nat.{ℕ, _*_}
 use mathlib.Core.Bool.{Bool, false, _||_}
-use mathlib.Core.List.{List, [], _∷_}
+use mathlib.Core.List.{List, [], _∷_, map}
 use lib.ListN.{length}
 use lib.Dec.{ltb}
+use Rattle.table.specs.Words.{eachWords}
 use Rattle.table.specs.Limits.{mostTokens, mostColumn}
 use Rattle.table.specs.Answer.{Answer, given, refuseIf, andThen}
 use Rattle.grammar_file.specs.File.{keywords, fieldsOf, fileAnswer}
-pub use Rattle.report_checks.specs.Report.{mostBytes, refusedClass, fails8}
+pub use Rattle.report_checks.specs.Report.{fails8}
 use Rattle.places.specs.Places.{Place}
-use Rattle.scanner.specs.Places.{places}
-use Rattle.scanner.specs.Tokens.{Token, tokens}
+use Rattle.scanner.specs.Tokens.{Token, tokenOf}
+use Rattle.token_words.specs.Places.{places}
 
--- 9: "a token's column over 65,535"
+-- The tokens of a text.
+unfoldable pub tokens : List (List ℕ) → List ℕ → List Token
+tokens keywords text = map (tokenOf keywords text) (places text)
+
+-- "A token is four words".
+abbrev pub tokenWords : Token → List ℕ
+tokenWords t = t .terminal ∷ t .column ∷ t .offset ∷ t .length ∷ []
+
+-- The words of some tokens.
+abbrev pub wordsOf : List Token → List ℕ
+wordsOf ts = eachWords tokenWords ts
+
+-- Whether one of some tokens stands past the last column.
 unfoldable pub overColumn : List Place → Bool
 overColumn [] = false
 overColumn (p ∷ ps) = ltb mostColumn (p .column) || overColumn ps
 
+-- 9: "a token's column over 65,535"
 unfoldable pub fails9 : List ℕ → Bool
 fails9 text = overColumn (places text)
 
