@@ -79,6 +79,11 @@ tests-pass false true f5 a b next e = absurd (let z : _≡_ {A = ℕ} 0 1 = cc i
 tests-pass false false true a b next e = absurd (let z : _≡_ {A = ℕ} 0 1 = cc in omega arith)
 tests-pass false false false a b next e = refl
 
+-- What the table's checks answer of the node and rule fields at their offsets.
+abbrev pub tableAt : List ℕ → Shape → Answer Unit
+tableAt file s =
+    tableAnswer (wordsOf (fieldsFrom file (s .nodes .at) (s .nodes .count))) (map ruleNode (fieldsFrom file (s .rules .at) (s .rules .count)))
+
 -- Numbers 1 to 5 of such a file.
 module _ (file : List ℕ) (s : Shape) (p : Parts file s) where
   pub by-names : fails2 (fieldsOf file) ≡ true → fileAnswer file ≡ refused 2
@@ -101,16 +106,10 @@ module _ (file : List ℕ) (s : Shape) (p : Parts file s) where
     R : List ℕ
     R = ruleList (fieldsOf file)
 
-    same-table : tableAnswer (nodeTable (fieldsOf file)) (ruleList (fieldsOf file))
-        ≡ tableAnswer (wordsOf (fieldsFrom file (s .nodes .at) (s .nodes .count))) (map ruleNode (fieldsFrom file (s .rules .at) (s .rules .count)))
+    same-table : tableAnswer (nodeTable (fieldsOf file)) (ruleList (fieldsOf file)) ≡ tableAt file s
     same-table = ap₂ tableAnswer (nodes-are file s p) (rules-are file s p)
 
-    pub by-table :
-        {n : ℕ}
-        → refused n
-        ≡ tableAnswer (wordsOf (fieldsFrom file (s .nodes .at) (s .nodes .count)))
-        (map ruleNode (fieldsFrom file (s .rules .at) (s .rules .count)))
-        → fileAnswer file ≡ refused n
+    pub by-table : {n : ℕ} → refused n ≡ tableAt file s → fileAnswer file ≡ refused n
     unfolding fileAnswer fails5ByFile tableAnswer T R
     by-table {n} t =
         rw (p .passes, e)
@@ -118,7 +117,7 @@ module _ (file : List ℕ) (s : Shape) (p : Parts file s) where
         (not (ltb (startMode (fieldsOf file)) relationCount)) n (given (contents (fieldsOf file)))
         (same-table ∙ sym t))
 
-    pub by-start : given tt ≡ tableAnswer (wordsOf (fieldsFrom file (s .nodes .at) (s .nodes .count))) (map ruleNode (fieldsFrom file (s .rules .at) (s .rules .count)))
+    pub by-start : given tt ≡ tableAt file s
         → (a b : Bool) → ltb (startNode (fieldsOf file)) (nodeCount (nodeTable (fieldsOf file))) ≡ a → ltb (startMode (fieldsOf file)) relationCount ≡ b
         → fileAnswer file ≡ refuseIf (not a || not b) 5 (given (contents (fieldsOf file)))
     unfolding fileAnswer fails5ByFile tableAnswer T R

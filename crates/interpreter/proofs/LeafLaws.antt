@@ -1,7 +1,7 @@
 -- What the walk's leaf functions show, over plain values.
 use Prim.Native.Nat.{ℕ, zero, suc, _+_, _*_, _/_, _%_, _≤_, _<_}
 use mathlib.Core.Path.{_≡_, refl}
-use mathlib.Core.Bool.{Bool, true, false, _&&_}
+use mathlib.Core.Bool.{true}
 use mathlib.Core.List.{List}
 use lib.ListN.{length, getD}
 use native.Mathlib.Omega.{arith}
@@ -11,7 +11,8 @@ use Rattle.columns.specs.declared.Upper.{Upper}
 use Rattle.columns.specs.declared.Interval.{Interval}
 use Rattle.columns.specs.declared.State.{State}
 use Rattle.columns.specs.declared.Outcome.the-variants.{Failure}
-use Rattle.interpreter.specs.InternalWalk.{withInterval, withFlag, childState, tokenOutcome, columnOutcome}
+use Rattle.after_child.specs.AfterChild.{withInterval, withFlag}
+use Rattle.interpreter.specs.InternalWalk.{childState, tokenOutcome, columnOutcome}
 
 -- The state of a first child.
 pub child-indent : (q r : ℕ) (s : State) (c : Interval) → q ≡ 7 → c ≡ innerEnds r (s .interval) → withInterval s c ≡ childState q r s
@@ -39,13 +40,6 @@ child-same (suc (suc (suc (suc (suc (suc (suc (suc (suc (suc q)))))))))) r s a b
 -- A state with its upper end written anew.
 pub same-state : (s : State) (u : Upper) → s .interval .upper ≡ u → withInterval s (to (s .interval .lower) u) ≡ s
 same-state s u e = rw (← e) refl
-
--- The flag after an align.
-pub flag-kept : (a b : Bool) → a ≡ true → b ≡ (a && b)
-flag-kept a b e = rw e refl
-
-pub flag-lost : (a b : Bool) → a ≡ false → a ≡ (a && b)
-flag-lost a b e = rw e refl
 
 -- One token: none there, another terminal, that terminal at a column.
 module _ (words : List ℕ) (τ a : ℕ) (s : State) (whole : length words % 4 ≡ 0) where

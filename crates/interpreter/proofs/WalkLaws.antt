@@ -31,7 +31,8 @@ use Rattle.theorems.proofs.Narrows.{onward, within}
 use Rattle.theorems.proofs.ShownFacts.{shown, at-once}
 use Rattle.theorems.proofs.Existence.{weighs-less}
 use Rattle.theorems.proofs.LimitLaws.{in-limits}
-use Rattle.interpreter.specs.InternalWalk.{stateOf, outcomeOf, childState, leftState, alignedState, tokenOutcome, ReadyToken, weight, Checked, Ready, ReadyRule, Gives}
+use Rattle.after_child.specs.AfterChild.{leftState, alignedState}
+use Rattle.interpreter.specs.InternalWalk.{stateOf, outcomeOf, childState, tokenOutcome, ReadyToken, weight, Checked, Ready, ReadyRule, Gives}
 use Rattle.interpreter.proofs.LowLaws.{lower-end}
 
 -- The form of a node, by its kind.

@@ -1,13 +1,13 @@
 -- What the walk's functions tell one another. No public promise rests on this file.
 use Prim.Native.Nat.{ℕ, zero, suc, _+_, _-_, _*_, _%_, _≤_, _<_, _^_}
 use mathlib.Core.Path.{_≡_}
-use mathlib.Core.Bool.{Bool, true, false, cond, _&&_}
+use mathlib.Core.Bool.{true, false, cond}
 use mathlib.Core.List.{List}
 use lib.ListN.{length}
 use Rattle.table.specs.Answer.{given}
 use Rattle.table.specs.Checks.{tableAnswer}
 use Rattle.table.specs.Form.{Form, rule, nodeCount, standsFor}
-use Rattle.columns.specs.Intervals.{ends, innerEnds, outerEnds, meetEnds, fits, afterToken}
+use Rattle.columns.specs.Intervals.{ends, innerEnds, fits, afterToken}
 use Rattle.columns.specs.declared.Interval.{Interval}
 use Rattle.columns.specs.declared.State.{State}
 use Rattle.columns.specs.declared.Outcome.{Outcome}
@@ -17,6 +17,7 @@ use Rattle.well_formed.specs.InternalRank.{rank}
 use Rattle.clauses.specs.Clauses as clauses
 use Rattle.clauses.specs.Evaluation.{reads}
 use Rattle.clauses.specs.Limits.{tokensOf, fails11}
+use Rattle.after_child.specs.AfterChild.{withInterval, withFlag}
 
 -- The declared states and outcomes as those of the clauses.
 abbrev pub stateOf : State → clauses.State Interval
@@ -25,12 +26,6 @@ stateOf s = (s .place, s .interval, s .flag)
 abbrev pub outcomeOf : Outcome → clauses.Outcome Interval
 outcomeOf (Success s) = clauses.success (stateOf s)
 outcomeOf Failure = clauses.failure
-
-abbrev pub withInterval : State → Interval → State
-withInterval s c = record { place = s .place; interval = c; flag = s .flag }
-
-abbrev pub withFlag : State → Bool → State
-withFlag s b = record { place = s .place; interval = s .interval; flag = b }
 
 -- The state in which the first child of a node of a kind is walked.
 unfoldable pub childState : ℕ → ℕ → State → State
@@ -45,12 +40,6 @@ childState (suc (suc (suc (suc (suc (suc (suc zero))))))) r s = withInterval s (
 childState (suc (suc (suc (suc (suc (suc (suc (suc zero)))))))) r s = s  -- 8 position
 childState (suc (suc (suc (suc (suc (suc (suc (suc (suc zero))))))))) r s = withFlag s true  -- 9 align
 childState (suc (suc (suc (suc (suc (suc (suc (suc (suc (suc k)))))))))) r s = s  -- over 9
-
-abbrev pub leftState : ℕ → State → State → State
-leftState r s u = withInterval u (meetEnds (s .interval) (outerEnds r (u .interval)))
-
-abbrev pub alignedState : State → State → State
-alignedState s u = withFlag u (s .flag && u .flag)
 
 -- Clause 2: tokens, mode, terminal, state.
 unfoldable pub tokenOutcome : List ℕ → ℕ → ℕ → State → Outcome

@@ -1,18 +1,16 @@
-// States: where the first child of a form begins, what is left after an indent or an align, and one token.
+// States: where the first child of a form begins, and one token.
 use columns::Interval;
 use columns::Outcome;
 use columns::State;
 use columns::Upper;
 use intervals::after_token;
 use intervals::fits;
-use intervals::leave;
 use table::kinds;
 use table::relations;
 ghost use mathlib.Core.Path.{_≡_};
 ghost use Prim.Native.Nat.{_+_, _<_, _^_};
 ghost use Rattle.columns.specs.Intervals.{innerEnds};
-ghost use Rattle.interpreter.specs.InternalWalk.{childState, leftState, alignedState};
-ghost use Rattle.interpreter.specs.InternalWalk.{ReadyToken, tokenOutcome, columnOutcome};
+ghost use Rattle.interpreter.specs.InternalWalk.{childState, ReadyToken, tokenOutcome, columnOutcome};
 
 // The state in which the first child of a node is walked, written anew.
 pub(crate) fn child(kind: u16, r: u16, s: State) -> State
@@ -102,30 +100,6 @@ fn anew(s: State) -> State
             },
             flag: s.flag,
         },
-    }
-}
-
-// After an indent: the old interval met with the outer set of the child's, the rest as the child left it.
-pub(crate) fn left(r: u16, s: State, u: State) -> State
-    ensures { λ x. ⌜ x ≡ leftState r s u ⌝ }
-{
-    let out = leave(r, s.interval, u.interval);
-    State {
-        place: u.place,
-        interval: out,
-        flag: u.flag,
-    }
-}
-
-// After an align: the flag is set exactly if it was before and at the inner end.
-pub(crate) fn aligned(s: State, u: State) -> State
-    ensures { λ x. ⌜ x ≡ alignedState s u ⌝ }
-{
-    let d = u.interval;
-    State {
-        place: u.place,
-        interval: d,
-        flag: s.flag && u.flag,
     }
 }
 

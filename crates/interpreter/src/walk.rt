@@ -1,10 +1,10 @@
 // The expression walk and the rule walk, which call each other, with the state and the outcome by value. What comes last in
 // a node, as a sequence's second part or a repeat's next round, is the loop's next turn; the first child of every other form
 // is walked by one call, or by none if it is a terminal. So a nested call needs little of the stack.
-use crate::states::aligned;
 use crate::states::child;
-use crate::states::left;
 use crate::states::token;
+use after_child::aligned;
+use after_child::left;
 use columns::Outcome;
 use columns::State;
 use table::kinds;

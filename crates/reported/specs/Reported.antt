@@ -1,9 +1,8 @@
--- What the C interface reports: a number, words in a lent array, bytes in a lent slice.
+-- What the C interface reports of an answer: a number, and words in a lent array.
 use Prim.Native.Nat.{ℕ, _+_, _*_}
 use mathlib.Core.Bool.{Bool, cond}
 use mathlib.Core.List.{List, [], _∷_, _++_}
-use lib.Dec.{ltb}
-use lib.ListN.{length, drop, set}
+use lib.ListN.{set}
 use Rattle.table.specs.Answer.{Answer, given, refused, refusedAt}
 use Rattle.columns.specs.Intervals.{to}
 use Rattle.columns.specs.declared.Upper.{Upper}
@@ -64,7 +63,3 @@ upperFrom upper endless = cond endless Endless (At upper)
 abbrev pub startFrom : (node place lower upper : ℕ) (endless flag : Bool) (mode : ℕ) → Start
 startFrom node place lower upper endless flag mode =
     record { node = node; place = place; interval = to lower (upperFrom upper endless); flag = flag; mode = mode }
-
--- A lent slice after bytes were copied to it: the bytes, and behind them what was there; as it was where it is too short.
-abbrev pub copied : List ℕ → List ℕ → List ℕ
-copied bytes before = cond (ltb (length before) (length bytes)) before (bytes ++ drop (length bytes) before)

@@ -1,19 +1,64 @@
-// What the C interface reports: a number for a refused call, six words for a run, the bytes of a name. Small functions
-// that the exported ones share.
+// What the C interface reports of an answer: its number, and the words of a read, a scan and a run. The exported functions
+// hand on to these what a part answered.
 use columns::State;
 use columns::Upper;
+use grammar_file::FileRead;
 use interpreter::Ran;
+use table::refusals;
+use token_words::Scanned;
+use well_formed::Verdict;
 ghost use mathlib.Core.Path.{_≡_};
 ghost use Prim.Native.Nat.{ℕ, _+_, _*_};
-ghost use lib.ListN.{length};
+ghost use Rattle.grammar_file.specs.File.{numbers as fileNumbers};
+ghost use Rattle.token_words.specs.Numbers.{numbers as scanNumbers};
+ghost use Rattle.well_formed.specs.Check.{numbers as checkNumbers};
 ghost use Rattle.interpreter.specs.Numbers.{numbers};
-ghost use Rattle.reported.specs.Reported.{number, successWords, RunReported, copied};
+ghost use Rattle.reported.specs.Reported.{number, reported, contentsWords, countWords};
+ghost use Rattle.reported.specs.Reported.{successWords, RunReported};
 
-// 7 with its node.
-pub fn seven_at(node: u16) -> u32
-    ensures { λ r. ⌜ r ≡ 7 + 65536 * node ⌝ }
+// Reports what a read of a grammar file answered: the five words where it was read.
+pub fn report_read(x: FileRead, result: &mut [usize; 5]) -> u32
+    ensures { λ r. ⌜ r ≡ number (fileNumbers x) ⌝ }
+    ensures { λ r. ⌜ now (result .exit) ≡ reported contentsWords (fileNumbers x) (now (result .entry)) ⌝ }
 {
-    7 + 65536 * (node as u32)
+    match x {
+        FileRead::Refused(n) => n as u32,
+        FileRead::Read {
+            nodes,
+            rules,
+            keywords,
+            start,
+            mode,
+        } => {
+            *result = [nodes, rules, keywords, start as usize, mode as usize];
+            0
+        }
+    }
+}
+
+// Reports what a scan answered: the number of tokens where all were scanned.
+pub fn report_scan(x: Scanned, result: &mut [usize; 1]) -> u32
+    ensures { λ r. ⌜ r ≡ number (scanNumbers x) ⌝ }
+    ensures { λ r. ⌜ now (result .exit) ≡ reported countWords (scanNumbers x) (now (result .entry)) ⌝ }
+{
+    match x {
+        Scanned::Refused(n) => n as u32,
+        Scanned::Tokens(count) => {
+            *result = [count];
+            0
+        }
+    }
+}
+
+// Reports a verdict, for 7 with the node.
+pub fn report_check(x: Verdict) -> u32
+    ensures { λ r. ⌜ r ≡ number (checkNumbers x) ⌝ }
+{
+    match x {
+        Verdict::Refused(n) => n as u32,
+        Verdict::IllFormed(node) => seven_at(node),
+        Verdict::Passes => 0,
+    }
 }
 
 // Reports what a run answered, wherever it began.
@@ -35,6 +80,13 @@ pub fn report(x: Ran, result: &mut [usize; 6]) -> u32
     }
 }
 
+// 7 with its node.
+fn seven_at(node: u16) -> u32
+    ensures { λ r. ⌜ r ≡ 7 + 65536 * node ⌝ }
+{
+    (refusals::ILL_FORMED as u32) + 65536 * (node as u32)
+}
+
 // The words of a success.
 fn success_words(read: u32, s: State) -> [usize; 6]
     ensures { λ r. ⌜ r ≡ successWords read (s .interval) (s .flag) ⌝ }
@@ -53,20 +105,4 @@ fn success_words(read: u32, s: State) -> [usize; 6]
         ],
         Upper::Endless => [1, read as usize, interval.lower as usize, 0, 1, flag],
     }
-}
-
-// Copies bytes to a lent slice, and says how many there are. A slice that is too short for them is left as it is.
-pub fn copy(bytes: &[u8], out: &mut [u8]) -> usize
-    ensures { λ r. ⌜ r ≡ length (now (bytes .entry)) ⌝ }
-    ensures { λ r. ⌜ now (out .exit) ≡ copied (now (bytes .entry)) (now (out .entry)) ⌝ }
-{
-    if out.len() < bytes.len() {
-        return bytes.len();
-    }
-    let mut i = 0;
-    while i < bytes.len() {
-        out[i] = bytes[i];
-        i += 1;
-    }
-    bytes.len()
 }

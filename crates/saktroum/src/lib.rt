@@ -3,9 +3,6 @@
 use columns::Interval;
 use columns::Start;
 use columns::Upper;
-use grammar_file::FileRead;
-use token_words::Scanned;
-use well_formed::Verdict;
 ghost use mathlib.Core.Path.{_≡_};
 ghost use lib.ListN.{length};
 ghost use Rattle.table.specs.Answer.{afterwards};
@@ -14,8 +11,9 @@ ghost use Rattle.token_words.specs.Scan.{wordsOf, scanTokens, scanAnswer};
 ghost use Rattle.well_formed.specs.Check.{checkAnswer};
 ghost use Rattle.clauses.specs.RunAnswer.{runAnswer};
 ghost use Rattle.line.specs.Line.{lineCount, lineAfter};
-ghost use Rattle.reported.specs.Reported.{number, reported, contentsWords, countWords, RunReported, copied};
+ghost use Rattle.reported.specs.Reported.{number, reported, contentsWords, countWords, RunReported};
 ghost use Rattle.reported.specs.Reported.{upperFrom, startFrom};
+ghost use Rattle.copied.specs.Copied.{copied};
 
 // Reads a grammar file. The answer is 0, with the counts of nodes, rules and keywords, the start node and its mode in
 // `result`, or the number that refused the call.
@@ -39,19 +37,7 @@ pub extern "C" fn saktroum_read(
         (readAnswer (now (file .entry)) (length (now (nodes .entry))) (length (now (rules .entry)))) (now (result .entry)) ⌝ }
 {
     let x = grammar_file::read(file, nodes, rules);
-    match x {
-        FileRead::Refused(n) => n as u32,
-        FileRead::Read {
-            nodes: n,
-            rules: r,
-            keywords: k,
-            start,
-            mode,
-        } => {
-            *result = [n, r, k, start as usize, mode as usize];
-            0
-        }
-    }
+    reported::report_read(x, result)
 }
 
 // Scans a report by the keywords of a grammar file. The answer is 0, with the number of tokens in `result`, or the
@@ -72,13 +58,7 @@ pub extern "C" fn saktroum_scan(
         (now (result .entry)) ⌝ }
 {
     let x = token_words::scan(file, report, tokens);
-    match x {
-        Scanned::Refused(n) => n as u32,
-        Scanned::Tokens(count) => {
-            *result = [count];
-            0
-        }
-    }
+    reported::report_scan(x, result)
 }
 
 // Checks that a grammar is well formed. The answer is 0 or the number that refused the call, for 7 with the node.
@@ -87,11 +67,7 @@ pub extern "C" fn saktroum_check(nodes: &[u16], rules: &[u16]) -> u32
     ensures { λ r. ⌜ r ≡ number (checkAnswer (now (nodes .entry)) (now (rules .entry))) ⌝ }
 {
     let x = well_formed::check(nodes, rules);
-    match x {
-        Verdict::Refused(n) => n as u32,
-        Verdict::IllFormed(node) => reported::seven_at(node),
-        Verdict::Passes => 0,
-    }
+    reported::report_check(x)
 }
 
 // Runs a grammar on tokens from a start. The answer is 0, with success or failure in `result`, or the number that
@@ -162,7 +138,7 @@ pub extern "C" fn saktroum_keyword(file: &[u8], index: usize, out: &mut [u8]) ->
     ensures { λ r. ⌜ now (out .exit) ≡ copied (keywordBytes (now (file .entry)) index) (now (out .entry)) ⌝ }
 {
     let keyword = grammar_file::keyword(file, index);
-    reported::copy(keyword, out)
+    copied::copy(keyword, out)
 }
 
 // Copies the bytes of a rule's name, in the same way.
@@ -172,5 +148,5 @@ pub extern "C" fn saktroum_rule_name(file: &[u8], index: usize, out: &mut [u8]) 
     ensures { λ r. ⌜ now (out .exit) ≡ copied (nameBytes (now (file .entry)) index) (now (out .entry)) ⌝ }
 {
     let name = grammar_file::rule_name(file, index);
-    reported::copy(name, out)
+    copied::copy(name, out)
 }

@@ -5,17 +5,17 @@ use Rattle.answer_line.proofs.put_answer.Statement.{statement}
 use Rattle.answer_line.proofs.put_answer.Tie as tie
 
 returns : tie.Need-returns
-returns c = rw (c .before .before .before .before .before .x .given .1) (c .before .before .put-success .ensures)
+returns c = let put = c .before .before in rw (put .before .before .before .x .given .1) (put .put-success .ensures)
 
 returns-2 : tie.Need-returns-2
-returns-2 c = rw (c .before .before .before .before .before .enum-told .given .1) (c .before .before .put-word .ensures)
+returns-2 c = let put = c .before .before in rw (put .before .before .before .enum-told .given .1) (put .put-word .ensures)
 
 returns-3 : tie.Need-returns-3
-returns-3 c = rw (c .before .before .before .before .before .before .x2 .given .1) (c .before .before .put-refused .ensures)
+returns-3 c = let put = c .before .before in rw (put .before .before .before .before .x2 .given .1) (put .put-refused .ensures)
 
 returns-4 : tie.Need-returns-4
 unfolding decimalTo
-returns-4 c = rw (c .before .before .before .before .before .before .x3 .given .1) (c .before .before .put-refused2 .ensures)
+returns-4 c = let put = c .before .before in rw (put .before .before .before .before .x3 .given .1) (put .put-refused2 .ensures)
 
 pub put-answer-spec : {M : Type 1} → statement M
 put-answer-spec =

@@ -12,9 +12,9 @@ use Rattle.interpreter.proofs.walk.+expression+first+rule.Lts-first as 
 use Rattle.interpreter.proofs.walk.rule.Reads as rule
 use Rattle.interpreter.proofs.walk.rule.Kinds as rule-kinds
 use Rattle.interpreter.proofs.walk.+expression+first+rule.Lts-rule as rule-lts
-use Rattle.interpreter.proofs.states.aligned.Reads as aligned-reads
+use Rattle.after_child.proofs.aligned.Reads as aligned-reads
 use Rattle.interpreter.proofs.states.child.Reads as child-reads
-use Rattle.interpreter.proofs.states.left.Reads as left-reads
+use Rattle.after_child.proofs.left.Reads as left-reads
 use Rattle.interpreter.proofs.states.token.Reads as token-reads
 use Rattle.interpreter.proofs.walk.+expression+first+rule.{statement}
 use Rattle.interpreter.proofs.walk.+expression+first+rule.Tie.{close}

@@ -1,9 +1,9 @@
--- `interpreter::states::left` meets its contract.
+-- `after_child::left` meets its contract.
 use borrow.Author.Needs.{needs}
-use Rattle.interpreter.proofs.states.left.Statement.{statement}
-use Rattle.interpreter.proofs.states.left.Tie as tie
+use Rattle.after_child.proofs.left.Statement.{statement}
+use Rattle.after_child.proofs.left.Tie as tie
 use mathlib.Core.Path.{ap}
-use Rattle.interpreter.specs.InternalWalk.{withInterval}
+use Rattle.after_child.specs.AfterChild.{withInterval}
 
 leave-requires : tie.Need-leave-requires
 leave-requires c κs = search needs
