@@ -156,11 +156,8 @@ fn show_lent(nodes: &[u16], rules: &[u16], n: usize, r: usize, words: bool) {
         show_words(b" | nodes", nodes, n);
         show_words(b" | rules", rules, r);
     }
-    if filled_16(nodes, n, MARKER) && filled_16(rules, r, MARKER) {
-        io::write_all(1, b" | kept | check ");
-    } else {
-        io::write_all(1, b" | changed | check ");
-    }
+    let kept = filled_16(nodes, n, MARKER) && filled_16(rules, r, MARKER);
+    stored_cases::show_either(kept, b" | kept | check ", b" | changed | check ");
 }
 
 // Prints a text and the first n words, or all where there are fewer.

@@ -43,16 +43,16 @@ fn record(cases: &[u8], at: usize, file: &mut [u8], report: &mut [u8]) -> usize 
     let second = stored(cases, first, part(header, 2, 15), file);
     let end = stored(cases, second, part(header, 17, 15), report);
     call(
-        byte(header, 0),
+        header,
         part(file, 0, triple(header, 14)),
         part(report, 0, triple(header, 29)),
     );
     end
 }
 
-// Makes the call of a kind and prints its answer.
-fn call(kind: usize, file: &[u8], report: &[u8]) {
-    match kind {
+// Makes the call that a header tells of and prints its answer.
+fn call(header: &[u8], file: &[u8], report: &[u8]) {
+    match byte(header, 0) {
         LINE => {
             stored_runs::show_line(file, report);
         }

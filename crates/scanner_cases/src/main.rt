@@ -20,6 +20,7 @@ use stored_cases::least;
 use stored_cases::mark_32;
 use stored_cases::part;
 use stored_cases::show;
+use stored_cases::show_either;
 use stored_cases::show_one;
 use stored_cases::stored;
 use stored_cases::triple;
@@ -133,17 +134,11 @@ fn show_lent(file: &[u8], report: &[u8], tokens: &mut [u32], all: bool) {
     }
 }
 
-// Prints what a scan answers and whether it left alone what it was to leave alone. The answer here is
-// the number of tokens, 0 where the scan was refused.
+// Prints what a scan answers and wrote. The answer here is the number of tokens, 0 where the scan was refused.
 fn show_scan(file: &[u8], report: &[u8], tokens: &mut [u32]) -> usize {
     mark_32(tokens, MARKER);
     let count = show_scanned(token_words::scan(file, report, tokens));
     show_tokens(tokens, count);
-    if filled_32(tokens, least(count, MOST_HANDED) * 4, MARKER) {
-        io::write_all(1, b" | kept");
-    } else {
-        io::write_all(1, b" | changed");
-    }
     count
 }
 
@@ -168,17 +163,9 @@ fn show_all(walk: Walk, count: usize) {
     io::write_all(1, b" then ");
     let last = walk.last;
     show_step(last);
-    show_same(walk.same && walk.count == count, count);
-}
-
-fn show_same(same: bool, count: usize) {
-    if count == 0 {
-        return;
-    }
-    if same {
-        io::write_all(1, b" | same");
-    } else {
-        io::write_all(1, b" | different");
+    if count > 0 {
+        let same = walk.same && walk.count == count;
+        show_either(same, b" | same", b" | different");
     }
 }
 
@@ -283,11 +270,7 @@ fn show_step(step: Step) {
     show_handed(handed);
     let numbers = [step.at as u64, step.column as u64];
     show(b" | at", &numbers);
-    if step.mark {
-        io::write_all(1, b" set");
-    } else {
-        io::write_all(1, b" clear");
-    }
+    show_either(step.mark, b" set", b" clear");
 }
 
 // Prints the token handed out, `none` or the number of a refusal.
@@ -311,9 +294,15 @@ fn show_handed(handed: Handed) {
     }
 }
 
-// Prints the words of n tokens where they are few, else those of the last two and a sum of all.
+// Prints the words of n tokens, and whether a scan left those behind them alone.
 fn show_tokens(words: &[u32], n: usize) {
     let end = least(least(n, MOST_HANDED) * 4, words.len());
+    show_first(words, n, end);
+    show_either(filled_32(words, end, MARKER), b" | kept", b" | changed");
+}
+
+// Prints the words of n tokens, those before `end`, where they are few, else those of the last two and a sum of all.
+fn show_first(words: &[u32], n: usize, end: usize) {
     if n <= FEW {
         show_words(words, 0, end);
         return;

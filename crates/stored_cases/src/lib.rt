@@ -266,6 +266,18 @@ pub fn label(cases: &[u8], at: usize, header: &[u8]) -> usize
     after(cases, from, n)
 }
 
+// Prints the first text where a test holds, else the second. The answer is the test.
+pub fn show_either(test: bool, first: &[u8], second: &[u8]) -> bool
+    ensures { λ r. ⌜ r ≡ test ⌝ }
+{
+    if test {
+        io::write_all(1, first);
+    } else {
+        io::write_all(1, second);
+    }
+    test
+}
+
 // Prints a text, a blank and a number. The answer is how many numbers there were, one.
 pub fn show_one(text: &[u8], number: u64) -> usize
     ensures { λ r. ⌜ r ≡ 1 ⌝ }

@@ -140,7 +140,7 @@ fn show_success(read: u32, state: State) -> usize
     let numbers = [read as u64, interval.lower as u64];
     stored_cases::show(b"success", &numbers);
     let count = show_upper(upper);
-    show_flag(state.flag);
+    stored_cases::show_either(state.flag, b" set", b" clear");
     count
 }
 
@@ -157,14 +157,6 @@ fn show_upper(upper: Upper) -> usize
             io::write_all(1, b" inf");
             2
         }
-    }
-}
-
-fn show_flag(flag: bool) {
-    if flag {
-        io::write_all(1, b" set");
-    } else {
-        io::write_all(1, b" clear");
     }
 }
 
