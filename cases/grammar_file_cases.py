@@ -25,7 +25,7 @@ BEFORE = Payloads()
 def record(kind, label, x, y, payload, line):
     """One call and the line expected of it. The layout is that of the program's first comment."""
     same, rest = BEFORE.front(payload)
-    CASES.add(label, line, kind.encode(), wide(2, x, y) + wide(3, same, len(payload)), rest)
+    CASES.add(label, line, kind, wide(2, x, y) + wide(3, same, len(payload)), rest)
 
 
 # Node words and rule words lent.

@@ -42,7 +42,7 @@ def record(label, nodes, rules, tokens, line, mode=2, **start):
     same_bytes, table = TABLE_BYTES.front(wide(2, *node_words, *rules))
     numbers, rest = TOKEN_BYTES.stretch(wide(4, *(token_words(tokens) if isinstance(tokens, str) else tokens)))
     header = begin(mode=mode, **start) + wide(2, len(node_words), len(rules), same_bytes) + wide(3, *numbers)
-    CASES.add(label, line, b"", header, table, rest)
+    CASES.add(label, line, "r", header, table, rest)
 
 
 def token_words(text, rest=REST):

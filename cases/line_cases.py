@@ -35,7 +35,7 @@ KEYS = (b":", b",", b";")
 def case(label, file, report, line):
     """A grammar file, a report, and the line expected of them."""
     assert label == label.lower() and len(label) < 100
-    CASES.add(label, line, b"", *PAIRS.stretch(file, report))
+    CASES.add(label, line, "l", *PAIRS.stretch(file, report))
 
 
 def success(read, lower, upper):

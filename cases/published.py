@@ -27,7 +27,7 @@ def run(label, source, shows, expected, start, tokens="", rules="", names="a b c
     table = Table(written_rules(rules, terminals), written(start, terminals), once=True)
     words = [w for k, (name, column) in enumerate(named_columns(tokens)) for w in (terminals[name], column, k, 1)]
     parts = wide(2, *flat(table.nodes)), wide(2, *table.rules), wide(4, *words)
-    record(label, source, shows, expected, 0, parts,
+    record(label, source, shows, expected, "r", parts,
            node=table.start, place=place, lower=low, upper=high, flag=flag, mode=mode)
 
 
@@ -38,13 +38,13 @@ def report(label, source, shows, expected, keywords, start, text, rules="", mode
     table = Table(rules, written(start, terminals), once=True)
     pairs = [(number, name.encode()) for name, number in zip(rules, table.rules)]
     file = grammar_fields.file(table.nodes, table.start, mode, keywords.encode().split(), pairs)
-    record(label, source, shows, expected, 1, (file, text.encode(), b""))
+    record(label, source, shows, expected, "l", (file, text.encode(), b""))
 
 
 def record(label, source, shows, expected, kind, parts, **start):
     """One run, the line expected of it, and its row of the docs. The layout is that of the program's first comment."""
     ROWS.append((label, source, shows, expected))
-    CASES.add(label, expected, b"", wide(1, kind) + begin(**start) + wide(3, *map(len, parts)), *parts)
+    CASES.add(label, expected, kind, begin(**start) + wide(3, *map(len, parts)), *parts)
 
 
 def eof(names):

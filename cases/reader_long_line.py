@@ -3,27 +3,23 @@
 The answer stands beside the inputs and was worked out by hand from the words of 01 that are quoted here.
 """
 
-import pathlib
-
-from grammar_fields import VERSION, keyword, node, start
-from table_nodes import choice, position, repeat, sequence
-
-ROOT = pathlib.Path(__file__).resolve().parent.parent
-EQUAL, ANY = 0, 3
+from grammar_fields import file
+from records import write
+from table_nodes import ANY, EQUAL, choice, position, repeat, sequence, terminal
 
 # "Terminal: 3 + k where the spelling equals keyword k ..", else 0 for a number, else 1; a line's end is 2.
 NODES = (
-    (1, 3, 0, 0),  # 0: the keyword `a`
-    (1, 2, 0, 0),  # 1: a line's end
+    terminal(3),  # 0: the keyword `a`
+    terminal(2),  # 1: a line's end
     choice(0, 1),
     repeat(2),
     position(3, ANY),  # 4: `a` and line ends, wherever they stand
-    (1, 1, 0, 0),
+    terminal(1),
     position(5, ANY),  # 6: a word, wherever it stands
     sequence(6, 1),
     sequence(4, 7),
 )
-FILE = VERSION + keyword(b"a") + b"".join(node(*words) for words in NODES) + start(8, EQUAL)
+FILE = file(NODES, 8, EQUAL, [b"a"])
 
 # "A line with a token ends in a token of terminal 2": 2,047 lines of two tokens, 4,094 tokens. Then 8,191 tabs, to
 # column 65,528, six blanks and a word of one byte at column 65,534: its line's end is at column 65,535, the last
@@ -34,14 +30,7 @@ REPORT = b"a\n" * 2047 + b"\t" * 8191 + b" " * 6 + b"b\n"
 # line's end is read in mode equal: the interval is met with 65,535 to 65,535. No align: the flag stays clear.
 LINE = b"success 4096 65535 65535 clear\n"
 
-
-def main():
-    out = ROOT / "trials" / "program" / "long_line"
-    out.mkdir(parents=True, exist_ok=True)
-    (out / "grammar.bin").write_bytes(FILE)
-    (out / "stdin").write_bytes(REPORT)
-    (out / "stdout").write_bytes(LINE)
-
+FILES = {"grammar.bin": FILE, "stdin": REPORT, "stdout": LINE}
 
 if __name__ == "__main__":
-    main()
+    write({f"trials/program/long_line/{name}": content for name, content in FILES.items()})

@@ -5,8 +5,12 @@ README.md tells what stands in a record; the first comment of each program tells
 
 import pathlib
 import re
+import sys
 
 TOP = pathlib.Path(__file__).resolve().parent.parent
+
+# The room that the programs have: `room_for_cases`, `room_for_part` and MOST_RECORDS of crates/stored_cases/src/lib.rt.
+FILE_ROOM, PAYLOAD_ROOM, MOST_RECORDS = 1_000_000, 140_000, 100_000
 
 
 def wide(size, *numbers):
@@ -31,6 +35,12 @@ def write(files):
         out.write_bytes(content)
 
 
+def refuse_over(room, size, what, parts):
+    """Ends the script where a program would have no room for so many parts."""
+    if size > room:
+        sys.exit(f"{what} has {size:,} {parts}; the programs have room for {room:,} (crates/stored_cases/src/lib.rt)")
+
+
 class Cases:
     """The calls of one case program, in order, and the line that is expected of each."""
 
@@ -38,16 +48,19 @@ class Cases:
         self.program, self.records, self.lines, self.labels = program, [], [], set()
 
     def add(self, label, line, kind, header, *payloads):
-        """A record: the kind (no byte where a program has one kind), the label's length, the rest of the header, the
-        label, the payloads as they are stored."""
+        """A record: the kind, a letter, the label's length, the rest of the header, the label, the payloads as they are
+        stored."""
         name = label.encode()
+        assert kind.isascii() and kind.isalpha() and len(kind) == 1, kind
         assert 0 < len(name) < 256 and label not in self.labels, label
         self.labels.add(label)
-        self.records.append(kind + wide(1, len(name)) + header + name + b"".join(payloads))
+        self.records.append(kind.encode() + wide(1, len(name)) + header + name + b"".join(payloads))
         self.lines.append(f"{label}: {line}\n")
 
     def write(self):
         data = b"".join(self.records)
+        refuse_over(FILE_ROOM, len(data), f"the file of cases of {self.program}", "bytes")
+        refuse_over(MOST_RECORDS, len(self.records), f"the file of cases of {self.program}", "records")
         crate = f"crates/{self.program}"
         write({f"{crate}/data/cases": data, f"{crate}/stdout": "".join(self.lines).encode()})
         print(f"{self.program}: {len(self.records)} calls, {len(data)} bytes")
@@ -65,6 +78,7 @@ class Payloads:
 
     def front(self, payload):
         """How many bytes are those of the one before, at the start of both, and the bytes to be stored."""
+        refuse_over(PAYLOAD_ROOM, len(payload), "a payload", "bytes")
         size = min(len(self.before), len(payload))
         same = size - (apart(self.before[:size], payload[:size]).bit_length() + 7) // 8
         self.before = payload

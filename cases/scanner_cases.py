@@ -24,7 +24,7 @@ PAIRS = Pairs(60, (1, 2, 4, 9))
 def record(kind, label, x, y, mark, file, report, line):
     """One call and the line expected of it. The layout is that of the program's first comment."""
     numbers, *stored = PAIRS.stretch(file, report)
-    CASES.add(label, line, kind.encode(), wide(1, mark) + wide(3, x, y) + numbers, *stored)
+    CASES.add(label, line, kind, wide(1, mark) + wide(3, x, y) + numbers, *stored)
 
 
 FEW = 24  # Scans of no more tokens than these have every word printed.
@@ -91,19 +91,19 @@ def too_many(label, file, report, handed, column, lent):
     record("a", label, lent, 0, False, file, report, line)
 
 
-def step(label, file, report, before, answer, after=None, kind="n"):
-    """The next token from an offset, column and mark on. The answer: the four words of a token, none,
-    or the number of a refusal, which leaves the value as it was."""
-    at, column, mark = before
+def handed(answer):
+    """What a step hands out: the four words of a token, none, or the number of a refusal."""
     if answer is None:
-        line = "none"
-    elif isinstance(answer, int):
-        line = f"refused {answer}"
-        if after is None:
-            after = before
-    else:
-        line = spaced("token", answer)
-    record(kind, label, at, column, mark, file, report, line + state(*after))
+        return "none"
+    return f"refused {answer}" if isinstance(answer, int) else spaced("token", answer)
+
+
+def step(label, file, report, before, answer, after=None, kind="n"):
+    """The next token from an offset, column and mark on. A refusal leaves the value as it was."""
+    at, column, mark = before
+    if isinstance(answer, int) and after is None:
+        after = before
+    record(kind, label, at, column, mark, file, report, handed(answer) + state(*after))
 
 
 def walk(label, file, report, *steps):
@@ -115,6 +115,12 @@ def walk(label, file, report, *steps):
         step(f"{label}, step {i}", file, report, before, answer, after)
         before = after
     step(f"{label}, once more", file, report, before, None, before)
+
+
+def value(label, file, report, *answers):
+    """The first steps of a scanner's value, and what each hands out."""
+    for i, answer in enumerate(answers):
+        record("v", f"value, {label}, step {i}", i, 0, False, file, report, handed(answer))
 
 
 # --- Grammar files -------------------------------------------------------------------------------
@@ -898,6 +904,30 @@ for way in ("byte", "offset", "column"):
             step(label, file, report, before, min(chosen))
         else:
             step(label, file, report, before, (1, 65535, 2, 1), (3, 65536, True))
+
+
+# --- The scanner's value, step by step -----------------------------------------------------------
+
+# "Terminal: 3 + k where the spelling equals keyword k (from 0)": `loss` is 3, `:` is 4.
+LOSS_COLON = with_keywords(b"loss", b":")
+
+# Offsets: `loss` 2, `:` 6, `0.03` 8, breaks 12 and 13, a tab 14, `x` 15, `-1` 17, `,` 19, the end 20.
+# "Byte 9 moves to the next higher multiple of 8": `x` is at column 8. "A line with a token ends .. also at the
+# end ..": the second line has none. "else 0 for a number (an optional `-` ..); else 1".
+VALUE_REPORT = b"  loss: 0.03\n\n\tx -1,"
+value("report", LOSS_COLON, VALUE_REPORT,
+      (3, 2, 2, 4), (4, 6, 6, 1), (0, 8, 8, 4), (2, 12, 12, 0), (1, 8, 15, 1), (0, 10, 17, 2), (1, 12, 19, 1),
+      (2, 13, 20, 0), None, None, None)
+
+# 8,192 tabs lead to column 65,536, which is 9: "a refused call leaves the value unchanged". A value that moved on would
+# hand out `c` after two refusals, at the break behind `b` the second.
+value("wide", LOSS_COLON, b"a\n" + T8192 + b"b\nc", (1, 0, 0, 1), (2, 1, 1, 0), 9, 9, 9, 9)
+
+# "Its calls check .. the whole text by 8": already the first step, though `a` stands before the byte.
+value("byte 0", LOSS_COLON, b"a\0", 8, 8)
+
+# "none of them at or below 32": 2.
+value("keyword `a b`", with_keywords(b"a b"), VALUE_REPORT, 2, 2)
 
 
 if __name__ == "__main__":

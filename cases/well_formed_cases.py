@@ -25,7 +25,7 @@ def record(label, nodes, rules, line, again=0):
     comment."""
     node_words = flat(nodes)
     same, rest = BEFORE.front(wide(2, *node_words, *rules))
-    CASES.add(label, line, b"", wide(2, again, len(node_words), len(rules), same), rest)
+    CASES.add(label, line, "c", wide(2, again, len(node_words), len(rules), same), rest)
 
 
 def passes(label, nodes, rules=(), again=0):

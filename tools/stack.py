@@ -5,8 +5,7 @@ Run it at the top of the repository after `rt check depth reader`. For each gram
 by halving, the least stack with which target/bin/depth ends with the right answer, and prints it with
 the nested calls, the bytes of one of them and the time of a run. Then it does the same with
 target/bin/reader, for the list and for a chain of indents, on a report of one line with 4,095 words.
-The exit status is 1 if a grammar needs more than its limit. `--write` only writes the stored run of
-the program depth.
+The exit status is 1 if a grammar needs more than its limit.
 
 A nested call is one of the expression walk, at the deepest point of a run; a rule's call is counted
 with that of its node. A run over 4,096 tokens has 4,097 rounds, one over no token has one, with the
@@ -25,19 +24,17 @@ import time
 ROOT = pathlib.Path(__file__).resolve().parent.parent
 sys.path.insert(0, str(ROOT / "cases"))
 
+import depth  # noqa: E402
 import grammar_fields  # noqa: E402
+from depth import LIST, TOKENS  # noqa: E402
+from table_nodes import ANY, AT_LEAST, EMPTY  # noqa: E402
 
 PROGRAM = ROOT / "target" / "bin" / "depth"
 READER = ROOT / "target" / "bin" / "reader"
-STORED = ROOT / "crates" / "depth" / "data" / "shape"
 
 KIB, MIB = 1024, 1024 * 1024
-TOKENS, NODES, RULES = 4096, 512, 128
-AT_LEAST, ANY = 2, 3
-
-# (a X) / empty: nodes 0 to 4. Rule 0 is X, and terminal 0 is a.
-LIST = [(1, 0, 0, 0), (2, 0, 0, 0), (3, 0, 1, 0), (0, 0, 0, 0), (4, 2, 3, 0)]
-EMPTY_NODE = 3
+NODES, RULES = 512, 128
+EMPTY_NODE = LIST.index(EMPTY)
 ALL_READ = f"success {TOKENS} 0 0 clear"
 NONE_READ = "success 0 0 inf clear"
 ALL_READ_ENDLESS = f"success {TOKENS} 0 inf clear"
@@ -73,14 +70,12 @@ class Shape:
 
     def __init__(self, name, nodes, answer=ALL_READ, rules=(), mode=AT_LEAST, limit=1024):
         self.name, self.nodes, self.answer, self.mode, self.limit = name, nodes, answer, mode, limit
-        self.rules = [len(nodes) - 1, *rules]
+        self.rules = rules
         # Every node calls the next but a, X behind a (a tail, walked by its sequence's call) and empty.
         self.round = len(nodes) - 3
 
     def words(self, tokens=TOKENS):
-        flat = [word for node in self.nodes for word in node]
-        header = [len(flat), len(self.rules), tokens, len(self.nodes) - 1, self.mode]
-        return b"".join(word.to_bytes(2, "big") for word in [*header, *flat, *self.rules])
+        return depth.shape(self.nodes, self.rules, self.mode, tokens)
 
 
 def shapes():
@@ -177,9 +172,6 @@ def measure_reader(name, nodes, limit, folder):
 
 
 def main():
-    if sys.argv[1:] == ["--write"]:
-        STORED.write_bytes(shapes()[0].words())
-        return 0
     if not (PROGRAM.exists() and READER.exists()):
         sys.exit("a program is not there: run rt check depth reader first")
     print(f"{'grammar':26} {'nested calls':>12} {'MiB':>8} {'bytes a call':>12} {'seconds':>8}")

@@ -20,13 +20,16 @@ pub fn program(reader: &str, cases: &str, folder: &str) -> Result<(), String> {
     let mut rest = &bytes[..];
     let mut count = 0;
     while !rest.is_empty() {
-        let header = taken(&mut rest, 31)?;
-        let label = taken(&mut rest, usize::from(header[0]))?;
-        stored(&mut rest, &header[1..16], &mut file)?;
-        stored(&mut rest, &header[16..31], &mut report)?;
+        let header = taken(&mut rest, 32)?;
+        let label = String::from_utf8_lossy(taken(&mut rest, usize::from(header[1]))?);
+        stored(&mut rest, &header[2..17], &mut file)?;
+        stored(&mut rest, &header[17..32], &mut report)?;
+        if header[0] != b'l' {
+            return Err(format!("{label}: no such call"));
+        }
         let printed = printed(&reader, Path::new(folder), &file, &report)
             .map_err(|error| format!("{}: {error}", reader.display()))?;
-        let line = format!("{}: {printed}", String::from_utf8_lossy(label));
+        let line = format!("{label}: {printed}");
         if lines.next() != Some(&line) {
             return Err(format!("{line}is not what {} has", stdout.display()));
         }

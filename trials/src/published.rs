@@ -49,14 +49,14 @@ pub fn number(bytes: &[u8]) -> usize {
 /// One record's line: the label, and what both readers answer.
 fn record(rest: &mut &[u8]) -> Result<String, String> {
     let header = taken(rest, 29)?;
-    let label = String::from_utf8_lossy(taken(rest, usize::from(header[0]))?).into_owned();
+    let label = String::from_utf8_lossy(taken(rest, usize::from(header[1]))?).into_owned();
     let first = taken(rest, number(&header[20..23]))?;
     let second = taken(rest, number(&header[23..26]))?;
     let third = taken(rest, number(&header[26..29]))?;
-    let answer = if header[1] == 1 {
-        line(first, second)
-    } else {
-        run(header, first, second, third)
+    let answer = match header[0] {
+        b'r' => run(header, first, second, third),
+        b'l' => line(first, second),
+        _ => Err("no such call".into()),
     };
     match answer {
         Ok(line) => Ok(format!("{label}: {}", String::from_utf8_lossy(&line))),

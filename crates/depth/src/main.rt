@@ -1,5 +1,6 @@
 // Runs the grammar of the file `shape` over tokens that are all alike and prints what the run ends in, as deep calls need
-// stack and no proof speaks of it. `tools/stack.py` writes such files and finds how much stack each needs.
+// stack and no proof speaks of it. `cases/depth.py` writes the stored file and the line that is expected; `tools/stack.py`
+// writes others and finds how much stack each needs.
 //
 // The file is words of two bytes, high byte first: the count of node words, the count of rule words, the count of tokens,
 // the start node and the mode; then the node words and the rule words. Every token is terminal 0 at column 0.

@@ -20,23 +20,26 @@ use stored_cases::pair;
 use stored_cases::part;
 use stored_cases::show;
 use stored_cases::show_16;
+use stored_cases::show_one;
 use stored_cases::triple;
 use table::Checked;
 ghost use mathlib.Core.Path.{_≡_};
 ghost use Rattle.grammar_file_cases.specs.Written.{nodesWritten, rulesWritten};
 
-// The kinds of calls that are told apart by a number.
-const KEYWORD: usize = 107;
+// The kinds of calls.
+const READ: usize = b'r' as usize;
 
-const KEYWORD_DOWN: usize = 75;
+const READ_WORDS: usize = b'R' as usize;
 
-const NAME: usize = 110;
+const KEYWORD: usize = b'k' as usize;
 
-const NAME_DOWN: usize = 78;
+const KEYWORD_DOWN: usize = b'K' as usize;
 
-const TABLE: usize = 116;
+const NAME: usize = b'n' as usize;
 
-const READ_WORDS: usize = 82;
+const NAME_DOWN: usize = b'N' as usize;
+
+const TABLE: usize = b't' as usize;
 
 // What every lent word holds before a read.
 const MARKER: u16 = 60000;
@@ -65,7 +68,7 @@ fn records(cases: &[u8], bytes: &mut [u8]) {
 fn record(cases: &[u8], at: usize, bytes: &mut [u8]) -> usize {
     let header = part(cases, at, 12);
     let size = triple(header, 9);
-    let first = label(cases, at, 12, byte(header, 1));
+    let first = label(cases, at, header);
     let end = stored_cases::fill(cases, first, bytes, triple(header, 6), size);
     call(header, part(bytes, 0, size));
     io::write_all(1, b"\n");
@@ -82,7 +85,10 @@ fn call(header: &[u8], payload: &[u8]) {
         NAME_DOWN => show_part(grammar_file::rule_name(payload, usize::MAX - x)),
         TABLE => lend(payload, x, pair(header, 4)),
         READ_WORDS => lend_read(payload, x, pair(header, 4), true),
-        _ => lend_read(payload, x, pair(header, 4), false),
+        READ => lend_read(payload, x, pair(header, 4), false),
+        _ => {
+            io::write_all(1, b"no such call");
+        }
     }
 }
 
@@ -90,8 +96,7 @@ fn call(header: &[u8], payload: &[u8]) {
 fn show_part(found: &[u8]) {
     io::write_all(1, b"\"");
     io::write_all(1, found);
-    let numbers = [found.len() as u64];
-    show(b"\"", &numbers);
+    show_one(b"\"", found.len() as u64);
 }
 
 // Lends x node words and y rule words for a table.
@@ -115,8 +120,7 @@ fn show_table(payload: &[u8], nodes: &mut [u16], rules: &mut [u16]) {
             io::write_all(1, b"passes");
         }
         Checked::Refused(number) => {
-            let numbers = [number as u64];
-            show(b"refused", &numbers);
+            show_one(b"refused", number as u64);
         }
     }
 }
@@ -152,11 +156,8 @@ fn show_lent(nodes: &[u16], rules: &[u16], n: usize, r: usize, words: bool) {
         show_words(b" | nodes", nodes, n);
         show_words(b" | rules", rules, r);
     }
-    if filled_16(nodes, n, MARKER) && filled_16(rules, r, MARKER) {
-        io::write_all(1, b" | kept | check ");
-    } else {
-        io::write_all(1, b" | changed | check ");
-    }
+    let kept = filled_16(nodes, n, MARKER) && filled_16(rules, r, MARKER);
+    stored_cases::show_either(kept, b" | kept | check ", b" | changed | check ");
 }
 
 // Prints a text and the first n words, or all where there are fewer.
@@ -218,8 +219,7 @@ fn show_answer(answer: FileRead) {
             show(b"read", &numbers);
         }
         FileRead::Refused(number) => {
-            let numbers = [number as u64];
-            show(b"refused", &numbers);
+            show_one(b"refused", number as u64);
         }
     }
 }

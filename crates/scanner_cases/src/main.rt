@@ -2,13 +2,14 @@
 // `cases/scanner_cases.py` writes that file and the lines that are expected.
 //
 // A record is a header of 39 bytes, a label, a grammar file and a report. The header has the kind of the
-// call, the label's length, the mark (0 is clear) and twelve numbers of three bytes each: x, y, and five
-// that tell how the file is stored (`stored_cases::stored`), then the report. The kinds:
+// call, the label's length and the mark (0 is clear) in one byte each, and twelve numbers of three bytes
+// each: x, y, and five that tell how the file is stored (`stored_cases::stored`), then the report. The kinds:
 //   s  scan the report, x words lent
 //   a  the same, then hand out the report's tokens one by one
 //   n  the next token from offset x and column y on, with the mark
 //   o  the same, where x counts down from the greatest offset
 //   c  the same, where y counts down from the greatest column
+//   v  step x of a scanner's value, counted from 0
 use scanner::Handed;
 use scanner::Step;
 use slices::filled_32;
@@ -19,6 +20,8 @@ use stored_cases::least;
 use stored_cases::mark_32;
 use stored_cases::part;
 use stored_cases::show;
+use stored_cases::show_either;
+use stored_cases::show_one;
 use stored_cases::stored;
 use stored_cases::triple;
 use token_words::Scanned;
@@ -29,13 +32,17 @@ ghost use Prim.Native.Nat.{_≤_};
 ghost use Rattle.scanner_cases.specs.Handing.{isToken, isWord, areWords, holdsAt, Walked};
 
 // The kinds of calls.
-const SCAN: usize = 115;
+const SCAN: usize = b's' as usize;
 
-const HAND_OUT: usize = 97;
+const HAND_OUT: usize = b'a' as usize;
 
-const OFFSET_DOWN: usize = 111;
+const NEXT: usize = b'n' as usize;
 
-const COLUMN_DOWN: usize = 99;
+const OFFSET_DOWN: usize = b'o' as usize;
+
+const COLUMN_DOWN: usize = b'c' as usize;
+
+const VALUE: usize = b'v' as usize;
 
 // What every lent word holds before a scan.
 const MARKER: u32 = 4000000000;
@@ -77,7 +84,7 @@ fn records(cases: &[u8], file: &mut [u8], report: &mut [u8]) {
 // Makes the call of the record at an index. The answer is where the record ends.
 fn record(cases: &[u8], at: usize, file: &mut [u8], report: &mut [u8]) -> usize {
     let header = part(cases, at, 39);
-    let first = label(cases, at, 39, byte(header, 1));
+    let first = label(cases, at, header);
     let second = stored(cases, first, part(header, 9, 15), file);
     let end = stored(cases, second, part(header, 24, 15), report);
     call(
@@ -90,35 +97,26 @@ fn record(cases: &[u8], at: usize, file: &mut [u8], report: &mut [u8]) -> usize 
 
 // Makes the call that the header tells of and prints its answer.
 fn call(header: &[u8], file: &[u8], report: &[u8]) {
-    let kind = byte(header, 0);
     let x = triple(header, 3);
-    match kind {
+    let y = triple(header, 6) as u32;
+    let mark = byte(header, 2) != 0;
+    match byte(header, 0) {
         SCAN => lend(file, report, x, false),
         HAND_OUT => lend(file, report, x, true),
-        _ => show_next(
-            kind,
-            file,
-            report,
-            x,
-            triple(header, 6) as u32,
-            byte(header, 2) != 0,
-        ),
+        NEXT => show_next(file, report, x, y, mark),
+        OFFSET_DOWN => show_next(file, report, usize::MAX - x, y, mark),
+        COLUMN_DOWN => show_next(file, report, x, u32::MAX - y, mark),
+        VALUE => show_handed(scanner_value::nth(file, report, x)),
+        _ => {
+            io::write_all(1, b"no such call");
+        }
     }
     io::write_all(1, b"\n");
 }
 
 // Prints the next token from an offset, a column and a mark on.
-fn show_next(kind: usize, file: &[u8], report: &[u8], x: usize, y: u32, mark: bool) {
-    if kind == OFFSET_DOWN {
-        show_step(scanner::next_token(file, report, usize::MAX - x, y, mark));
-        return;
-    }
-    show_step(scanner::next_token(file, report, x, column(kind, y), mark));
-}
-
-// The column, or as much less than the greatest.
-fn column(kind: usize, y: u32) -> u32 {
-    if kind == COLUMN_DOWN { u32::MAX - y } else { y }
+fn show_next(file: &[u8], report: &[u8], at: usize, column: u32, mark: bool) {
+    show_step(scanner::next_token(file, report, at, column, mark));
 }
 
 // Makes a call that is lent x words.
@@ -136,17 +134,11 @@ fn show_lent(file: &[u8], report: &[u8], tokens: &mut [u32], all: bool) {
     }
 }
 
-// Prints what a scan answers and whether it left alone what it was to leave alone. The answer here is
-// the number of tokens, 0 where the scan was refused.
+// Prints what a scan answers and wrote. The answer here is the number of tokens, 0 where the scan was refused.
 fn show_scan(file: &[u8], report: &[u8], tokens: &mut [u32]) -> usize {
     mark_32(tokens, MARKER);
     let count = show_scanned(token_words::scan(file, report, tokens));
     show_tokens(tokens, count);
-    if filled_32(tokens, least(count, MOST_HANDED) * 4, MARKER) {
-        io::write_all(1, b" | kept");
-    } else {
-        io::write_all(1, b" | changed");
-    }
     count
 }
 
@@ -154,13 +146,11 @@ fn show_scan(file: &[u8], report: &[u8], tokens: &mut [u32]) -> usize {
 fn show_scanned(scanned: Scanned) -> usize {
     match scanned {
         Scanned::Tokens(n) => {
-            let numbers = [n as u64];
-            show(b"tokens", &numbers);
+            show_one(b"tokens", n as u64);
             n
         }
         Scanned::Refused(number) => {
-            let numbers = [number as u64];
-            show(b"refused", &numbers);
+            show_one(b"refused", number as u64);
             0
         }
     }
@@ -169,22 +159,13 @@ fn show_scanned(scanned: Scanned) -> usize {
 // Prints how many tokens were handed out one by one, what comes after them, and whether they are those of the scan, where
 // it had some.
 fn show_all(walk: Walk, count: usize) {
-    let numbers = [walk.count as u64];
-    show(b" | handed", &numbers);
+    show_one(b" | handed", walk.count as u64);
     io::write_all(1, b" then ");
     let last = walk.last;
     show_step(last);
-    show_same(walk.same && walk.count == count, count);
-}
-
-fn show_same(same: bool, count: usize) {
-    if count == 0 {
-        return;
-    }
-    if same {
-        io::write_all(1, b" | same");
-    } else {
-        io::write_all(1, b" | different");
+    if count > 0 {
+        let same = walk.same && walk.count == count;
+        show_either(same, b" | same", b" | different");
     }
 }
 
@@ -289,11 +270,7 @@ fn show_step(step: Step) {
     show_handed(handed);
     let numbers = [step.at as u64, step.column as u64];
     show(b" | at", &numbers);
-    if step.mark {
-        io::write_all(1, b" set");
-    } else {
-        io::write_all(1, b" clear");
-    }
+    show_either(step.mark, b" set", b" clear");
 }
 
 // Prints the token handed out, `none` or the number of a refusal.
@@ -312,15 +289,20 @@ fn show_handed(handed: Handed) {
             io::write_all(1, b"none");
         }
         Handed::Refused(number) => {
-            let numbers = [number as u64];
-            show(b"refused", &numbers);
+            show_one(b"refused", number as u64);
         }
     }
 }
 
-// Prints the words of n tokens where they are few, else those of the last two and a sum of all.
+// Prints the words of n tokens, and whether a scan left those behind them alone.
 fn show_tokens(words: &[u32], n: usize) {
     let end = least(least(n, MOST_HANDED) * 4, words.len());
+    show_first(words, n, end);
+    show_either(filled_32(words, end, MARKER), b" | kept", b" | changed");
+}
+
+// Prints the words of n tokens, those before `end`, where they are few, else those of the last two and a sum of all.
+fn show_first(words: &[u32], n: usize, end: usize) {
     if n <= FEW {
         show_words(words, 0, end);
         return;
@@ -328,8 +310,7 @@ fn show_tokens(words: &[u32], n: usize) {
     if end >= 8 {
         show_words(words, end - 8, end);
     }
-    let numbers = [sum(words, end)];
-    show(b" | sum", &numbers);
+    show_one(b" | sum", sum(words, end));
 }
 
 // Prints the words from index `from` to before `end`, a bar before each fourth.
@@ -346,8 +327,7 @@ fn show_word(i: usize, word: u32) {
     if i % 4 == 0 {
         io::write_all(1, b" |");
     }
-    let numbers = [word as u64];
-    show(b"", &numbers);
+    show_one(b"", word as u64);
 }
 
 // A sum of the first `end` words that tells their order too.

@@ -1,4 +1,4 @@
--- The parts of a record: bytes copied from the cases to a place where the last part of that kind stands, and bytes that
+-- The label and the parts of a record: bytes copied from the cases to a place where the last part of that kind stands, and bytes that
 -- repeat those before them.
 use Prim.Native.Nat.{ℕ, zero, suc, _+_, _-_, min}
 use mathlib.Core.Bool.{cond}
@@ -15,6 +15,10 @@ here cases at n = min n (length cases - at)
 -- Where these end.
 abbrev pub past : List ℕ → ℕ → ℕ → ℕ
 past cases at n = at + here cases at n
+
+-- Where the label ends behind a header at an index; the header's second byte is the label's length.
+abbrev pub labelEnd : List ℕ → ℕ → List ℕ → ℕ
+labelEnd cases at header = past cases (past cases at (length header)) (getD header 1 0)
 
 -- How many bytes there are from one index to before another.
 abbrev pub room : List ℕ → ℕ → ℕ → ℕ

@@ -1,18 +1,20 @@
 // What the programs over stored cases share: reading a file of cases, its numbers and its parts, and printing answers.
 //
 // A file of cases is records, one behind the other. A record is a header of a length that the program knows, a label,
-// and the parts of a call: bytes that are copied to where a program keeps the part of the record before (`fill`), or put
-// together from such bytes and repeated ones (`stored`). Numbers have one to four bytes, high byte first; bytes that are
-// not there count as 0, so each function answers for any bytes. A program supplies the loop over the records (`label`,
-// then each part, then the call, each from the index on that the one before answered) and what it prints of an answer.
-// Cases are added to a file, by its generator under `cases/`; a new program is needed only for a new call.
+// and the parts of a call. A header begins with the kind of the call, a letter, and the label's length, in one byte each;
+// what follows is the program's. The bytes of a part are copied to where a program keeps the part of the record before
+// (`fill`), or put together from such bytes and repeated ones (`stored`). Numbers have one to four bytes, high byte first;
+// bytes that are not there count as 0, so each function answers for any bytes. A program supplies the loop over the records
+// (`label`, then each part, then the call, each from the index on that the one before answered), an arm for each kind, and
+// what it prints of an answer; of a kind that it does not know it prints `no such call`. Cases are added to a file by its
+// script under `cases/`; a new call is an arm more in the program over that crate.
 ghost use Prim.Native.Nat.{_-_, _≤_, _<_, min};
 ghost use mathlib.Core.Path.{_≡_};
 ghost use lib.ListN.{length, take, drop, getD};
 ghost use lib.Seq.{paste};
 ghost use Rattle.io.specs.Counts.{Counts};
 ghost use Rattle.stored_cases.specs.Numbers.{pairAt, tripleAt, quadAt, tabulate, firstPairs, firstQuads};
-ghost use Rattle.stored_cases.specs.Parts.{here, past, room, filledBy, repeated, storedBytes, storedEnd};
+ghost use Rattle.stored_cases.specs.Parts.{here, past, labelEnd, room, filledBy, repeated, storedBytes, storedEnd};
 
 // At least the number of records of a file.
 pub const MOST_RECORDS: u32 = 100000;
@@ -31,11 +33,11 @@ pub fn read(path: &[u8], bytes: &mut [u8]) -> usize
     n
 }
 
-// 700,000 zeros, for a file of cases; only their number is said.
-pub fn room_for_cases() -> [u8; 700000]
-    ensures { λ r. ⌜ 700000 ≡ length r ⌝ }
+// 1,000,000 zeros, for a file of cases; only their number is said.
+pub fn room_for_cases() -> [u8; 1000000]
+    ensures { λ r. ⌜ 1000000 ≡ length r ⌝ }
 {
-    [0; 700000]
+    [0; 1000000]
 }
 
 // 140,000 zeros, for a part of a record.
@@ -252,14 +254,38 @@ pub fn stored(cases: &[u8], at: usize, five: &[u8], bytes: &mut [u8]) -> usize
     fill(cases, next, bytes, middle, triple(five, 12))
 }
 
-// Prints a label of n bytes and ": ". It stands behind a header of so many bytes at an index. The answer is where it ends.
-pub fn label(cases: &[u8], at: usize, header: usize, n: usize) -> usize
-    ensures { λ r. ⌜ r ≡ past (now (cases .entry)) (past (now (cases .entry)) at header) n ⌝ }
+// Prints the label behind a header at an index, whose second byte is the label's length, and ": ". The answer is where the
+// label ends.
+pub fn label(cases: &[u8], at: usize, header: &[u8]) -> usize
+    ensures { λ r. ⌜ r ≡ labelEnd (now (cases .entry)) at (now (header .entry)) ⌝ }
 {
-    let from = after(cases, at, header);
+    let n = byte(header, 1);
+    let from = after(cases, at, header.len());
     io::write_all(1, part(cases, from, n));
     io::write_all(1, b": ");
     after(cases, from, n)
+}
+
+// Prints the first text where a test holds, else the second. The answer is the test.
+pub fn show_either(test: bool, first: &[u8], second: &[u8]) -> bool
+    ensures { λ r. ⌜ r ≡ test ⌝ }
+{
+    if test {
+        io::write_all(1, first);
+    } else {
+        io::write_all(1, second);
+    }
+    test
+}
+
+// Prints a text, a blank and a number. The answer is how many numbers there were, one.
+pub fn show_one(text: &[u8], number: u64) -> usize
+    ensures { λ r. ⌜ r ≡ 1 ⌝ }
+{
+    io::write_all(1, text);
+    io::write_all(1, b" ");
+    io::print_decimal(1, number);
+    1
 }
 
 // Prints a text and numbers, a blank before each. The answer is how many numbers there were.
@@ -269,8 +295,7 @@ pub fn show(text: &[u8], numbers: &[u64]) -> usize
     io::write_all(1, text);
     let mut i = 0;
     while i < numbers.len() {
-        io::write_all(1, b" ");
-        io::print_decimal(1, numbers[i]);
+        show_one(b"", numbers[i]);
         i += 1;
     }
     i
@@ -282,8 +307,7 @@ pub fn show_16(words: &[u16]) -> usize
 {
     let mut shown = 0;
     while shown < words.len() {
-        io::write_all(1, b" ");
-        io::print_decimal(1, wide_16(words[shown]));
+        show_one(b"", wide_16(words[shown]));
         shown += 1;
     }
     shown

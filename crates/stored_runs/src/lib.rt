@@ -1,4 +1,5 @@
-// From stored bytes to runs: the start that a header tells of, the run of a stored table, and what it ended in, printed.
+// From stored bytes to runs: the start that a header tells of, the run of a stored table, and what it ended in, printed;
+// and the program's line of a grammar file and a report.
 use columns::Interval;
 use columns::Start;
 use columns::State;
@@ -10,11 +11,13 @@ use stored_cases::load_16;
 use stored_cases::load_32;
 use stored_cases::pair;
 use stored_cases::quad;
+use stored_cases::show_one;
 ghost use mathlib.Core.Path.{_≡_};
 ghost use lib.ListN.{length};
 ghost use Rattle.interpreter.specs.declared.Ran.the-variants.{Success};
 ghost use Rattle.stored_runs.specs.Runs.{startOf, upperOf, flagOf, Answers, StoredAnswers, shownCount, shownUpper};
 ghost use Rattle.stored_cases.specs.Numbers.{firstPairs, firstQuads, quads};
+ghost use Rattle.line.specs.Line.{lineCount};
 
 // The start of 18 bytes: the flag (0 is clear) and whether the upper end is a column (0 is without end) in one byte each;
 // the node and the mode in two each; the place, the lower end and the upper end in four each.
@@ -123,14 +126,8 @@ pub fn show(ran: Ran) -> usize
             io::write_all(1, b"failure");
             0
         }
-        Ran::Refused(n) => {
-            let numbers = [n as u64];
-            stored_cases::show(b"refused", &numbers)
-        }
-        Ran::IllFormed(node) => {
-            let numbers = [node as u64];
-            stored_cases::show(b"refused 7", &numbers)
-        }
+        Ran::Refused(n) => show_one(b"refused", n as u64),
+        Ran::IllFormed(node) => show_one(b"refused 7", node as u64),
     }
 }
 
@@ -143,7 +140,7 @@ fn show_success(read: u32, state: State) -> usize
     let numbers = [read as u64, interval.lower as u64];
     stored_cases::show(b"success", &numbers);
     let count = show_upper(upper);
-    show_flag(state.flag);
+    stored_cases::show_either(state.flag, b" set", b" clear");
     count
 }
 
@@ -153,8 +150,7 @@ fn show_upper(upper: Upper) -> usize
 {
     match upper {
         Upper::At(column) => {
-            let numbers = [column as u64];
-            stored_cases::show(b"", &numbers);
+            show_one(b"", column as u64);
             3
         }
         Upper::Endless => {
@@ -164,10 +160,12 @@ fn show_upper(upper: Upper) -> usize
     }
 }
 
-fn show_flag(flag: bool) {
-    if flag {
-        io::write_all(1, b" set");
-    } else {
-        io::write_all(1, b" clear");
-    }
+// Prints the program's line of a grammar file and a report. The answer is how many bytes it has.
+pub fn show_line(file: &[u8], report: &[u8]) -> usize
+    ensures { λ r. ⌜ r ≡ lineCount (now (file .entry)) (now (report .entry)) 64 ⌝ }
+{
+    let mut out = [0u8; 64];
+    let count = line::write(file, report, &mut out);
+    io::write_all(1, stored_cases::part(&out, 0, count));
+    count
 }

@@ -1,16 +1,18 @@
 // Makes the calls that the file `cases` lists and prints a line for each: a label and the answer.
 // `cases/well_formed_cases.py` writes that file and the lines that are expected.
 //
-// A record is a header of nine bytes, a label and the end of a payload. The header has the label's
-// length in one byte and four numbers of two bytes each: how often the call is made again, the node
-// words, the rule words, and how many bytes the payload has in common with the one before it, at the
-// start of both. The payload is the node words, then the rule words.
+// A record is a header of ten bytes, a label and the end of a payload. The header has the kind of the
+// call and the label's length in one byte each, and four numbers of two bytes each: how often the call
+// is made again, the node words, the rule words, and how many bytes the payload has in common with the
+// one before it, at the start of both. The payload is the node words, then the rule words. The kinds:
+//   c  check the table
 use stored_cases::MOST_RECORDS;
 use stored_cases::byte;
 use stored_cases::label;
 use stored_cases::load_16;
 use stored_cases::pair;
 use stored_cases::part;
+use stored_cases::show_one;
 use well_formed::Verdict;
 ghost use mathlib.Core.Path.{_≡_};
 ghost use mathlib.Core.Bool.{_||_};
@@ -19,6 +21,9 @@ ghost use lib.ListN.{length};
 ghost use Rattle.well_formed.specs.Check.{checkAnswer, numbers};
 ghost use Rattle.stored_cases.specs.Numbers.{firstPairs, pairs};
 ghost use Rattle.well_formed_cases.specs.Repeats.{numberOf, storedNumber};
+
+// The kinds of calls.
+const CHECK: usize = b'c' as usize;
 
 fn main() {
     let mut cases = stored_cases::room_for_cases();
@@ -42,18 +47,28 @@ fn records(cases: &[u8], bytes: &mut [u8]) {
 
 // Makes the call of the record at an index. The answer is where the record ends.
 fn record(cases: &[u8], at: usize, bytes: &mut [u8]) -> usize {
-    let header = part(cases, at, 9);
-    let x = pair(header, 3) * 2;
-    let y = pair(header, 5) * 2;
-    let first = label(cases, at, 9, byte(header, 0));
-    let end = stored_cases::fill(cases, first, bytes, pair(header, 7), x + y);
-    call(part(bytes, 0, x), part(bytes, x, y), pair(header, 1));
+    let header = part(cases, at, 10);
+    let x = pair(header, 4) * 2;
+    let y = pair(header, 6) * 2;
+    let first = label(cases, at, header);
+    let end = stored_cases::fill(cases, first, bytes, pair(header, 8), x + y);
+    call(header, part(bytes, 0, x), part(bytes, x, y));
     io::write_all(1, b"\n");
     end
 }
 
+// Makes the call that a header tells of and prints its answer.
+fn call(header: &[u8], nodes: &[u8], rules: &[u8]) {
+    match byte(header, 0) {
+        CHECK => check_again(nodes, rules, pair(header, 2)),
+        _ => {
+            io::write_all(1, b"no such call");
+        }
+    }
+}
+
 // Checks the table of stored node words and rule words, then as often again, and prints the answer.
-fn call(nodes: &[u8], rules: &[u8], again: usize) {
+fn check_again(nodes: &[u8], rules: &[u8], again: usize) {
     let first = answer(nodes, rules);
     if repeats(nodes, rules, again, number(first)) {
         show_verdict(first);
@@ -118,12 +133,10 @@ fn show_verdict(verdict: Verdict) {
             io::write_all(1, b"passes");
         }
         Verdict::Refused(n) => {
-            let numbers = [n as u64];
-            stored_cases::show(b"refused", &numbers);
+            show_one(b"refused", n as u64);
         }
         Verdict::IllFormed(node) => {
-            let numbers = [node as u64];
-            stored_cases::show(b"refused 7", &numbers);
+            show_one(b"refused 7", node as u64);
         }
     }
 }

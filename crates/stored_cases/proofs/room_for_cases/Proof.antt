@@ -6,7 +6,7 @@ use Rattle.stored_cases.proofs.room_for_cases.Statement.{statement}
 use Rattle.stored_cases.proofs.room_for_cases.Tie as tie
 
 returns : tie.Need-returns
-returns c = sym (length-replicate {0} {A = ℕ} 700000 0)
+returns c = sym (length-replicate {0} {A = ℕ} 1000000 0)
 
 pub room-for-cases-spec : {M : Type 1} → statement M
 room-for-cases-spec = tie.close (tie.spec returns)
