@@ -13,7 +13,7 @@ ghost use Rattle.clauses.specs.RunAnswer.{runAnswer};
 ghost use Rattle.line.specs.Line.{lineCount, lineAfter};
 ghost use Rattle.reported.specs.Reported.{number, reported, contentsWords, countWords, RunReported};
 ghost use Rattle.reported.specs.Reported.{upperFrom, startFrom};
-ghost use Rattle.copied.specs.Copied.{copied};
+ghost use Rattle.slices.specs.Copied.{copied};
 
 // Reads a grammar file. The answer is 0, with the counts of nodes, rules and keywords, the start node and its mode in
 // `result`, or the number that refused the call.
@@ -138,7 +138,7 @@ pub extern "C" fn saktroum_keyword(file: &[u8], index: usize, out: &mut [u8]) ->
     ensures { λ r. ⌜ now (out .exit) ≡ copied (keywordBytes (now (file .entry)) index) (now (out .entry)) ⌝ }
 {
     let keyword = grammar_file::keyword(file, index);
-    copied::copy(keyword, out)
+    slices::copy(keyword, out)
 }
 
 // Copies the bytes of a rule's name, in the same way.
@@ -148,5 +148,5 @@ pub extern "C" fn saktroum_rule_name(file: &[u8], index: usize, out: &mut [u8]) 
     ensures { λ r. ⌜ now (out .exit) ≡ copied (nameBytes (now (file .entry)) index) (now (out .entry)) ⌝ }
 {
     let name = grammar_file::rule_name(file, index);
-    copied::copy(name, out)
+    slices::copy(name, out)
 }

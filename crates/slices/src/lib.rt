@@ -1,6 +1,8 @@
-// What programs ask of slices: the first bytes, and whether words are still the marker that they were set to.
+// What programs and the C interface ask of slices: the first bytes, bytes copied to a lent slice, and whether words are
+// still the marker that they were set to.
 ghost use mathlib.Core.Path.{_≡_};
-ghost use lib.ListN.{take, drop};
+ghost use lib.ListN.{length, take, drop};
+ghost use Rattle.slices.specs.Copied.{copied};
 ghost use Rattle.slices.specs.Filled.{filled};
 
 // The first n bytes, or all where there are fewer.
@@ -11,6 +13,22 @@ pub fn front(bytes: &[u8], n: usize) -> &[u8]
         return bytes;
     }
     &bytes[0..n]
+}
+
+// Copies bytes to a lent slice, and says how many there are. A slice that is too short for them is left as it is.
+pub fn copy(bytes: &[u8], out: &mut [u8]) -> usize
+    ensures { λ r. ⌜ r ≡ length (now (bytes .entry)) ⌝ }
+    ensures { λ r. ⌜ now (out .exit) ≡ copied (now (bytes .entry)) (now (out .entry)) ⌝ }
+{
+    if out.len() < bytes.len() {
+        return bytes.len();
+    }
+    let mut i = 0;
+    while i < bytes.len() {
+        out[i] = bytes[i];
+        i += 1;
+    }
+    bytes.len()
 }
 
 // Whether every word from an index on is a value.

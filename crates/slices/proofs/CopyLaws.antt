@@ -8,7 +8,7 @@ use native.Mathlib.Omega.{arith}
 use borrow.Author.Tests.{lt-ltb, le-ltb}
 use lib.ListN.{length, take, drop, getD, set}
 use lib.Seq.{paste-suc, take-length}
-use Rattle.copied.specs.Copied.{copied}
+use Rattle.slices.specs.Copied.{copied}
 
 module _ (bytes old : List ℕ) where
   -- One byte more.

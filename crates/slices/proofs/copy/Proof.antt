@@ -1,12 +1,12 @@
--- `copied::copy` meets its contract: the bytes passed stand in front, and behind them what was there.
+-- `slices::copy` meets its contract: the bytes passed stand in front, and behind them what was there.
 use Prim.Native.Nat.{ℕ, _-_, _≤_}
 use mathlib.Core.Path.{_≡_, refl, ap, _∙_}
 use mathlib.Core.List.{_++_}
 use native.Mathlib.Omega.{arith}
 use lib.ListN.{length, take, drop, length-set}
-use Rattle.copied.proofs.CopyLaws.{copy-next, copy-whole, copy-none}
-use Rattle.copied.proofs.copy.Statement.{statement}
-use Rattle.copied.proofs.copy.Tie as tie
+use Rattle.slices.proofs.CopyLaws.{copy-next, copy-whole, copy-none}
+use Rattle.slices.proofs.copy.Statement.{statement}
+use Rattle.slices.proofs.copy.Tie as tie
 
 abbrev Inv-loop : tie.InvT-loop
 Inv-loop bytes out₀ i₀ out i = (i ≤ length bytes) × (length out ≡ length out₀) × (out ≡ take i bytes ++ drop i out₀)
