@@ -1,10 +1,11 @@
 -- The words that rule and node fields stand for (01, "The grammar file"), and what writing them does to lent slices.
 use Prim.Native.Nat.{ℕ}
-use mathlib.Core.Bool.{Bool, true, false, _||_}
-use mathlib.Core.List.{List, [], _∷_, _++_}
-use lib.ListN.{length, getD, drop}
+use mathlib.Core.Bool.{Bool, _||_}
+use mathlib.Core.List.{List, [], _∷_}
+use lib.ListN.{length, getD}
 use lib.Dec.{ltb}
 use Rattle.table.specs.Words.{eachWords}
+use Rattle.table.specs.Answer.{given, refuseIf, afterwards}
 use Rattle.file_fields.specs.Fields.{Field, twoBytes}
 
 -- "tag 3, a rule: two-byte node number, then its name"
@@ -28,7 +29,6 @@ wordsOf fs = eachWords fourWords fs
 unfoldable pub tooShort : List ℕ → List ℕ → ℕ → ℕ → Bool
 tooShort nodes rules nodesLent rulesLent = ltb nodesLent (length nodes) || ltb rulesLent (length rules)
 
--- What a slice holds afterwards: what it held where one is too short, else the words in front of the rest.
+-- What a slice holds afterwards: as after a call that is refused by 6 where one of the two is too short.
 abbrev pub written : Bool → List ℕ → List ℕ → List ℕ
-written true words before = before
-written false words before = words ++ drop (length words) before
+written short words before = afterwards {A = Unit} (refuseIf short 6 (given tt)) words before

@@ -4,7 +4,7 @@ use Rattle.grammar_file.proofs.read.Statement.{statement}
 use Rattle.grammar_file.proofs.read.Tie as tie
 use mathlib.Core.Path.{refl, _∙_}
 use lib.ListN.{length}
-use Rattle.grammar_file.proofs.ReadLaws.{read-refuses, parts, short, enough, kept, nodes-after, rules-after}
+use Rattle.grammar_file.proofs.ReadLaws.{read-refuses, parts, short, enough, nodes-after, rules-after}
 
 returns : tie.Need-returns
 returns c =
@@ -16,8 +16,8 @@ returns c =
           (after-found .found2 .given .1) (length (start .args .nodes .now)) (length (start .args .rules .now))
           (after-write .write-tables .ensures .0) (c .if1 .taken),
       (
-        kept (c .if1 .taken) _ (start .args .nodes .now) (after-write .write-tables .ensures .1 .0),
-        kept (c .if1 .taken) _ (start .args .rules .now) (after-write .write-tables .ensures .1 .1),
+        rw (c .if1 .taken) at (after-write .write-tables .ensures .1 .0),
+        rw (c .if1 .taken) at (after-write .write-tables .ensures .1 .1),
       ),
     )
 

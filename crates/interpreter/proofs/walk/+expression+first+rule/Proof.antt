@@ -1,7 +1,7 @@
 -- `interpreter::walk::expression`, `interpreter::walk::first` and `interpreter::walk::rule`, which call each other, meet
 -- their contracts.
 use Prim.Native.Nat.{ℕ, _<_, _*_, _+_}
-use borrow.Fn.Kinds.{In}
+use borrow.Fn.Kinds.{In, Out}
 use borrow.Fn.PlainCycle.{Measures, is, falls, and}
 use Rattle.interpreter.proofs.walk.expression.Reads as expression
 use Rattle.interpreter.proofs.walk.expression.Kinds as expression-kinds
@@ -84,217 +84,184 @@ expression-Inv-loop nodes rules tokens mode₀ node₀ s₀ mode node s = Walk n
 abbrev expression-μ-loop : expression-lts.MeasureT-loop
 expression-μ-loop nodes rules tokens mode₀ node₀ s₀ mode node s = weight nodes rules tokens node s
 
-expression-loop-holds : (t : ℕ) → expression-lts.Need-loop-holds (claims t) (expression-at t) expression.Post expression-Inv-loop expression-μ-loop
-expression-loop-holds t c = start (c .before .before .before .pre .1)
+-- The needs of the expression walk, whose calls are below t.
+module _ (t : ℕ) where
+  -- A place or a need of the expression walk.
+  abbrev At : (expression-lts.Claims → In 3 expression-kinds.ps → Out 3 expression-kinds.ps expression-kinds.r
+      → expression-lts.InvT-loop → expression-lts.MeasureT-loop → Type 0) → Type 0
+  At place = place (claims t) (expression-at t) expression.Post expression-Inv-loop expression-μ-loop
 
-expression-cast-at : (t : ℕ) → expression-lts.Need-cast-at (claims t) (expression-at t) expression.Post expression-Inv-loop expression-μ-loop
-expression-cast-at t c = search needs
+  -- The turn that a place is in: from where the node's words are read, and from behind the walk of its first child.
+  abbrev turn-at : At expression-lts.After-shared-slice-known7 → At expression-lts.At-loop
+  turn-at c = c .before .before .before .before
 
-expression-mul-at : (t : ℕ) → expression-lts.Need-mul-at (claims t) (expression-at t) expression.Post expression-Inv-loop expression-μ-loop
-expression-mul-at t c = omega (arith, for-node (c .loop .inv))
+  abbrev turn-of : At expression-lts.After-first → At expression-lts.At-loop
+  turn-of c = turn-at (c .before .before .before)
 
-expression-mul-kind : (t : ℕ) → expression-lts.Need-mul-kind (claims t) (expression-at t) expression.Post expression-Inv-loop expression-μ-loop
-expression-mul-kind t c = omega (arith, for-node (c .loop .inv))
+  expression-loop-holds : At expression-lts.Need-loop-holds
+  expression-loop-holds c = start (c .before .before .before .pre .1)
 
-expression-shared-slice-read-kind : (t : ℕ) → expression-lts.Need-shared-slice-read-kind (claims t) (expression-at t) expression.Post expression-Inv-loop expression-μ-loop
-expression-shared-slice-read-kind t c = omega (arith, for-node (c .before .loop .inv))
+  expression-mul-at : At expression-lts.Need-mul-at
+  expression-mul-at c = omega (arith, for-node (c .loop .inv))
 
-expression-add-a : (t : ℕ) → expression-lts.Need-add-a (claims t) (expression-at t) expression.Post expression-Inv-loop expression-μ-loop
-expression-add-a t c = omega (arith, for-node (c .before .loop .inv))
+  expression-mul-kind : At expression-lts.Need-mul-kind
+  expression-mul-kind c = omega (arith, for-node (c .loop .inv))
 
-expression-mul-a : (t : ℕ) → expression-lts.Need-mul-a (claims t) (expression-at t) expression.Post expression-Inv-loop expression-μ-loop
-expression-mul-a t c = omega (arith, for-node (c .before .loop .inv))
+  expression-shared-slice-read-kind : At expression-lts.Need-shared-slice-read-kind
+  expression-shared-slice-read-kind c = omega (arith, for-node (c .before .loop .inv))
 
-expression-shared-slice-read-a : (t : ℕ) → expression-lts.Need-shared-slice-read-a (claims t) (expression-at t) expression.Post expression-Inv-loop expression-μ-loop
-expression-shared-slice-read-a t c = omega (arith, for-node (c .before .before .loop .inv))
+  expression-add-a : At expression-lts.Need-add-a
+  expression-add-a c = omega (arith, for-node (c .before .loop .inv))
 
-expression-add-b : (t : ℕ) → expression-lts.Need-add-b (claims t) (expression-at t) expression.Post expression-Inv-loop expression-μ-loop
-expression-add-b t c = omega (arith, for-node (c .before .before .loop .inv))
+  expression-mul-a : At expression-lts.Need-mul-a
+  expression-mul-a c = omega (arith, for-node (c .before .loop .inv))
 
-expression-mul-b : (t : ℕ) → expression-lts.Need-mul-b (claims t) (expression-at t) expression.Post expression-Inv-loop expression-μ-loop
-expression-mul-b t c = omega (arith, for-node (c .before .before .loop .inv))
+  expression-shared-slice-read-a : At expression-lts.Need-shared-slice-read-a
+  expression-shared-slice-read-a c = omega (arith, for-node (c .before .before .loop .inv))
 
-expression-shared-slice-read-b : (t : ℕ) → expression-lts.Need-shared-slice-read-b (claims t) (expression-at t) expression.Post expression-Inv-loop expression-μ-loop
-expression-shared-slice-read-b t c = omega (arith, for-node (c .before .before .before .loop .inv))
+  expression-add-b : At expression-lts.Need-add-b
+  expression-add-b c = omega (arith, for-node (c .before .before .loop .inv))
 
-expression-add-r : (t : ℕ) → expression-lts.Need-add-r (claims t) (expression-at t) expression.Post expression-Inv-loop expression-μ-loop
-expression-add-r t c = omega (arith, for-node (c .before .before .before .loop .inv))
+  expression-mul-b : At expression-lts.Need-mul-b
+  expression-mul-b c = omega (arith, for-node (c .before .before .loop .inv))
 
-expression-mul-r : (t : ℕ) → expression-lts.Need-mul-r (claims t) (expression-at t) expression.Post expression-Inv-loop expression-μ-loop
-expression-mul-r t c = omega (arith, for-node (c .before .before .before .loop .inv))
+  expression-shared-slice-read-b : At expression-lts.Need-shared-slice-read-b
+  expression-shared-slice-read-b c = omega (arith, for-node (c .before .before .before .loop .inv))
 
-expression-shared-slice-read-r : (t : ℕ) → expression-lts.Need-shared-slice-read-r (claims t) (expression-at t) expression.Post expression-Inv-loop expression-μ-loop
-expression-shared-slice-read-r t c = omega (arith, for-node (c .before .before .before .before .loop .inv))
+  expression-add-r : At expression-lts.Need-add-r
+  expression-add-r c = omega (arith, for-node (c .before .before .before .loop .inv))
 
-expression-returns : (t : ℕ) → expression-lts.Need-returns (claims t) (expression-at t) expression.Post expression-Inv-loop expression-μ-loop
-expression-returns t c =
-    let loop = c .before .before .before .before .before .loop in
-    out-empty (loop .inv) (c .match .keys1)
+  expression-mul-r : At expression-lts.Need-mul-r
+  expression-mul-r c = omega (arith, for-node (c .before .before .before .loop .inv))
 
-expression-token-requires : (t : ℕ) → expression-lts.Need-token-requires (claims t) (expression-at t) expression.Post expression-Inv-loop expression-μ-loop
-expression-token-requires t c κs =
-    let loop = c .before .before .before .before .before .loop in
-    for-token (loop .inv)
+  expression-shared-slice-read-r : At expression-lts.Need-shared-slice-read-r
+  expression-shared-slice-read-r c = omega (arith, for-node (c .before .before .before .before .loop .inv))
 
-expression-returns-2 : (t : ℕ) → expression-lts.Need-returns-2 (claims t) (expression-at t) expression.Post expression-Inv-loop expression-μ-loop
-expression-returns-2 t c =
-    let loop = c .before .before .before .before .before .before .loop in
-    out-token (loop .inv) (c .before .match .keys2) _ (c .token .ensures)
+  expression-returns : At expression-lts.Need-returns
+  expression-returns c = out-empty (turn-at (c .before) .loop .inv) (c .match .keys1)
 
-expression-rule-requires : (t : ℕ) → expression-lts.Need-rule-requires (claims t) (expression-at t) expression.Post expression-Inv-loop expression-μ-loop
-expression-rule-requires t c κs =
-    let loop = c .before .before .before .before .before .loop in
-    let start = c .before .before .before .before .before .before .before .before .before in
-    (rule-less (loop .inv) (start .pre .0) (c .match .keys3), rule-ready (loop .inv) (c .match .keys3))
+  expression-token-requires : At expression-lts.Need-token-requires
+  expression-token-requires c κs = for-token (turn-at (c .before) .loop .inv)
 
-expression-returns-3 : (t : ℕ) → expression-lts.Need-returns-3 (claims t) (expression-at t) expression.Post expression-Inv-loop expression-μ-loop
-expression-returns-3 t c =
-    let loop = c .before .before .before .before .before .before .loop in
-    out-rule (loop .inv) (c .before .match .keys3) _ (c .rule .ensures)
+  expression-returns-2 : At expression-lts.Need-returns-2
+  expression-returns-2 c = out-token (turn-at (c .before .before) .loop .inv) (c .before .match .keys2) _ (c .token .ensures)
 
-expression-loop-less : (t : ℕ) → expression-lts.Need-loop-less (claims t) (expression-at t) expression.Post expression-Inv-loop expression-μ-loop
-expression-loop-less t c =
-    let loop = c .before .before .before .before .before .loop in
-    position-less (loop .inv) (c .match .keys4)
+  expression-rule-requires : At expression-lts.Need-rule-requires
+  expression-rule-requires c κs =
+      let turn = turn-at (c .before) in
+      let start = turn .before .before .before .before in
+      (rule-less (turn .loop .inv) (start .pre .0) (c .match .keys3), rule-ready (turn .loop .inv) (c .match .keys3))
 
-expression-loop-again : (t : ℕ) → expression-lts.Need-loop-again (claims t) (expression-at t) expression.Post expression-Inv-loop expression-μ-loop
-expression-loop-again t c =
-    let loop = c .before .before .before .before .before .loop in
-    position-again (loop .inv) (c .match .keys4)
+  expression-returns-3 : At expression-lts.Need-returns-3
+  expression-returns-3 c = out-rule (turn-at (c .before .before) .loop .inv) (c .before .match .keys3) _ (c .rule .ensures)
 
-expression-child-requires : (t : ℕ) → expression-lts.Need-child-requires (claims t) (expression-at t) expression.Post expression-Inv-loop expression-μ-loop
-expression-child-requires t c κs =
-    let loop = c .before .before .before .before .before .loop in
-    for-child (loop .inv)
+  expression-loop-less : At expression-lts.Need-loop-less
+  expression-loop-less c = position-less (turn-at (c .before) .loop .inv) (c .match .keys4)
 
-expression-first-requires : (t : ℕ) → expression-lts.Need-first-requires (claims t) (expression-at t) expression.Post expression-Inv-loop expression-μ-loop
-expression-first-requires t c κs =
-    let loop = c .before .before .before .before .before .before .loop in
-    let start = c .before .before .before .before .before .before .before .before .before .before in (
-      call-less (loop .inv) (start .pre .0) (c .child .ensures) (c .before .match .rest .0 .0 .0 .1)
-          (c .before .match .rest .0 .0 .1) (c .before .match .rest .0 .1) (c .before .match .rest .1),
-      call-ready (loop .inv) (c .child .ensures) (c .before .match .rest .0 .0 .0 .1)
-          (c .before .match .rest .0 .0 .1) (c .before .match .rest .0 .1) (c .before .match .rest .1),
-    )
+  expression-loop-again : At expression-lts.Need-loop-again
+  expression-loop-again c = position-again (turn-at (c .before) .loop .inv) (c .match .keys4)
 
-expression-enum-told : (t : ℕ) → expression-lts.Need-enum-told (claims t) (expression-at t) expression.Post expression-Inv-loop expression-μ-loop
-expression-enum-told t c = search needs
+  expression-child-requires : At expression-lts.Need-child-requires
+  expression-child-requires c κs = for-child (turn-at (c .before) .loop .inv)
 
-expression-loop-less-2 : (t : ℕ) → expression-lts.Need-loop-less-2 (claims t) (expression-at t) expression.Post expression-Inv-loop expression-μ-loop
-expression-loop-less-2 t c =
-    let first = c .before .before .before .first in
-    let child = c .before .before .before .before .child in
-    let loop = c .before .before .before .before .before .before .before .before .before .before .loop in
-    choice-less (loop .inv) (child .ensures) (first .ensures) (c .before .enum-told .given .1) (c .match3 .keys1)
+  expression-first-requires : At expression-lts.Need-first-requires
+  expression-first-requires c κs =
+      let turn = turn-at (c .before .before) in
+      let start = turn .before .before .before .before in
+      let rest = c .before .match .rest in (
+        call-less (turn .loop .inv) (start .pre .0) (c .child .ensures) (rest .0 .0 .0 .1) (rest .0 .0 .1) (rest .0 .1) (rest .1),
+        call-ready (turn .loop .inv) (c .child .ensures) (rest .0 .0 .0 .1) (rest .0 .0 .1) (rest .0 .1) (rest .1),
+      )
 
-expression-loop-again-2 : (t : ℕ) → expression-lts.Need-loop-again-2 (claims t) (expression-at t) expression.Post expression-Inv-loop expression-μ-loop
-expression-loop-again-2 t c =
-    let first = c .before .before .before .first in
-    let child = c .before .before .before .before .child in
-    let loop = c .before .before .before .before .before .before .before .before .before .before .loop in
-    choice-again (loop .inv) (child .ensures) (first .ensures) (c .before .enum-told .given .1) (c .match3 .keys1)
+  expression-loop-less-2 : At expression-lts.Need-loop-less-2
+  expression-loop-less-2 c =
+      let first = c .before .before .before in
+      choice-less (turn-of first .loop .inv) (first .before .child .ensures) (first .first .ensures) (c .before .enum-told .given .1)
+      (c .match3 .keys1)
 
-expression-returns-4 : (t : ℕ) → expression-lts.Need-returns-4 (claims t) (expression-at t) expression.Post expression-Inv-loop expression-μ-loop
-expression-returns-4 t c =
-    let first = c .before .before .before .first in
-    let child = c .before .before .before .before .child in
-    let loop = c .before .before .before .before .before .before .before .before .before .before .loop in
-    out-not (loop .inv) (child .ensures) (first .ensures) (c .before .enum-told .given .1) (c .match3 .keys2)
+  expression-loop-again-2 : At expression-lts.Need-loop-again-2
+  expression-loop-again-2 c =
+      let first = c .before .before .before in
+      choice-again (turn-of first .loop .inv) (first .before .child .ensures) (first .first .ensures) (c .before .enum-told .given .1)
+      (c .match3 .keys1)
 
-expression-returns-5 : (t : ℕ) → expression-lts.Need-returns-5 (claims t) (expression-at t) expression.Post expression-Inv-loop expression-μ-loop
-expression-returns-5 t c =
-    let first = c .before .before .before .first in
-    let child = c .before .before .before .before .child in
-    let loop = c .before .before .before .before .before .before .before .before .before .before .loop in
-    out-repeat (loop .inv) (child .ensures) (first .ensures) (c .before .enum-told .given .1) (c .match3 .keys3)
+  expression-returns-4 : At expression-lts.Need-returns-4
+  expression-returns-4 c =
+      let first = c .before .before .before in
+      out-not (turn-of first .loop .inv) (first .before .child .ensures) (first .first .ensures) (c .before .enum-told .given .1)
+      (c .match3 .keys2)
 
-expression-returns-6 : (t : ℕ) → expression-lts.Need-returns-6 (claims t) (expression-at t) expression.Post expression-Inv-loop expression-μ-loop
-expression-returns-6 t c =
-    let first = c .before .before .before .first in
-    let child = c .before .before .before .before .child in
-    let match = c .before .before .before .before .before .match in
-    let loop = c .before .before .before .before .before .before .before .before .before .before .loop in
-    out-failed (loop .inv) (child .ensures) (first .ensures) (c .before .enum-told .given .1)
-    (match .rest .0 .0 .0 .1) (match .rest .0 .0 .1) (match .rest .0 .1) (match .rest .1) (c .match3 .rest .0 .0 .1)
-    (c .match3 .rest .0 .1) (c .match3 .rest .1)
+  expression-returns-5 : At expression-lts.Need-returns-5
+  expression-returns-5 c =
+      let first = c .before .before .before in
+      out-repeat (turn-of first .loop .inv) (first .before .child .ensures) (first .first .ensures) (c .before .enum-told .given .1)
+      (c .match3 .keys3)
 
-expression-enum-known-x : (t : ℕ) → expression-lts.Need-enum-known-x (claims t) (expression-at t) expression.Post expression-Inv-loop expression-μ-loop
-expression-enum-known-x t c = search needs
+  expression-returns-6 : At expression-lts.Need-returns-6
+  expression-returns-6 c =
+      let first = c .before .before .before in
+      let rest = first .before .before .match .rest in
+      out-failed (turn-of first .loop .inv) (first .before .child .ensures) (first .first .ensures) (c .before .enum-told .given .1)
+      (rest .0 .0 .0 .1) (rest .0 .0 .1) (rest .0 .1) (rest .1) (c .match3 .rest .0 .0 .1) (c .match3 .rest .0 .1) (c .match3 .rest .1)
 
-expression-loop-less-3 : (t : ℕ) → expression-lts.Need-loop-less-3 (claims t) (expression-at t) expression.Post expression-Inv-loop expression-μ-loop
-expression-loop-less-3 t c =
-    let x = c .before .before .x in
-    let first = c .before .before .before .before .first in
-    let child = c .before .before .before .before .before .child in
-    let loop = c .before .before .before .before .before .before .before .before .before .before .before .loop in
-    sequence-less (loop .inv) (child .ensures) (first .ensures) (x .given .0 .0) (x .given .1) (c .match4 .keys1)
+  expression-loop-less-3 : At expression-lts.Need-loop-less-3
+  expression-loop-less-3 c =
+      let x = c .before .before .x in
+      let first = c .before .before .before .before in
+      sequence-less (turn-of first .loop .inv) (first .before .child .ensures) (first .first .ensures) (x .given .0 .0) (x .given .1)
+      (c .match4 .keys1)
 
-expression-loop-again-3 : (t : ℕ) → expression-lts.Need-loop-again-3 (claims t) (expression-at t) expression.Post expression-Inv-loop expression-μ-loop
-expression-loop-again-3 t c =
-    let x = c .before .before .x in
-    let first = c .before .before .before .before .first in
-    let child = c .before .before .before .before .before .child in
-    let loop = c .before .before .before .before .before .before .before .before .before .before .before .loop in
-    sequence-again (loop .inv) (child .ensures) (first .ensures) (x .given .0 .0) (x .given .1) (c .match4 .keys1)
+  expression-loop-again-3 : At expression-lts.Need-loop-again-3
+  expression-loop-again-3 c =
+      let x = c .before .before .x in
+      let first = c .before .before .before .before in
+      sequence-again (turn-of first .loop .inv) (first .before .child .ensures) (first .first .ensures) (x .given .0 .0) (x .given .1)
+      (c .match4 .keys1)
 
-expression-returns-7 : (t : ℕ) → expression-lts.Need-returns-7 (claims t) (expression-at t) expression.Post expression-Inv-loop expression-μ-loop
-expression-returns-7 t c =
-    let x = c .before .before .x in
-    let first = c .before .before .before .before .first in
-    let child = c .before .before .before .before .before .child in
-    let loop = c .before .before .before .before .before .before .before .before .before .before .before .loop in
-    out-choice (loop .inv) (child .ensures) (first .ensures) (x .given .0 .0) (x .given .1) (c .match4 .keys2)
+  expression-returns-7 : At expression-lts.Need-returns-7
+  expression-returns-7 c =
+      let x = c .before .before .x in
+      let first = c .before .before .before .before in
+      out-choice (turn-of first .loop .inv) (first .before .child .ensures) (first .first .ensures) (x .given .0 .0) (x .given .1)
+      (c .match4 .keys2)
 
-expression-returns-8 : (t : ℕ) → expression-lts.Need-returns-8 (claims t) (expression-at t) expression.Post expression-Inv-loop expression-μ-loop
-expression-returns-8 t c =
-    let x = c .before .before .x in
-    let first = c .before .before .before .before .first in
-    let child = c .before .before .before .before .before .child in
-    let loop = c .before .before .before .before .before .before .before .before .before .before .before .loop in
-    out-not-fails (loop .inv) (child .ensures) (first .ensures) (x .given .0 .0) (x .given .1) (c .match4 .keys3)
+  expression-returns-8 : At expression-lts.Need-returns-8
+  expression-returns-8 c =
+      let x = c .before .before .x in
+      let first = c .before .before .before .before in
+      out-not-fails (turn-of first .loop .inv) (first .before .child .ensures) (first .first .ensures) (x .given .0 .0) (x .given .1)
+      (c .match4 .keys3)
 
-expression-loop-less-4 : (t : ℕ) → expression-lts.Need-loop-less-4 (claims t) (expression-at t) expression.Post expression-Inv-loop expression-μ-loop
-expression-loop-less-4 t c =
-    let x = c .before .before .x in
-    let first = c .before .before .before .before .first in
-    let child = c .before .before .before .before .before .child in
-    let loop = c .before .before .before .before .before .before .before .before .before .before .before .loop in
-    repeat-less (loop .inv) (child .ensures) (first .ensures) (x .given .0 .0) (x .given .1) (c .match4 .keys4)
+  expression-loop-less-4 : At expression-lts.Need-loop-less-4
+  expression-loop-less-4 c =
+      let x = c .before .before .x in
+      let first = c .before .before .before .before in
+      repeat-less (turn-of first .loop .inv) (first .before .child .ensures) (first .first .ensures) (x .given .0 .0) (x .given .1)
+      (c .match4 .keys4)
 
-expression-loop-again-4 : (t : ℕ) → expression-lts.Need-loop-again-4 (claims t) (expression-at t) expression.Post expression-Inv-loop expression-μ-loop
-expression-loop-again-4 t c =
-    let x = c .before .before .x in
-    let first = c .before .before .before .before .first in
-    let child = c .before .before .before .before .before .child in
-    let loop = c .before .before .before .before .before .before .before .before .before .before .before .loop in
-    repeat-again (loop .inv) (child .ensures) (first .ensures) (x .given .0 .0) (x .given .1) (c .match4 .keys4)
+  expression-loop-again-4 : At expression-lts.Need-loop-again-4
+  expression-loop-again-4 c =
+      let x = c .before .before .x in
+      let first = c .before .before .before .before in
+      repeat-again (turn-of first .loop .inv) (first .before .child .ensures) (first .first .ensures) (x .given .0 .0) (x .given .1)
+      (c .match4 .keys4)
 
-expression-left-requires : (t : ℕ) → expression-lts.Need-left-requires (claims t) (expression-at t) expression.Post expression-Inv-loop expression-μ-loop
-expression-left-requires t c κs = search needs
+  expression-returns-9 : At expression-lts.Need-returns-9
+  expression-returns-9 c =
+      let ended = c .before .before in
+      let first = ended .before .before .before in
+      out-indent (turn-of first .loop .inv) (first .before .child .ensures) (first .first .ensures) (ended .before .x .given .0 .0)
+      (ended .before .x .given .1) (c .before .match4 .keys5) (c .left .ensures)
 
-expression-returns-9 : (t : ℕ) → expression-lts.Need-returns-9 (claims t) (expression-at t) expression.Post expression-Inv-loop expression-μ-loop
-expression-returns-9 t c =
-    let x = c .before .before .before .x in
-    let first = c .before .before .before .before .before .first in
-    let child = c .before .before .before .before .before .before .child in
-    let loop = c .before .before .before .before .before .before .before .before .before .before .before .before .loop in
-    out-indent (loop .inv) (child .ensures) (first .ensures) (x .given .0 .0) (x .given .1) (c .before .match4 .keys5)
-    (c .left .ensures)
-
-expression-aligned-requires : (t : ℕ) → expression-lts.Need-aligned-requires (claims t) (expression-at t) expression.Post expression-Inv-loop expression-μ-loop
-expression-aligned-requires t c κs = search needs
-
-expression-returns-10 : (t : ℕ) → expression-lts.Need-returns-10 (claims t) (expression-at t) expression.Post expression-Inv-loop expression-μ-loop
-expression-returns-10 t c =
-    let x = c .before .before .before .x in
-    let first = c .before .before .before .before .before .first in
-    let child = c .before .before .before .before .before .before .child in
-    let match = c .before .before .before .before .before .before .before .match in
-    let loop = c .before .before .before .before .before .before .before .before .before .before .before .before .loop in
-    out-align (loop .inv) (child .ensures) (first .ensures) (x .given .0 .0) (x .given .1) (match .rest .0 .0 .0 .1)
-    (match .rest .0 .0 .1) (match .rest .0 .1) (match .rest .1) (c .before .match4 .rest .0 .0 .0 .0 .1)
-    (c .before .match4 .rest .0 .0 .0 .1) (c .before .match4 .rest .0 .0 .1) (c .before .match4 .rest .0 .1)
-    (c .before .match4 .rest .1) (c .aligned .ensures)
+  expression-returns-10 : At expression-lts.Need-returns-10
+  expression-returns-10 c =
+      let ended = c .before .before in
+      let first = ended .before .before .before in
+      let rest = first .before .before .match .rest in
+      let rest4 = c .before .match4 .rest in
+      out-align (turn-of first .loop .inv) (first .before .child .ensures) (first .first .ensures) (ended .before .x .given .0 .0)
+      (ended .before .x .given .1) (rest .0 .0 .0 .1) (rest .0 .0 .1) (rest .0 .1) (rest .1) (rest4 .0 .0 .0 .0 .1) (rest4 .0 .0 .0 .1)
+      (rest4 .0 .0 .1) (rest4 .0 .1) (rest4 .1) (c .aligned .ensures)
 
 first-mul-at : (t : ℕ) → first-lts.Need-mul-at (first-claims t) (first-at t) first.Post
 first-mul-at t c = omega (arith, first-node (c .before .before .before .pre .1))
@@ -335,13 +302,6 @@ first-expression-requires t c κs =
     let start = c .before .before .before .before .before in
     (node-less (start .pre .1) (start .pre .0), start .pre .1)
 
-first-returns-2 : (t : ℕ) → first-lts.Need-returns-2 (first-claims t) (first-at t) first.Post
-first-returns-2 t c = c .expression .ensures
-
-rule-mul-node :
-    (t : ℕ) → rule-lts.Need-mul-node (expression-below t, expression.Post) (rule-at t) rule.Post
-rule-mul-node t c = search needs
-
 rule-shared-slice-read-node : (t : ℕ) → rule-lts.Need-shared-slice-read-node (
   expression-below t,
   expression.Post,
@@ -363,69 +323,25 @@ rule-returns t c =
     out-of-rule (start .pre .1) _ (c .expression .ensures)
 
 pub +expression+first+rule-spec : {M : Type 1} → statement M
-+expression+first+rule-spec = close μ-expression μ-first μ-rule (λ t. expression-lts.spec (claims t)
-    (expression-at t)
-    expression.Post
-    expression-Inv-loop
-    expression-μ-loop
-    (expression-loop-holds t)
-    (expression-cast-at t)
-    (expression-mul-at t)
-    (expression-mul-kind t)
-    (expression-shared-slice-read-kind t)
-    (expression-add-a t)
-    (expression-mul-a t)
-    (expression-shared-slice-read-a t)
-    (expression-add-b t)
-    (expression-mul-b t)
-    (expression-shared-slice-read-b t)
-    (expression-add-r t)
-    (expression-mul-r t)
-    (expression-shared-slice-read-r t)
-    (expression-returns t)
-    (expression-token-requires t)
-    (expression-returns-2 t)
-    (expression-rule-requires t)
-    (expression-returns-3 t)
-    (expression-loop-less t)
-    (expression-loop-again t)
-    (expression-child-requires t)
-    (expression-first-requires t)
-    (expression-enum-told t)
-    (expression-loop-less-2 t)
-    (expression-loop-again-2 t)
-    (expression-returns-4 t)
-    (expression-returns-5 t)
-    (expression-returns-6 t)
-    (expression-enum-known-x t)
-    (expression-loop-less-3 t)
-    (expression-loop-again-3 t)
-    (expression-returns-7 t)
-    (expression-returns-8 t)
-    (expression-loop-less-4 t)
-    (expression-loop-again-4 t)
-    (expression-left-requires t)
-    (expression-returns-9 t)
-    (expression-aligned-requires t)
-    (expression-returns-10 t))
-    (λ t. first-lts.spec (first-claims t)
-    (first-at t)
-    first.Post
-    (first-mul-at t)
-    (first-mul-if1 t)
-    (first-shared-slice-read-if1 t)
-    (first-add-token t)
-    (first-mul-token t)
-    (first-shared-slice-read-token t)
-    (first-token-requires t)
-    (first-returns t)
-    (first-expression-requires t)
-    (first-returns-2 t))
-    λ t. rule-lts.spec
-    (expression-below t, expression.Post)
-    (rule-at t)
-    rule.Post
-    (rule-mul-node t)
-    (rule-shared-slice-read-node t)
-    (rule-expression-requires t)
-    (rule-returns t)
++expression+first+rule-spec =
+    close μ-expression μ-first μ-rule
+    (λ t.
+    expression-lts.spec (claims t) (expression-at t) expression.Post expression-Inv-loop expression-μ-loop
+    (expression-loop-holds t) (λ c. search needs) (expression-mul-at t) (expression-mul-kind t)
+    (expression-shared-slice-read-kind t) (expression-add-a t) (expression-mul-a t)
+    (expression-shared-slice-read-a t) (expression-add-b t) (expression-mul-b t)
+    (expression-shared-slice-read-b t) (expression-add-r t) (expression-mul-r t)
+    (expression-shared-slice-read-r t) (expression-returns t) (expression-token-requires t)
+    (expression-returns-2 t) (expression-rule-requires t) (expression-returns-3 t) (expression-loop-less t)
+    (expression-loop-again t) (expression-child-requires t) (expression-first-requires t) (λ c. search needs)
+    (expression-loop-less-2 t) (expression-loop-again-2 t) (expression-returns-4 t) (expression-returns-5 t)
+    (expression-returns-6 t) (λ c. search needs) (expression-loop-less-3 t) (expression-loop-again-3 t)
+    (expression-returns-7 t) (expression-returns-8 t) (expression-loop-less-4 t) (expression-loop-again-4 t)
+    (λ c κs. search needs) (expression-returns-9 t) (λ c κs. search needs) (expression-returns-10 t))
+    (λ t.
+    first-lts.spec (first-claims t) (first-at t) first.Post (first-mul-at t) (first-mul-if1 t)
+    (first-shared-slice-read-if1 t) (first-add-token t) (first-mul-token t) (first-shared-slice-read-token t)
+    (first-token-requires t) (first-returns t) (first-expression-requires t) (λ c. c .expression .ensures))
+    (λ t.
+    rule-lts.spec (expression-below t, expression.Post) (rule-at t) rule.Post (λ c. search needs)
+    (rule-shared-slice-read-node t) (rule-expression-requires t) (rule-returns t))
