@@ -5,10 +5,11 @@ use Rattle.columns.specs.Intervals.{outerEnds, meetEnds}
 use Rattle.columns.specs.declared.Interval.{Interval}
 use Rattle.columns.specs.declared.State.{State}
 
--- A state with another interval, and with another flag.
+-- A state with another interval.
 abbrev pub withInterval : State → Interval → State
 withInterval s c = record { place = s .place; interval = c; flag = s .flag }
 
+-- A state with another flag.
 abbrev pub withFlag : State → Bool → State
 withFlag s b = record { place = s .place; interval = s .interval; flag = b }
 

@@ -15,23 +15,27 @@ unfoldable pub decimalTo : ℕ → ℕ → List ℕ
 decimalTo zero n = []
 decimalTo (suc most) n = cond (ltb n 10) ((48 + n) ∷ []) (decimalTo most (n / 10) ++ ((48 + n % 10) ∷ []))
 
--- A number of 32 bits has ten digits at most.
+-- "All quantities are decimal": a number of 32 bits has ten digits at most.
 abbrev pub decimal : ℕ → List ℕ
 decimal n = decimalTo 10 n
 
--- The words, in ASCII.
+-- `success`, in ASCII.
 abbrev pub successWord : List ℕ
 successWord = 115 ∷ 117 ∷ 99 ∷ 99 ∷ 101 ∷ 115 ∷ 115 ∷ []
 
+-- `failure`.
 abbrev pub failureWord : List ℕ
 failureWord = 102 ∷ 97 ∷ 105 ∷ 108 ∷ 117 ∷ 114 ∷ 101 ∷ []
 
+-- `refused`.
 abbrev pub refusedWord : List ℕ
 refusedWord = 114 ∷ 101 ∷ 102 ∷ 117 ∷ 115 ∷ 101 ∷ 100 ∷ []
 
+-- "One space parts the words"
 abbrev pub space : List ℕ
 space = 32 ∷ []
 
+-- ".. and a line break ends the line"
 abbrev pub break : List ℕ
 break = 10 ∷ []
 
@@ -61,12 +65,14 @@ lineBytes (given failure) = failureWord ++ break
 lineBytes (refused number) = refusedWord ++ space ++ decimal number ++ break
 lineBytes (refusedAt number node) = refusedWord ++ space ++ decimal number ++ space ++ decimal node ++ break
 
--- Into a lent slice: the line, and behind it what was there. A slice of fewer than 64 bytes is left as it is.
+-- The room that every line has enough of, in bytes; a choice of ours.
 abbrev pub room : ℕ
 room = 64
 
+-- How many bytes are written to a slice of so many: all of the line, or none where it has less room.
 unfoldable pub writtenCount : Answer (Outcome Interval) → ℕ → ℕ
 writtenCount answer lent = cond (ltb lent room) 0 (length (lineBytes answer))
 
+-- The slice afterwards: the line, and behind it what was there; as it was where it has less room.
 unfoldable pub writtenAfter : Answer (Outcome Interval) → List ℕ → List ℕ
 writtenAfter answer before = cond (ltb (length before) room) before (lineBytes answer ++ drop (length (lineBytes answer)) before)

@@ -26,32 +26,36 @@ mostKeywords = 253
 unfoldable pub rightValue : Field → Bool
 rightValue f = rightLength (f .tag) (length (f .value)) && (not (eqb (f .tag) 1) || eqb (getD (f .value) 0 0) 1)
 
+-- The same of every field.
 unfoldable pub rightValues : List Field → Bool
 rightValues [] = true
 rightValues (f ∷ fs) = rightValue f && rightValues fs
 
--- "tag 2, a keyword"
+-- "tag 2, a keyword": the bytes of each.
 unfoldable pub keywords : List Field → List (List ℕ)
 keywords fs = map (λ f. f .value) (tagged 2 fs)
 
--- The rule list: the node of each rule.
+-- "a rule: two-byte node number, then its name": the rule list, the node of each rule.
 unfoldable pub ruleList : List Field → List ℕ
 ruleList fs = map ruleNode (tagged 3 fs)
 
+-- The name of each rule.
 unfoldable pub ruleNames : List Field → List (List ℕ)
 ruleNames fs = map (λ f. drop 2 (f .value)) (tagged 3 fs)
 
--- The table.
+-- The table: "four words a node", of the fields of tag 4.
 unfoldable pub nodeTable : List Field → List ℕ
 nodeTable fs = wordsOf (tagged 4 fs)
 
--- "tag 5, once and last: start node (two bytes), start mode (one)"
+-- "tag 5, once and last: start node (two bytes), start mode (one)": the value.
 unfoldable pub startValue : List Field → List ℕ
 startValue fs = getD (map (λ f. f .value) (tagged 5 fs)) 0 []
 
+-- The start node.
 abbrev pub startNode : List Field → ℕ
 startNode fs = twoBytes (getD (startValue fs) 0 0) (getD (startValue fs) 1 0)
 
+-- The start mode.
 abbrev pub startMode : List Field → ℕ
 startMode fs = getD (startValue fs) 2 0
 
@@ -90,6 +94,7 @@ pub record Contents : Type 0 where
   pub start : ℕ
   pub mode : ℕ
 
+-- The counts and the start of the fields of a file.
 unfoldable pub contents : List Field → Contents
 contents fs =
     record {

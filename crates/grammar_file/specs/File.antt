@@ -43,9 +43,10 @@ partOf (given c) part = part
 partOf (refused n) part = []
 partOf (refusedAt n node) part = []
 
--- The bytes of keyword k, and of rule r's name; none where there is no such keyword or rule.
+-- The bytes of keyword k, none where there is no such keyword.
 unfoldable pub keywordBytes : List ℕ → ℕ → List ℕ
 keywordBytes file k = partOf (fileAnswer file) (getD (keywords (fieldsOf file)) k [])
 
+-- The bytes of rule r's name, none where there is no such rule.
 unfoldable pub nameBytes : List ℕ → ℕ → List ℕ
 nameBytes file r = partOf (fileAnswer file) (getD (ruleNames (fieldsOf file)) r [])

@@ -21,26 +21,29 @@ use Rattle.answer_line.specs.AnswerLine.{lineBytes, room}
 abbrev pub startAt : ℕ → ℕ → Start
 startAt node mode = record { node = node; place = 0; interval = to 0 Endless; flag = false; mode = mode }
 
--- "the lowest number that any of the four parts gives": 1 to 5 by the file reader, 7 by the check, 8 to 10 by the scanner,
--- and then the run. The file reader and the scanner are lent what the largest table and the most tokens need.
+-- "the lowest number that any of the four parts gives": 8 to 10 by the scanner, and then the run. The scanner is lent what
+-- the most tokens need.
 unfoldable pub scanAndRun : List ℕ → List ℕ → List ℕ → List ℕ → ℕ → ℕ → Answer (Outcome Interval)
 scanAndRun file report nodes rules node mode =
     andThen (scanAnswer file report (mostTokens * 4))
     (runAnswer nodes rules (wordsOf (scanTokens file report)) (startAt node mode))
 
+-- Before these 7, by the check.
 unfoldable pub checkAndRun : List ℕ → List ℕ → List ℕ → List ℕ → ℕ → ℕ → Answer (Outcome Interval)
 checkAndRun file report nodes rules node mode = andThen (checkAnswer nodes rules) (scanAndRun file report nodes rules node mode)
 
+-- And first 1 to 5, by the file reader, which is lent what the largest table needs.
 unfoldable pub lineAnswer : List ℕ → List ℕ → Answer (Outcome Interval)
 lineAnswer file report =
     andThen (readAnswer file (mostNodes * 4) mostRules)
     (checkAndRun file report (nodeTable (fieldsOf file)) (ruleList (fieldsOf file))
     (startNode (fieldsOf file)) (startMode (fieldsOf file)))
 
--- Into a lent slice: the line, and behind it what was there. A slice of fewer than 64 bytes is left as it is.
+-- How many bytes are written to a slice of so many: all of the line, or none where it has fewer than 64.
 unfoldable pub lineCount : List ℕ → List ℕ → ℕ → ℕ
 lineCount file report lent = cond (ltb lent room) 0 (length (lineBytes (lineAnswer file report)))
 
+-- The slice afterwards: the line, and behind it what was there; as it was where it has fewer than 64 bytes.
 unfoldable pub lineAfter : List ℕ → List ℕ → List ℕ → List ℕ
 lineAfter file report before =
     cond (ltb (length before) room) before
