@@ -1,5 +1,5 @@
--- The label and the parts of a record: bytes copied from the cases to a place where the last part of that kind stands, and bytes that
--- repeat those before them.
+-- The label and the parts of a record: bytes copied from the cases to a place where the last part of that kind stands, and
+-- bytes that repeat those before them.
 use Prim.Native.Nat.{ℕ, zero, suc, _+_, _-_, min}
 use mathlib.Core.Bool.{cond}
 use mathlib.Core.List.{List}
