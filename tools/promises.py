@@ -41,6 +41,7 @@ def promises(text, all_of_them):
 
 def definitions(text):
     """The paragraphs of a file of definitions."""
+    text = re.sub(r"^[ \t]*--.*\n", "", text, flags=re.M)
     text = re.sub(r"[ \t]*--.*", "", text)
     text = re.sub(r"^(use|pub mod|mod) .*\n?", "", text, flags=re.M)
     text = re.sub(r"^use [^\n]*\{[^}]*\}\n", "", text, flags=re.M)
