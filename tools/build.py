@@ -365,7 +365,8 @@ class Parser:
         """The next word as the name of a rule, which is no reserved word."""
         word = self.word()
         if word.text in RESERVED:
-            text = f"{what} expected, not {word.told()}; reserved are: {', '.join(RESERVED)}"
+            colon = '; a keyword is written ":"' if self.word(1).text == ":" else ""
+            text = f"{what} expected, not {word.told()}{colon}; reserved are: {', '.join(RESERVED)}"
             raise Faults(Fault(word.place, text))
         if not word.is_name():
             raise self.expected(what, word.as_name())
@@ -532,9 +533,13 @@ def name_faults(source):
     return faults
 
 
+def rules_in(expression):
+    return {inner.value for inner in expressions_of(expression) if inner.form == "rule"}
+
+
 def unused(source):
     """Rules that the start does not lead to."""
-    uses = {rule.name: {e.value for e in expressions_of(rule.expression) if e.form == "rule"} for rule in source.rules}
+    uses = {rule.name: rules_in(rule.expression) for rule in source.rules}
     reached, ahead = set(), [source.start.text]
     while ahead:
         name = ahead.pop()
@@ -624,8 +629,8 @@ class Grammar:
 
     def no_eol(self, origin):
         """Any one token but the end of a line: a choice of all other terminals."""
-        terminals = [t for t in range(FIRST_KEYWORD + len(self.keywords)) if t != EOL]
-        numbers = [self.node(origin, TERMINAL, terminal) for terminal in terminals]
+        terminals = range(FIRST_KEYWORD + len(self.keywords))
+        numbers = [self.node(origin, TERMINAL, terminal) for terminal in terminals if terminal != EOL]
         return self.folded(CHOICE, numbers, [origin] * len(numbers))
 
     def token(self, origin):
@@ -908,7 +913,8 @@ def file_of(grammar):
     fields = [field(1, b"\x01")]
     fields += [field(2, spelling.encode()) for spelling in grammar.keywords]
     fields += [field(3, pair(node) + name.encode()) for name, node in grammar.rules.items()]
-    fields += [field(4, bytes([k]) + pair(a) + pair(b) + bytes([r])) for k, a, b, r in grammar.nodes]
+    for kind, a, b, relation in grammar.nodes:
+        fields.append(field(4, bytes([kind]) + pair(a) + pair(b) + bytes([relation])))
     return b"".join([*fields, field(5, pair(grammar.start) + bytes([grammar.mode]))])
 
 
@@ -918,7 +924,10 @@ def grammar_of(text):
     source = Parser(words_of(text))
     faults = name_faults(source)
     if faults:
-        raise Faults(*sorted(faults + spelling_faults(source), key=lambda fault: fault.place))
+        faults += spelling_faults(source)
+        if len(source.keywords) > MOST_KEYWORDS:  # the reader would answer 1
+            faults = [fault._replace(number=0) for fault in faults]
+        raise Faults(*sorted(faults, key=lambda fault: fault.place))
     return Grammar(source)
 
 

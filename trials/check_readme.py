@@ -13,6 +13,8 @@ import tempfile
 
 ROOT = pathlib.Path(__file__).resolve().parent.parent
 EXAMPLES = ROOT / "examples"
+# What is run here, with the program that is there already.
+COMMAND = "rt check reader && (cd examples && ../target/bin/reader < report.txt)\n"
 
 
 def blocks(text):
@@ -48,11 +50,13 @@ def main():
         sys.exit("usage: check_readme.py READER")
     reader = pathlib.Path(sys.argv[1]).resolve()
     text = (ROOT / "README.md").read_text(encoding="utf-8")
-    report, grammar, _, _, answer = blocks(text)[:5]
+    report, grammar, _, command, answer = blocks(text)[:5]
     told = re.search(r"With `misplaced\.txt`.*?it prints `(\w+)`", text)
     compared = {
         "its report": (report, (EXAMPLES / "report.txt").read_text(encoding="utf-8")),
+        "the lines of its rules": (len(grammar.splitlines()), len(rules(grammar))),
         "its rules": (rules(grammar), rules((EXAMPLES / "splices.grammar").read_text(encoding="utf-8"))),
+        "its command": (command, COMMAND),
         "examples/grammar.bin": ((EXAMPLES / "grammar.bin").read_bytes(), built()),
         "the answer to report.txt": (answer, printed(reader, "report.txt")),
         "the answer to misplaced.txt": (told and told[1] + "\n", printed(reader, "misplaced.txt")),

@@ -211,6 +211,8 @@ class Messages(unittest.TestCase):
         self.says(HEAD + "report = word\ntoken = word", f"x:5:1: {expected} token; {reserved}")
         self.says(HEAD + "report = word\nindent = word", f"x:5:1: {expected} indent; {reserved}")
         self.says("start end", f"x:1:7: the name of the start rule expected, not the reserved word end; {reserved}")
+        colon = f'x:5:2: {expected} word; a keyword is written ":"; {reserved}'
+        self.says(HEAD + "report = word\n word : number", colon)
 
     def test_rules_not_there(self):
         declared = lambda name: f"rule is declared by a line `{name} = ..`"
@@ -395,6 +397,9 @@ class Refusals(unittest.TestCase):
             text = self.keywords("k" * length, "l").replace("= word", "= word eol")
             self.assertRegex(first_line(text), f"^x:{place}: the grammar file would have 655.. bytes, ")
         self.same(self.keywords("a b", *(f"k{i}" for i in range(254))), "refused 1")
+        # With 254 keywords the reader would answer 1, so a rule that is there twice is told without a number.
+        twice = self.keywords(*(f"k{i}" for i in range(254))) + "\nx = word\nx = eol\n"
+        self.assertEqual(first_line(twice), "x:6:1: rule x is there twice; the first is at 5:1")
 
     def test_2(self):
         for spelling, wrong in (

@@ -15,7 +15,7 @@ unfoldable pub decimalTo : ℕ → ℕ → List ℕ
 decimalTo zero n = []
 decimalTo (suc most) n = cond (ltb n 10) ((48 + n) ∷ []) (decimalTo most (n / 10) ++ ((48 + n % 10) ∷ []))
 
--- "All quantities are decimal": a number of 32 bits has ten digits at most.
+-- In decimal: a number of 32 bits has ten digits at most.
 abbrev pub decimal : ℕ → List ℕ
 decimal n = decimalTo 10 n
 
@@ -65,7 +65,7 @@ lineBytes (given failure) = failureWord ++ break
 lineBytes (refused number) = refusedWord ++ space ++ decimal number ++ break
 lineBytes (refusedAt number node) = refusedWord ++ space ++ decimal number ++ space ++ decimal node ++ break
 
--- The room that every line has enough of, in bytes; a choice of ours.
+-- Room enough for every line, in bytes; a choice of ours.
 abbrev pub room : ℕ
 room = 64
 

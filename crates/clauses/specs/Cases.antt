@@ -36,10 +36,12 @@ pub record TokenAt : Type 0 where
   pub terminal : ℕ
   pub column : ℕ
 
+-- A terminal at a column.
 infixl 90 _at_
 abbrev pub _at_ : ℕ → ℕ → TokenAt
 t at c = record { terminal = t; column = c }
 
+-- Its four words; the last two are not looked at.
 abbrev pub tokenWords : TokenAt → List ℕ
 tokenWords t = t .terminal ∷ t .column ∷ 0 ∷ 0 ∷ []
 
@@ -47,9 +49,11 @@ tokenWords t = t .terminal ∷ t .column ∷ 0 ∷ 0 ∷ []
 abbrev pub reads : (read lower : ℕ) (upper : Upper) (flag : Bool) → Answer (Outcome Interval)
 reads read lower upper flag = given (success (read, to lower upper, flag))
 
+-- A run that fails.
 abbrev pub fails : Answer (Outcome Interval)
 fails = given failure
 
+-- A call with the answer that is expected of it: a run of forms and rules on tokens, or a check.
 pub data Case : Type 0 where
   run :
       (nodes : List Form) (rules : List ℕ) (tokens : List TokenAt) (start : Start)
@@ -62,6 +66,7 @@ pub data Answered : Type 0 where
   ran : Answer (Outcome Interval) → Answered
   checked : Answer Unit → Answered
 
+-- What is expected of a case, and what the definitions answer to its call.
 abbrev pub expected : Case → Answered
 expected (run nodes rules tokens start answer) = ran answer
 expected (check nodes rules answer) = checked answer
@@ -89,6 +94,7 @@ b = 2
 abbrev pub c : ℕ
 c = 3
 
+-- Cases a to j.
 unfoldable pub benchCases : List Case
 benchCases =
     -- a. |ab|^> in mode ≥ on a²b³ (001's own example).

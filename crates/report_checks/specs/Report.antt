@@ -13,7 +13,7 @@ use Rattle.byte_class.specs.declared.Class.the-variants.{Break, Tab, Blank, Sin
 abbrev pub mostBytes : ℕ
 mostBytes = 65535
 
--- "Other bytes below 32, and 127, are refused": their class.
+-- "Other bytes below 32 ..": the class of those that are refused.
 abbrev pub refusedClass : Class → Bool
 refusedClass Break = false
 refusedClass Tab = false
