@@ -4,9 +4,9 @@ use Rattle.file_fields.proofs.value_at.Statement.{statement}
 use Rattle.file_fields.proofs.value_at.Tie as tie
 use native.Mathlib.Omega.{arith}
 use Prim.Native.Nat.{ℕ, _+_, _-_, _<_}
-use mathlib.Core.Path.{_≡_, refl, sym, _∙_}
+use mathlib.Core.Path.{_≡_, refl, sym, ap, _∙_}
 use mathlib.Core.List.{List, []}
-use lib.ListN.{length}
+use lib.ListN.{length, take, drop}
 use Rattle.file_fields.proofs.Lists.{take-rest, take-past}
 use Rattle.file_fields.specs.Offsets.{lengthAt, valueAt}
 
@@ -28,7 +28,7 @@ returns-3 c =
     let start = c .before .before .before .before .before .before in
     let e : (start .args .at) + 3 + length-at .result - ((start .args .at) + 3) ≡ lengthAt (start .args .file .now) (start .args .at) =
     omega (arith, length-at .ensures) in
-    rw e refl
+    ap (λ (n : ℕ). take n (drop (start .args .at + 3) (start .args .file .now))) e
 
 returns-4 : tie.Need-returns-4
 unfolding valueAt

@@ -3,7 +3,7 @@ use borrow.Author.Needs.{needs}
 use Rattle.places.proofs.bytes_at.Statement.{statement}
 use Rattle.places.proofs.bytes_at.Tie as tie
 use native.Mathlib.Omega.{arith}
-use Prim.Native.Nat.{_+_, _-_}
+use Prim.Native.Nat.{ℕ, _+_, _-_}
 use mathlib.Core.Path.{_≡_, refl, sym, ap, _∙_}
 use lib.ListN.{length, take, drop, length-drop, drop-of-length-le}
 use lib.Seq.{take-all, take-nil}
@@ -17,9 +17,10 @@ returns c =
 
 returns-2 : tie.Need-returns-2
 returns-2 c =
-    let f = c .before .before .before .args .f in
+    let args = c .before .before .before .args in
+    let f = args .f in
     let n : f .offset + f .length - f .offset ≡ f .length = omega arith in
-    rw n refl
+    ap (λ (k : ℕ). take k (drop (f .offset) (args .report .now))) n
 
 -- The report ends before the token does.
 returns-3 : tie.Need-returns-3

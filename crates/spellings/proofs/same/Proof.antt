@@ -20,7 +20,7 @@ abbrev μ-loop : tie.MeasureT-loop
 
 returns : tie.Need-returns Inv-loop μ-loop
 unfolding sameBytes
-returns c = rw (ne-eqb _ _ (c .if1 .taken))
+returns c = let args = c .before .args in rw (ne-eqb (length (args .s .now)) (length (args .t .now)) (c .if1 .taken))
 
 loop-holds : tie.Need-loop-holds Inv-loop μ-loop
 unfolding every

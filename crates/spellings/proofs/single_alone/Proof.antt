@@ -21,7 +21,7 @@ abbrev μ-loop : tie.MeasureT-loop
 
 returns : tie.Need-returns Inv-loop μ-loop
 unfolding singleAlone
-returns c = rw (eq-eqb _ _ (c .if1 .taken)) (sym (or-true (every _ _)))
+returns c = rw (eq-eqb (length (c .before .before .args .s .now)) 1 (c .if1 .taken)) (sym (or-true (every _ _)))
 
 loop-holds : tie.Need-loop-holds Inv-loop μ-loop
 unfolding every
