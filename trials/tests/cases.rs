@@ -1,5 +1,5 @@
 //! 01's bench cases a to j, its small inputs for every number, its program example,
-//! and the examples of 001.
+//! the examples of 001, and the steps of 02's Note 1.
 
 use trials::second::{
     check, line, next_token, read, run, run_within, scan, sets, Handed, Ran, Start, Value, Verdict,
@@ -332,6 +332,362 @@ fn steps_are_counted() {
     );
     assert_eq!(sets::run_within(&nodes, &[], &list, &from, 2), None);
     assert!(sets::run_within(&nodes, &[], &list, &from, 3).is_some());
+}
+
+// Note 1 of 02: steps of 1, 2 and 31, the value less 3.
+const STEP_1: u16 = 4;
+const STEP_2: u16 = 5;
+const STEP_31: u16 = 34;
+const STEPS: [(u16, u32); 3] = [(STEP_1, 1), (STEP_2, 2), (STEP_31, 31)];
+
+/// A start from an interval, flag clear.
+fn from(lower: u32, upper: impl Into<Option<u32>>, Start { node, mode, .. }: Start) -> Start {
+    Start {
+        lower,
+        upper: upper.into(),
+        ..start(node, mode)
+    }
+}
+
+#[test]
+fn indent_of_exactly_two() {
+    let nodes = [terminal(A), terminal(B), indent(1, STEP_2), sequence(0, 2)];
+    let read = |a: u32, b: u32| ran(&nodes, &[], &[(A, a), (B, b)], start(3, EQUAL));
+    assert_eq!(read(0, 2), success(2, 0, 0, false));
+    assert_eq!(read(7, 9), success(2, 7, 7, false));
+    assert_eq!(read(65_533, 65_535), success(2, 65_533, 65_533, false));
+    for (a, b) in [
+        (0, 0),
+        (0, 1),
+        (0, 3),
+        (0, 4),
+        (7, 8),
+        (7, 10),
+        (7, 5),
+        (7, 7),
+    ] {
+        assert_eq!(read(a, b), Ran::Failure, "{a} {b}");
+    }
+}
+
+#[test]
+fn amounts_from_both_sides() {
+    for (relation, amount) in STEPS {
+        let nodes = [
+            terminal(A),
+            terminal(B),
+            indent(1, relation),
+            sequence(0, 2),
+        ];
+        for b in 0..100 {
+            let expected = if b == 40 + amount {
+                success(2, 40, 40, false)
+            } else {
+                Ran::Failure
+            };
+            let list = [(A, 40), (B, b)];
+            assert_eq!(ran(&nodes, &[], &list, start(3, EQUAL)), expected);
+        }
+    }
+}
+
+/// From 3 to 9 by 2 the child gets 5 to 11.
+#[test]
+fn step_moves_both_ends() {
+    let nodes = [terminal(A), indent(0, STEP_2)];
+    let read = |mode: u16, a: u32| ran(&nodes, &[], &[(A, a)], from(3, 9, start(1, mode)));
+    for a in 5..=11 {
+        assert_eq!(read(EQUAL, a), success(1, a - 2, a - 2, false));
+    }
+    assert_eq!(read(EQUAL, 4), Ran::Failure);
+    assert_eq!(read(EQUAL, 12), Ran::Failure);
+    // At least: 5 on, then 5 to 8 or all of 5 to 11 on the way out.
+    assert_eq!(read(AT_LEAST, 4), Ran::Failure);
+    assert_eq!(read(AT_LEAST, 5), success(1, 3, 3, false));
+    assert_eq!(read(AT_LEAST, 8), success(1, 3, 6, false));
+    assert_eq!(read(AT_LEAST, 20), success(1, 3, 9, false));
+    // Greater: 6 on, then 5 to 7.
+    assert_eq!(read(GREATER, 5), Ran::Failure);
+    assert_eq!(read(GREATER, 6), success(1, 3, 3, false));
+    assert_eq!(read(GREATER, 8), success(1, 3, 5, false));
+    // A step in a step: 7 to 13.
+    assert_eq!(read(STEP_2, 6), Ran::Failure);
+    assert_eq!(read(STEP_2, 7), success(1, 3, 3, false));
+    assert_eq!(read(STEP_2, 13), success(1, 9, 9, false));
+    assert_eq!(read(STEP_2, 14), Ran::Failure);
+    assert_eq!(read(ANY, 0), success(1, 3, 9, false));
+}
+
+#[test]
+fn endless_raised_and_lowered() {
+    let nodes = [terminal(A), indent(0, STEP_31), empty(), indent(2, STEP_31)];
+    let read = |mode: u16, a: u32| ran(&nodes, &[], &[(A, a)], from(4, None, start(1, mode)));
+    assert_eq!(read(ANY, 0), success(1, 4, None, false));
+    assert_eq!(read(EQUAL, 34), Ran::Failure);
+    assert_eq!(read(EQUAL, 35), success(1, 4, 4, false));
+    assert_eq!(read(EQUAL, 65_535), success(1, 65_504, 65_504, false));
+    assert_eq!(read(AT_LEAST, 34), Ran::Failure);
+    assert_eq!(read(AT_LEAST, 40), success(1, 4, 9, false));
+    let unread = from(4, None, start(3, EQUAL));
+    assert_eq!(ran(&nodes, &[], &[], unread), success(0, 4, None, false));
+}
+
+/// A token in a step as its mode: at the very column, and beside it.
+#[test]
+fn step_as_mode() {
+    for (mode, amount) in STEPS {
+        let read = |a: u32, from: Start| ran(&[terminal(A)], &[], &[(A, a)], from);
+        let one = from(6, 6, start(0, mode));
+        assert_eq!(read(6 + amount, one), success(1, 6, 6, false));
+        assert_eq!(read(6 + amount - 1, one), Ran::Failure);
+        assert_eq!(read(6 + amount + 1, one), Ran::Failure);
+        // A column below the amount has no outer one.
+        let all = start(0, mode);
+        assert_eq!(read(0, all), Ran::Failure);
+        assert_eq!(read(amount - 1, all), Ran::Failure);
+        assert_eq!(read(amount, all), success(1, 0, 0, false));
+        assert_eq!(read(amount + 1, all), success(1, 1, 1, false));
+        let last = 65_535 - amount;
+        assert_eq!(read(65_535, all), success(1, last, last, false));
+        // Under a set flag the mode is of no matter.
+        let flag = Start { flag: true, ..one };
+        assert_eq!(read(6, flag), success(1, 6, 6, false));
+        assert_eq!(read(6 + amount, flag), Ran::Failure);
+    }
+}
+
+#[test]
+fn step_as_position() {
+    // Through a rule, and again and again from the one outer column.
+    let nodes = [terminal(A), rule(0), position(1, STEP_2), repeat(2)];
+    let list = [(A, 5), (A, 5), (A, 6), (A, 5)];
+    let read = ran(&nodes, &[0], &list, from(0, 9, start(3, EQUAL)));
+    assert_eq!(read, success(2, 3, 3, false));
+}
+
+/// Steps add up, and go with the four relations.
+#[test]
+fn step_within_other_relations() {
+    let read = |inside: u16, outside: u16, a: u32| {
+        let nodes = [terminal(A), indent(0, inside), indent(1, outside)];
+        ran(&nodes, &[], &[(A, a)], from(3, 3, start(2, EQUAL)))
+    };
+    for (inside, outside) in [(STEP_2, STEP_31), (STEP_31, STEP_2)] {
+        assert_eq!(read(inside, outside, 35), Ran::Failure);
+        assert_eq!(read(inside, outside, 36), success(1, 3, 3, false));
+        assert_eq!(read(inside, outside, 37), Ran::Failure);
+    }
+    for (inside, outside) in [(STEP_2, GREATER), (GREATER, STEP_2)] {
+        assert_eq!(read(inside, outside, 5), Ran::Failure);
+        assert_eq!(read(inside, outside, 6), success(1, 3, 3, false));
+        assert_eq!(read(inside, outside, 60), success(1, 3, 3, false));
+    }
+    // 0 on, then 2 on.
+    assert_eq!(read(STEP_2, ANY, 1), Ran::Failure);
+    assert_eq!(read(STEP_2, ANY, 2), success(1, 3, 3, false));
+    assert_eq!(read(ANY, STEP_2, 0), success(1, 3, 3, false));
+}
+
+#[test]
+fn step_under_not() {
+    // Not a under the step, then a anywhere: the interval is the old one.
+    let nodes = [
+        terminal(A),
+        indent(0, STEP_2),
+        not(1),
+        position(0, ANY),
+        sequence(2, 3),
+        not(2),
+    ];
+    let read = |node: u16, a: u32| ran(&nodes, &[], &[(A, a)], from(4, 9, start(node, EQUAL)));
+    for (a, inside) in [(0, false), (5, false), (6, true), (11, true), (12, false)] {
+        let (one, two) = if inside {
+            (Ran::Failure, success(0, 4, 9, false))
+        } else {
+            (success(1, 4, 9, false), Ran::Failure)
+        };
+        assert_eq!(read(4, a), one, "{a}");
+        assert_eq!(read(5, a), two, "{a}");
+    }
+}
+
+#[test]
+fn step_over_align() {
+    // As case a, by exactly 2.
+    let nodes = [
+        terminal(A),
+        terminal(B),
+        sequence(0, 1),
+        align(2),
+        indent(3, STEP_2),
+    ];
+    let read = |a: u32, b: u32| ran(&nodes, &[], &[(A, a), (B, b)], start(4, AT_LEAST));
+    assert_eq!(read(2, 3), success(2, 0, 0, false));
+    assert_eq!(read(5, 7), success(2, 3, 3, false));
+    assert_eq!(read(5, 4), Ran::Failure);
+    assert_eq!(read(1, 3), Ran::Failure);
+}
+
+#[test]
+fn step_under_align() {
+    // As case i, by exactly 2.
+    let nodes = [terminal(A), indent(0, STEP_2), align(1)];
+    let read = |a: u32| ran(&nodes, &[], &[(A, a)], from(1, 1, start(2, EQUAL)));
+    assert_eq!(read(3), success(1, 1, 1, false));
+    for a in [0, 1, 2, 4] {
+        assert_eq!(read(a), Ran::Failure);
+    }
+    // The flag comes from outside: 1 to 4 by 2 is 3 to 6, and the mode is of no matter.
+    let flagged = |a: u32| {
+        let from = from(1, 4, start(1, STEP_31));
+        ran(&nodes, &[], &[(A, a)], Start { flag: true, ..from })
+    };
+    assert_eq!(flagged(2), Ran::Failure);
+    assert_eq!(flagged(3), success(1, 1, 1, false));
+    assert_eq!(flagged(6), success(1, 4, 4, false));
+    assert_eq!(flagged(7), Ran::Failure);
+    // A step that reads nothing leaves the flag.
+    let unread = [empty(), indent(0, STEP_2), align(1)];
+    for flag in [false, true] {
+        let from = from(1, 4, start(2, EQUAL));
+        let read = ran(&unread, &[], &[], Start { flag, ..from });
+        assert_eq!(read, success(0, 1, 4, flag));
+    }
+}
+
+/// "A finite upper end may now pass 65,535 inside a run."
+#[test]
+fn ends_past_the_columns_and_back() {
+    let nodes = [
+        terminal(A),
+        indent(0, STEP_2),
+        position(0, ANY),
+        indent(2, STEP_31),
+        indent(3, STEP_31),
+    ];
+    // By 2 the child gets 65,532 to 65,537.
+    let read = |mode: u16, a: u32| {
+        let from = from(65_530, 65_535, start(1, mode));
+        ran(&nodes, &[], &[(A, a)], from)
+    };
+    assert_eq!(read(EQUAL, 65_531), Ran::Failure);
+    assert_eq!(read(EQUAL, 65_532), success(1, 65_530, 65_530, false));
+    assert_eq!(read(EQUAL, 65_535), success(1, 65_533, 65_533, false));
+    assert_eq!(read(AT_LEAST, 65_535), success(1, 65_530, 65_533, false));
+    // By 62 both ends pass: 65,592 to 65,597, or without end.
+    for upper in [Some(65_535), Some(65_530), None] {
+        let from = from(65_530, upper, start(4, EQUAL));
+        let read = ran(&nodes, &[], &[(A, 7)], from);
+        assert_eq!(read, success(1, 65_530, upper, false));
+    }
+    // Nothing can stand past 65,535.
+    let from = from(65_535, 65_535, start(1, EQUAL));
+    assert_eq!(ran(&nodes, &[], &[(A, 65_535)], from), Ran::Failure);
+}
+
+/// A stair of exactly 31: a at 0, 31, 62 and on to 65,534, and the last indent's
+/// interval, 65,565 to 65,565, holds no column.
+#[test]
+fn stair_past_the_columns() {
+    let stair = || {
+        let nodes = [
+            terminal(A),
+            rule(0),
+            indent(1, STEP_31),
+            empty(),
+            choice(2, 3),
+            sequence(0, 4),
+        ];
+        let mut list: Vec<_> = (0..2_115).map(|step| (A, 31 * step)).collect();
+        assert_eq!(list.last(), Some(&(A, 65_534)));
+        let from = start(5, EQUAL);
+        assert_eq!(ran(&nodes, &[5], &list, from), success(2_115, 0, 0, false));
+        // One more at the last column stays unread, and a stray step ends the stair.
+        list.push((A, 65_535));
+        assert_eq!(ran(&nodes, &[5], &list, from), success(2_115, 0, 0, false));
+        list[1_000].1 += 1;
+        assert_eq!(ran(&nodes, &[5], &list, from), success(1_000, 0, 0, false));
+    };
+    let thread = std::thread::Builder::new().stack_size(64 << 20);
+    thread.spawn(stair).unwrap().join().unwrap();
+}
+
+/// Both readings agree under every relation: `ran` compares them.
+#[test]
+fn every_relation_by_both_readings() {
+    let columns: Vec<u32> = (0..4).chain(30..36).chain(60..70).chain([65_535]).collect();
+    for relation in 0..35 {
+        let nodes = [terminal(A), indent(0, relation)];
+        for mode in [EQUAL, GREATER, AT_LEAST, ANY, STEP_1, STEP_2, STEP_31] {
+            for (lower, width) in [(0, 0), (0, 2), (1, 40), (31, 0), (32, 3), (65_500, 35)] {
+                for &a in &columns {
+                    let start = start(1, mode);
+                    ran(&nodes, &[], &[(A, a)], from(lower, lower + width, start));
+                    ran(&nodes, &[], &[(A, a)], from(lower, None, start));
+                }
+            }
+        }
+    }
+}
+
+/// A word, its line end, and any number of entries exactly two columns further in; no
+/// word behind.
+fn levels() -> [[u16; 4]; 11] {
+    [
+        terminal(1),
+        terminal(2),
+        position(1, ANY),
+        rule(0),
+        indent(3, STEP_2),
+        repeat(4),
+        sequence(2, 5),
+        sequence(0, 6),
+        position(0, ANY),
+        not(8),
+        sequence(7, 9),
+    ]
+}
+
+/// "users want stray lines to fail"
+#[test]
+fn levels_of_two() {
+    // Words and line ends, the latter at any column.
+    let read = |words: &[u32]| {
+        let lines = words.iter().flat_map(|&word| [(1, word), (2, word + 1)]);
+        ran(
+            &levels(),
+            &[7],
+            &lines.collect::<Vec<_>>(),
+            start(10, EQUAL),
+        )
+    };
+    assert_eq!(read(&[0, 2, 4, 2]), success(8, 0, 0, false));
+    assert_eq!(read(&[1, 3, 5, 3]), success(8, 1, 1, false));
+    for stray in [
+        [0, 1, 3],
+        [0, 3, 5],
+        [0, 2, 3],
+        [0, 2, 5],
+        [0, 2, 6],
+        [0, 2, 0],
+    ] {
+        assert_eq!(read(&stray), Ran::Failure, "{stray:?}");
+    }
+}
+
+#[test]
+fn program_with_steps() {
+    let made = file(&[], &[(7, "entry")], &levels(), 10, EQUAL as u8);
+    let good = b"a\n  b\n    c\n  d\n";
+    assert_eq!(line(&made, good), b"success 8 0 0 clear\n");
+    assert_eq!(line(&made, b"a\n b\n"), b"failure\n");
+    assert_eq!(line(&made, b"a\n   b\n"), b"failure\n");
+    // A step as the file's mode, and the first that is none.
+    let word = |mode: u8| file(&[], &[], &[terminal(1)], 0, mode);
+    assert_eq!(line(&word(5), b"   a"), b"success 1 1 1 clear\n");
+    assert_eq!(line(&word(5), b" a"), b"failure\n");
+    assert_eq!(line(&word(34), b"a"), b"failure\n");
+    assert_eq!(line(&word(35), b"\0"), b"refused 5\n");
 }
 
 // Files.

@@ -1,6 +1,6 @@
 //! The limits, from both sides.
 
-use trials::second::{check, read, run, scan, Ran, Start, Verdict};
+use trials::second::{check, read, run, scan, sets, Ran, Start, Verdict};
 
 fn field(tag: u8, value: &[u8]) -> Vec<u8> {
     let length = (value.len() as u16).to_be_bytes();
@@ -118,7 +118,10 @@ fn counts_in_a_file() {
     // The start.
     let started = |start: &[u8]| number(&[HEAD, EMPTY_NODE, &field(5, start)].concat());
     assert_eq!(started(&[0, 0, 3]), 0);
-    assert_eq!(started(&[0, 0, 4]), 5);
+    assert_eq!(started(&[0, 0, 4]), 0);
+    assert_eq!(started(&[0, 0, 34]), 0);
+    assert_eq!(started(&[0, 0, 35]), 5);
+    assert_eq!(started(&[0, 0, 255]), 5);
     assert_eq!(started(&[0, 1, 0]), 5);
     assert_eq!(started(&[255, 255, 0]), 5);
 }
@@ -168,10 +171,14 @@ fn table_checks() {
             refused(&with(0, 2, 0), &[0], 4);
         }
         if relation {
-            passes(&with(0, 0, 3), &[0]);
-            refused(&with(0, 0, 4), &[0], 4);
+            (0..35).for_each(|relation| passes(&with(0, 0, relation), &[0]));
+            for relation in [35, 36, 255, 256, 65_535] {
+                refused(&with(0, 0, relation), &[0], 4);
+            }
         } else {
-            refused(&with(0, 0, 1), &[0], 4);
+            for relation in [1, 4, 34, 35] {
+                refused(&with(0, 0, relation), &[0], 4);
+            }
         }
     }
 }
@@ -186,7 +193,7 @@ fn order_of_the_runs_checks() {
         flag: false,
         mode: 0,
     };
-    let bad_start = Start { mode: 4, ..start };
+    let bad_start = Start { mode: 35, ..start };
     let rule = [2, 0, 0, 0];
     assert_eq!(run(&[10; 3], &[9], &[0; 3], &bad_start), Ran::Refused(3));
     assert_eq!(run(&[10; 4], &[9], &[0; 3], &bad_start), Ran::Refused(4));
@@ -233,7 +240,10 @@ fn tokens_and_starts() {
     assert_eq!(from(|start| start.place = 5), Err(12));
     assert_eq!(from(|start| start.place = u32::MAX), Err(12));
     assert_eq!(from(|start| start.node = 2), Err(12));
-    assert_eq!(from(|start| start.mode = 4), Err(12));
+    assert_eq!(from(|start| start.mode = 4), Ok(4));
+    assert_eq!(from(|start| start.mode = 34), Ok(4));
+    assert_eq!(from(|start| start.mode = 35), Err(12));
+    assert_eq!(from(|start| start.mode = 65_535), Err(12));
     assert_eq!(from(|start| start.lower = 65_535), Ok(4));
     assert_eq!(from(|start| start.lower = 65_536), Err(12));
     assert_eq!(from(|start| start.upper = Some(65_535)), Ok(4));
@@ -252,6 +262,51 @@ fn tokens_and_starts() {
         }),
         Ok(4)
     );
+}
+
+/// "Numbers 4, 5 and 12 begin at relation or mode 35": the file's 4 and 5 in order.
+#[test]
+fn relations_in_a_file() {
+    for kind in [7, 8] {
+        let made = |relation: u8, mode: u8| {
+            let over = field(4, &[kind, 0, 0, 0, 0, relation]);
+            let start = field(5, &[0, 1, mode]);
+            [HEAD, EMPTY_NODE, &over, &start].concat()
+        };
+        assert_eq!(number(&made(34, 34)), 0);
+        assert_eq!(number(&made(35, 34)), 4);
+        assert_eq!(number(&made(34, 35)), 5);
+        assert_eq!(number(&made(35, 35)), 4);
+        assert_eq!(number(&made(255, 0)), 4);
+        assert_eq!(scan(&made(35, 34), b"\0", 0), Err(4));
+        assert_eq!(scan(&made(34, 35), b"\0", 0), Err(5));
+        let kept = read(&made(34, 33), 8, 0).unwrap();
+        assert_eq!((kept.nodes[7], kept.mode), (34, 33));
+    }
+}
+
+/// Numbers 4 and 12 of a run, by both readings of the clauses.
+#[test]
+fn relations_in_a_run() {
+    let ran = |relation: u16, mode: u16| {
+        let nodes = [0, 0, 0, 0, 7, 0, 0, relation, 8, 0, 0, relation];
+        let start = Start::from_first(1, mode);
+        let ran = run(&nodes, &[], &[], &start);
+        match (ran, sets::run(&nodes, &[], &[], &start)) {
+            (Ran::Success { .. }, sets::SetRan::Success { .. }) => 0,
+            (Ran::Refused(one), sets::SetRan::Refused(two)) if one == two => one,
+            other => panic!("{other:?}"),
+        }
+    };
+    for good in 0..35 {
+        assert_eq!(ran(good, 34), 0);
+        assert_eq!(ran(34, good), 0);
+    }
+    for bad in [35, 36, 255, 65_535] {
+        assert_eq!(ran(bad, 34), 4);
+        assert_eq!(ran(34, bad), 12);
+        assert_eq!(ran(bad, bad), 4);
+    }
 }
 
 #[test]

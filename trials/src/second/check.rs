@@ -1,6 +1,6 @@
 //! The table's own checks 3, 4 and 5, and the well-formedness check 7.
 
-use super::{kind, MOST_NODES, MOST_RULES};
+use super::{kind, relation, MOST_NODES, MOST_RULES};
 
 /// What the check answers.
 #[derive(Debug, Clone, Copy, PartialEq, Eq)]
@@ -52,7 +52,7 @@ fn node_stands(number: usize, [kind, a, b, relation]: [u16; 4], rules: usize) ->
         kind::RULE => usize::from(a) < rules && b == 0 && relation == 0,
         kind::SEQUENCE | kind::CHOICE => lower(a) && lower(b) && relation == 0,
         kind::NOT | kind::REPEAT | kind::ALIGN => lower(a) && b == 0 && relation == 0,
-        kind::INDENT | kind::POSITION => lower(a) && b == 0 && relation <= 3,
+        kind::INDENT | kind::POSITION => lower(a) && b == 0 && relation < relation::COUNT,
         _ => false,
     }
 }

@@ -1,6 +1,6 @@
 //! The grammar file reader: checks 1 to 6.
 
-use super::{check, MOST_BYTES, MOST_KEYWORDS};
+use super::{check, relation, MOST_BYTES, MOST_KEYWORDS};
 
 /// What a read gives: the two tables as written, and "the counts of nodes, rules
 /// and keywords and the start".
@@ -57,7 +57,7 @@ pub(super) fn parse(file: &[u8]) -> Result<Grammar<'_>, u8> {
 
     // Checks 3 to 5 of the tables, then 5 of the start.
     check::table(&grammar.nodes, &grammar.rules)?;
-    if usize::from(grammar.start) >= grammar.nodes.len() / 4 || grammar.mode > 3 {
+    if usize::from(grammar.start) >= grammar.nodes.len() / 4 || grammar.mode >= relation::COUNT {
         return Err(5);
     }
     Ok(grammar)

@@ -1,5 +1,5 @@
 //! The indentation grammar reader, written from document 01, which orders the work,
-//! and the papers alone. 001 below is Nestra 2017.
+//! Note 1 of 02, and the papers alone. 001 below is Nestra 2017.
 //!
 //! Four parts: the file reader (`read`), the scanner (`scan`, `next_token`), the
 //! check (`check`) and the interpreter (`run`); `line` is the program over them.
@@ -38,6 +38,13 @@ pub mod relation {
     pub const GREATER: u16 = 1;
     pub const AT_LEAST: u16 = 2;
     pub const ANY: u16 = 3;
+    /// The count of relations. Those after any are the steps, 02 Note 1.
+    pub const COUNT: u16 = 35;
+
+    /// A step's amount, "the value less 3": its inner column is the outer one plus it.
+    pub const fn amount(step: u16) -> u16 {
+        step - ANY
+    }
 }
 
 /// "At most 65,535 bytes", for the grammar file and for the report.

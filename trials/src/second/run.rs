@@ -1,5 +1,5 @@
 //! The interpreter, with two ends for the column interval: 01 "Columns and states",
-//! and the ten clauses of 001.
+//! the steps of 02 Note 1, and the ten clauses of 001.
 
 use super::{check, kind, relation, Verdict, MOST_COLUMN, MOST_TOKENS};
 use std::convert::Infallible;
@@ -95,7 +95,7 @@ pub(super) fn refusal(
         || start.upper.is_some_and(|upper| start.lower > upper)
         || start.lower > MOST_COLUMN
         || start.upper.is_some_and(|upper| upper > MOST_COLUMN)
-        || start.mode > 3
+        || start.mode >= relation::COUNT
     {
         return Err(Ran::Refused(12));
     }
@@ -169,8 +169,8 @@ impl Meter for Steps {
 }
 
 /// "a lower column and an upper end ..", `None` if without end. It is never empty
-/// (001, theorem 2.1). The lower end grows by one an indent, so it stays below
-/// 65,536 + 512 * 4,097.
+/// (001, theorem 2.1). An end rises by at most 31 an indent, and at most 512 * 4,097
+/// expressions lie around one another, so an end is at most 65,535 + 31 * 512 * 4,097.
 #[derive(Debug, Clone, Copy, PartialEq, Eq)]
 pub(crate) struct Interval {
     pub lower: u32,
@@ -190,25 +190,36 @@ impl Interval {
         self.lower <= column && self.upper.is_none_or(|upper| column <= upper)
     }
 
-    /// The table's "inner set on the way in".
+    /// The table's "inner set on the way in". Under a step "both ends rise by that
+    /// amount", past 65,535 too.
     pub(crate) fn inner(self, relation: u16) -> Self {
         let (lower, upper) = match relation {
             relation::EQUAL => (self.lower, self.upper),
             relation::GREATER => (self.lower + 1, None),
             relation::AT_LEAST => (self.lower, None),
-            _ => (0, None),
+            relation::ANY => (0, None),
+            step => {
+                let amount = u32::from(relation::amount(step));
+                (self.lower + amount, self.upper.map(|upper| upper + amount))
+            }
         };
         Interval { lower, upper }
     }
 
     /// The table's "outer set on the way out". Under greater the upper end is at
-    /// least 1, since the interval lies within an inner set under greater.
+    /// least 1, since the interval lies within an inner set under greater. Under a step
+    /// "both fall, stopping at 0", and the upper end is at least the amount likewise.
     pub(crate) fn outer(self, relation: u16) -> Self {
         let (lower, upper) = match relation {
             relation::EQUAL => (self.lower, self.upper),
             relation::GREATER => (0, self.upper.map(|upper| upper - 1)),
             relation::AT_LEAST => (0, self.upper),
-            _ => (0, None),
+            relation::ANY => (0, None),
+            step => {
+                let amount = u32::from(relation::amount(step));
+                let fall = |end: u32| end.saturating_sub(amount);
+                (fall(self.lower), self.upper.map(fall))
+            }
         };
         Interval { lower, upper }
     }
@@ -350,6 +361,65 @@ impl<M: Meter> Reader<'_, M> {
                     }
                     self.state.flag &= old;
                     return Ok(true);
+                }
+            }
+        }
+    }
+}
+
+#[cfg(test)]
+mod tests {
+    use super::*;
+
+    fn step(amount: u16) -> u16 {
+        relation::ANY + amount
+    }
+
+    fn ends(lower: u32, upper: impl Into<Option<u32>>) -> Interval {
+        Interval {
+            lower,
+            upper: upper.into(),
+        }
+    }
+
+    /// "On the way in both ends rise by that amount": steps of 1, 2 and 31.
+    #[test]
+    fn steps_in() {
+        assert_eq!(ends(3, 9).inner(step(1)), ends(4, 10));
+        assert_eq!(ends(3, 9).inner(step(2)), ends(5, 11));
+        assert_eq!(ends(3, 9).inner(step(31)), ends(34, 40));
+        assert_eq!(ends(0, 0).inner(step(31)), ends(31, 31));
+        assert_eq!(ends(3, None).inner(step(31)), ends(34, None));
+        assert_eq!(ends(65_530, 65_535).inner(step(31)), ends(65_561, 65_566));
+    }
+
+    /// "on the way out both fall, stopping at 0", each end by itself.
+    #[test]
+    fn steps_out() {
+        assert_eq!(ends(4, 10).outer(step(1)), ends(3, 9));
+        assert_eq!(ends(5, 11).outer(step(2)), ends(3, 9));
+        assert_eq!(ends(34, 40).outer(step(31)), ends(3, 9));
+        assert_eq!(ends(65_561, 65_566).outer(step(31)), ends(65_530, 65_535));
+        assert_eq!(ends(34, None).outer(step(31)), ends(3, None));
+        // The lower end below the amount, at it, and above it.
+        assert_eq!(ends(1, 5).outer(step(3)), ends(0, 2));
+        assert_eq!(ends(3, 5).outer(step(3)), ends(0, 2));
+        assert_eq!(ends(4, 5).outer(step(3)), ends(1, 2));
+        assert_eq!(ends(0, None).outer(step(31)), ends(0, None));
+        assert_eq!(ends(30, 31).outer(step(31)), ends(0, 0));
+        // The upper end too, where no agreement with sets is claimed.
+        assert_eq!(ends(0, 30).outer(step(31)), ends(0, 0));
+        assert_eq!(ends(0, 0).outer(step(1)), ends(0, 0));
+    }
+
+    /// Every step goes in and comes back, from both sides of the largest column.
+    #[test]
+    fn steps_in_and_out() {
+        for step in (1..=31).map(step) {
+            for lower in [0, 1, 30, 31, 32, 65_534, 65_535, 65_536, 65_000_000] {
+                for upper in [None, Some(lower), Some(lower + 7)] {
+                    let interval = ends(lower, upper);
+                    assert_eq!(interval.inner(step).outer(step), interval);
                 }
             }
         }

@@ -73,40 +73,46 @@ impl ColumnSet {
 
     /// The inner set: "every i that stands in the relation to some k ..".
     fn inner(&self, relation: u16) -> Self {
-        Self::told(self.near_changes(), |i| {
-            self.some(i, |k| stands(relation, i, k))
+        let reach = reach(relation);
+        Self::told(self.near_changes(reach), |i| {
+            self.some(i, reach, |k| stands(relation, i, k))
         })
     }
 
     /// The outer set: "every k to which some i in T so stands".
     fn outer(&self, relation: u16) -> Self {
-        Self::told(self.near_changes(), |k| {
-            self.some(k, |i| stands(relation, i, k))
+        let reach = reach(relation);
+        Self::told(self.near_changes(reach), |k| {
+            self.some(k, reach, |i| stands(relation, i, k))
         })
     }
 
-    /// The changes and their neighbours. Whether a number has a partner in the set
-    /// turns at these only: the relations compare two numbers by order, so a number
-    /// and the next have the same partners unless one of them, or one next to them,
-    /// enters or leaves the set.
-    fn near_changes(&self) -> Vec<u64> {
+    /// The changes and the numbers a reach from them. Whether a number has a partner in
+    /// the set turns at these, or at 0, only. The first four relations compare two
+    /// numbers by order, so a number and the next have the same partners unless one of
+    /// them, or one next to them, enters or leaves the set. Under a step a number has
+    /// one partner, the amount below or above it, so it turns where a change lies that
+    /// far below or above. An inner number below the amount has none, and the amount's
+    /// own is 0, which is a change if it is in the set.
+    fn near_changes(&self, reach: u64) -> Vec<u64> {
         self.changes
             .iter()
-            .flat_map(|&change| [change.saturating_sub(1), change, change + 1])
+            .flat_map(|&change| [change.saturating_sub(reach), change, change + reach])
             .collect()
     }
 
-    /// Whether some number of the set passes the test. The test asks only for the
-    /// order of the number and `from`, so in each run of the set its first number,
+    /// Whether some number of the set passes the test. Where the test asks only for
+    /// the order of the number and `from`, in each run of the set its first number,
     /// its last (or, without end, one above `from`), and `from` itself and its
-    /// neighbours stand for all.
-    fn some(&self, from: u64, test: impl Fn(u64) -> bool) -> bool {
+    /// neighbours stand for all. Under a step the test passes one number at most, a
+    /// reach above or below `from`.
+    fn some(&self, from: u64, reach: u64, test: impl Fn(u64) -> bool) -> bool {
         let beyond = self.changes.last().map_or(0, |&last| last.max(from) + 1);
         let ends = self
             .changes
             .iter()
             .flat_map(|&change| [change.saturating_sub(1), change]);
-        let near = [from.saturating_sub(1), from, from + 1, beyond];
+        let near = [from.saturating_sub(reach), from, from + reach, beyond];
         ends.chain(near).any(|n| self.contains(n) && test(n))
     }
 }
@@ -117,7 +123,17 @@ fn stands(relation: u16, i: u64, k: u64) -> bool {
         relation::EQUAL => i == k,
         relation::GREATER => i > k,
         relation::AT_LEAST => i >= k,
-        _ => true,
+        relation::ANY => true,
+        step => i == k + u64::from(relation::amount(step)),
+    }
+}
+
+/// How far from a number those lie that decide about it: beside it where the relation
+/// compares by order, the amount away under a step.
+fn reach(relation: u16) -> u64 {
+    match relation {
+        relation::EQUAL | relation::GREATER | relation::AT_LEAST | relation::ANY => 1,
+        step => u64::from(relation::amount(step)),
     }
 }
 
@@ -285,23 +301,53 @@ impl Clauses<'_> {
 mod tests {
     use super::*;
 
-    /// Every set that is one of the 2^7 choices among 0 to 6 and all or nothing from 7
-    /// on: images and meets against the definitions, number by number.
-    #[test]
-    fn images_and_meets_by_definition() {
-        const BOUND: u64 = 7;
-        let sets: Vec<ColumnSet> = (0u64..256)
+    /// From `base` on a set is one of the 2^7 choices among seven numbers, and all or
+    /// nothing behind them.
+    const CHOSEN: u64 = 7;
+
+    fn chosen(base: u64) -> Vec<ColumnSet> {
+        (0u64..256)
             .map(|bits| {
-                let member = |n: u64| bits >> n.min(BOUND) & 1 == 1;
-                let set = ColumnSet::told((0..=BOUND).collect(), member);
-                for n in 0..20 {
+                let member = |n: u64| n >= base && bits >> (n - base).min(CHOSEN) & 1 == 1;
+                let set = ColumnSet::told((base..=base + CHOSEN).collect(), member);
+                for n in 0..base + 20 {
                     assert_eq!(set.contains(n), member(n));
                 }
                 set
             })
-            .collect();
+            .collect()
+    }
+
+    /// The inner and outer set by their definitions, number by number. The set does not
+    /// change after 35 nor its images after 66, so partners below 110 stand for all.
+    fn images(set: &ColumnSet, relation: u16) {
+        let inner = set.inner(relation);
+        let outer = set.outer(relation);
+        for n in 0..75 {
+            let has_k = (0..110).any(|k| set.contains(k) && stands(relation, n, k));
+            assert_eq!(inner.contains(n), has_k, "{set:?} {relation} {n}");
+            let has_i = (0..110).any(|i| set.contains(i) && stands(relation, i, n));
+            assert_eq!(outer.contains(n), has_i, "{set:?} {relation} {n}");
+        }
+        assert_eq!(inner.contains(1 << 40), inner.contains(74));
+        assert_eq!(outer.contains(1 << 40), outer.contains(74));
+    }
+
+    /// Sets that begin at 0, and sets around the largest amount.
+    #[test]
+    fn images_by_definition() {
+        for base in [0, 28] {
+            for set in chosen(base) {
+                (0..relation::COUNT).for_each(|relation| images(&set, relation));
+            }
+        }
+    }
+
+    #[test]
+    fn runs_and_meets_by_definition() {
+        let sets = chosen(0);
         for set in &sets {
-            assert_eq!(set.is_empty(), (0..=BOUND).all(|n| !set.contains(n)));
+            assert_eq!(set.is_empty(), (0..=CHOSEN).all(|n| !set.contains(n)));
             let listed = |n: u64| {
                 set.runs()
                     .iter()
@@ -310,19 +356,6 @@ mod tests {
             for n in 0..20 {
                 assert_eq!(set.contains(n), listed(n));
             }
-            for relation in 0..4 {
-                let inner = set.inner(relation);
-                let outer = set.outer(relation);
-                // Partners up to 40 stand for all: beyond 8 the set does not change.
-                for n in 0..20 {
-                    let has_k = (0..40).any(|k| set.contains(k) && stands(relation, n, k));
-                    assert_eq!(inner.contains(n), has_k, "{set:?} {relation} {n}");
-                    let has_i = (0..40).any(|i| set.contains(i) && stands(relation, i, n));
-                    assert_eq!(outer.contains(n), has_i, "{set:?} {relation} {n}");
-                }
-                assert_eq!(inner.contains(1 << 40), inner.contains(19));
-                assert_eq!(outer.contains(1 << 40), outer.contains(19));
-            }
             for other in sets.iter().step_by(7) {
                 let both = set.meet(other);
                 for n in 0..20 {
@@ -330,5 +363,35 @@ mod tests {
                 }
             }
         }
+    }
+
+    /// Steps of sets that are no interval, worked by hand.
+    #[test]
+    fn steps_of_sets_with_gaps() {
+        let step = |amount: u16| relation::ANY + amount;
+        // 0, 5, 31, 32, and from 40 on.
+        let set = ColumnSet {
+            changes: vec![0, 1, 5, 6, 31, 33, 40],
+        };
+        let one = |n: u64| (n, Some(n));
+        let by_31 = [one(31), one(36), (62, Some(63)), (71, None)];
+        assert_eq!(set.inner(step(31)).runs(), by_31);
+        assert_eq!(set.outer(step(31)).runs(), [(0, Some(1)), (9, None)]);
+        let by_1 = [one(1), one(6), (32, Some(33)), (41, None)];
+        assert_eq!(set.inner(step(1)).runs(), by_1);
+        assert_eq!(
+            set.outer(step(1)).runs(),
+            [one(4), (30, Some(31)), (39, None)]
+        );
+        // 1 to 5 by 3, and 0 to 30 by 31, which no outer column reaches.
+        let low = ColumnSet {
+            changes: vec![1, 6],
+        };
+        assert_eq!(low.outer(step(3)).runs(), [(0, Some(2))]);
+        let below = ColumnSet {
+            changes: vec![0, 31],
+        };
+        assert!(below.outer(step(31)).is_empty());
+        assert_eq!(below.inner(step(31)).runs(), [(31, Some(61))]);
     }
 }
