@@ -1,20 +1,21 @@
 -- What the functions on intervals show, over plain values.
-use Prim.Native.Nat.{ℕ, zero, suc, _+_, _≤_, _<_, max}
-use mathlib.Core.Path.{_≡_, refl, sym}
+use Prim.Native.Nat.{ℕ, zero, suc, _+_, _-_, _≤_, _<_, max}
+use mathlib.Core.Path.{_≡_, refl, sym, ap₂, _∙_}
 use mathlib.Core.Bool.{Bool, true, false, _&&_, and-true}
-use mathlib.Core.Logic.{_⊎_, inl, inr}
+use mathlib.Core.Logic.{_⊎_, inl, inr, ⊎-elim}
 use lib.Dec.{leb, ltb}
 use native.Mathlib.Omega.{arith}
-use Rattle.columns.specs.Intervals.{to, innerEnds, lowerEnd, meetEnds, lies, fits}
+use borrow.Author.Tests.{lt-leb, le-leb}
+use Rattle.table.proofs.Orders.{le-or-lt}
+use Rattle.columns.specs.Relations.{any, amount}
+use Rattle.columns.specs.Intervals.{to, less, plus, innerEnds, outerEnds, lowerEnd, meetEnds, isUpTo, lies, fits}
 use Rattle.columns.specs.declared.Upper.{Upper}
+use Rattle.columns.specs.declared.Upper.the-variants.{At, Endless}
 use Rattle.columns.specs.declared.Interval.{Interval}
 
--- A relation that is none of 0, 1 and 2.
-pub over-two : (r : ℕ) → (r ≡ 0 → ⊥) → (r ≡ 1 → ⊥) → (r ≡ 2 → ⊥) → (k : ℕ) × (r ≡ suc (suc (suc k)))
-over-two zero a b c = absurd (a refl)
-over-two (suc zero) a b c = absurd (b refl)
-over-two (suc (suc zero)) a b c = absurd (c refl)
-over-two (suc (suc (suc k))) a b c = (k, refl)
+-- A relation that is none of 0 to 3 is a step.
+pub over-three : (r : ℕ) → (r ≡ 0 → ⊥) → (r ≡ 1 → ⊥) → (r ≡ 2 → ⊥) → (r ≡ 3 → ⊥) → any < r
+over-three r a b c d = omega arith
 
 -- A token fits by the relation that is asked: equal with the flag set, else the mode.
 pub fits-by :
@@ -35,6 +36,39 @@ fits-by flag mode r c i (inr b) f g e = rw (g b .0, ← (g b .1)) e
 -- A column over the lower end lies in the inner set of greater.
 pub over-lower : (l i : ℕ) → ltb l i ≡ (leb (l + 1) i && true)
 over-lower l i = let q : l + 1 ≡ suc l = omega arith in rw q (sym (and-true _))
+
+-- Two comparisons that say the same.
+leb-same : (a b c d : ℕ) → (a ≤ b → c ≤ d) → (b < a → d < c) → leb a b ≡ leb c d
+leb-same a b c d f g = ⊎-elim (λ p. le-leb a b p ∙ sym (le-leb c d (f p))) (λ p. lt-leb a b p ∙ sym (lt-leb c d (g p))) (le-or-lt a b)
+
+raised-upto : (h : Upper) (d i : ℕ) → d ≤ i → isUpTo (i - d) h ≡ isUpTo i (plus h d)
+raised-upto (At x) d i l = leb-same (i - d) x i (x + d) (λ k. omega arith) (λ k. omega arith)
+raised-upto Endless d i l = refl
+
+-- A column lies in the inner set of a step where it does less the amount, and never below the amount.
+pub step-lies : (r : ℕ) (c : Interval) (i d : ℕ) → any < r → d ≡ amount r → d ≤ i → lies (i - d) c ≡ lies i (innerEnds r c)
+step-lies zero c i d h e l = absurd (omega arith)
+step-lies (suc zero) c i d h e l = absurd (omega arith)
+step-lies (suc (suc zero)) c i d h e l = absurd (omega arith)
+step-lies (suc (suc (suc zero))) c i d h e l = absurd (omega arith)
+step-lies (suc (suc (suc (suc k)))) c i d h e l =
+    let q : d ≡ suc k = omega arith in
+    rw q (ap₂ _&&_ (leb-same (c .lower) (i - suc k) (c .lower + suc k) i (λ k. omega arith) (λ k. omega arith)) (raised-upto (c .upper) (suc k) i (omega arith)))
+
+pub step-below : (r : ℕ) (c : Interval) (i d : ℕ) → any < r → d ≡ amount r → i < d → false ≡ lies i (innerEnds r c)
+step-below zero c i d h e l = absurd (omega arith)
+step-below (suc zero) c i d h e l = absurd (omega arith)
+step-below (suc (suc zero)) c i d h e l = absurd (omega arith)
+step-below (suc (suc (suc zero))) c i d h e l = absurd (omega arith)
+step-below (suc (suc (suc (suc k)))) c i d h e l = rw (lt-leb (c .lower + suc k) i (omega arith)) refl
+
+-- What a step leaves on the way out.
+pub step-outer : (r : ℕ) (c : Interval) (d : ℕ) → any < r → d ≡ amount r → to (c .lower - d) (less (c .upper) d) ≡ outerEnds r c
+step-outer zero c d h e = absurd (omega arith)
+step-outer (suc zero) c d h e = absurd (omega arith)
+step-outer (suc (suc zero)) c d h e = absurd (omega arith)
+step-outer (suc (suc (suc zero))) c d h e = absurd (omega arith)
+step-outer (suc (suc (suc (suc k)))) c d h e = let q : d ≡ suc k = omega arith in rw q refl
 
 -- The higher lower end, where either is.
 pub meet-second : (a b : Interval) (u : Upper) → a .lower ≤ b .lower → u ≡ lowerEnd (a .upper) (b .upper) → to (b .lower) u ≡ meetEnds a b

@@ -3,7 +3,9 @@ use columns::Interval;
 use columns::Upper;
 use table::relations;
 ghost use mathlib.Core.Path.{_≡_};
-ghost use Rattle.columns.specs.Intervals.{lowerEnd, meetEnds, less1, outerEnds, lies as liesIn};
+ghost use Prim.Native.Nat.{_-_, _<_};
+ghost use Rattle.columns.specs.Relations.{any, amount as amountOf};
+ghost use Rattle.columns.specs.Intervals.{lowerEnd, meetEnds, less as lessEnd, innerEnds, outerEnds, lies as liesIn};
 ghost use Rattle.columns.specs.Intervals.{fits as fitsIn, afterToken};
 
 // Whether a token at column i fits: in the interval with the flag set, else in the mode's inner set.
@@ -16,7 +18,28 @@ pub fn fits(flag: bool, mode: u16, c: Interval, i: u32) -> bool
         relations::EQUAL => lies(c, i),
         relations::GREATER => l < i,
         relations::AT_LEAST => l <= i,
-        _ => true,
+        relations::ANY => true,
+        _ => stepped(r, c, i),
+    }
+}
+
+// Whether a column lies in the inner set of a step: less the amount it lies in the interval.
+fn stepped(r: u16, c: Interval, i: u32) -> bool
+    requires { ⌜ any < r ⌝ }
+    ensures { λ x. ⌜ x ≡ liesIn i (innerEnds r c) ⌝ }
+{
+    let d = amount(r);
+    if i < d { false } else { lies(c, i - d) }
+}
+
+// The amount of a step: its number less 3.
+pub fn amount(r: u16) -> u32
+    ensures { λ d. ⌜ d ≡ amountOf r ⌝ }
+{
+    if r <= relations::ANY {
+        0
+    } else {
+        (r - relations::ANY) as u32
     }
 }
 
@@ -61,29 +84,38 @@ fn outer(r: u16, c: Interval) -> Interval
     match r {
         relations::EQUAL => c,
         relations::GREATER => {
-            let upper = less(h);
+            let upper = less(h, 1);
             Interval { lower: 0, upper }
         }
         relations::AT_LEAST => Interval { lower: 0, upper: h },
-        _ => Interval {
+        relations::ANY => Interval {
             lower: 0,
             upper: Upper::Endless,
         },
+        _ => {
+            let d = amount(r);
+            let upper = less(h, d);
+            let lower = lowered(c.lower, d);
+            Interval { lower, upper }
+        }
     }
 }
 
-// An upper end less 1; without end stays, and 0 too.
-fn less(h: Upper) -> Upper
-    ensures { λ x. ⌜ x ≡ less1 h ⌝ }
+// An upper end less an amount; without end stays.
+fn less(h: Upper, d: u32) -> Upper
+    ensures { λ x. ⌜ x ≡ lessEnd h d ⌝ }
 {
     match h {
         Upper::Endless => h,
-        Upper::At(x) => if x == 0 {
-            Upper::At(0)
-        } else {
-            Upper::At(x - 1)
-        },
+        Upper::At(x) => Upper::At(lowered(x, d)),
     }
+}
+
+// A column less an amount stops at 0.
+fn lowered(x: u32, d: u32) -> u32
+    ensures { λ r. ⌜ r ≡ x - d ⌝ }
+{
+    if x < d { 0 } else { x - d }
 }
 
 // What lies in both of two intervals.

@@ -8,7 +8,7 @@ use lib.Dec.{leb, ltb, eqb}
 use native.Mathlib.Omega.{arith}
 use borrow.Author.Tests.{ltb-true, ltb-false, leb-true, eqb-true}
 use Rattle.table.specs.Answer.{Answer, given, refuseIf}
-use Rattle.table.specs.Limits.{mostNodes, mostRules}
+use Rattle.table.specs.Limits.{mostNodes, mostRules, lastTerminal, relationCount}
 use Rattle.table.specs.Form.{decode, kindOf, aOf, bOf, relationOf, form, nodeCount, standsFor}
 use Rattle.table.specs.Checks.{fails3, fails4, fails5, unused, lower, isRelation, rightWords, rightNode, tableAnswer}
 use Rattle.table.specs.InternalInside.{Inside}
@@ -39,6 +39,27 @@ module _ (rules : List ℕ) (count n : ℕ) (h : n < count) (there : (k : ℕ) �
   words-inside (suc (suc (suc (suc (suc (suc (suc (suc (suc zero))))))))) a b r e = below (first (lower a n) (unused b) (unused r) e)
   words-inside (suc (suc (suc (suc (suc (suc (suc (suc (suc (suc k)))))))))) a b r e = absurd (false≢true e)
 
+third : (a b c : Bool) → (a && b && c) ≡ true → c ≡ true
+third a b c e = and-right (a && b) c e
+
+-- An unused relation is 0, and a used one is one of those there are.
+relation-unused : (r : ℕ) → unused r ≡ true → r < relationCount
+relation-unused r e = let z = eqb-true r 0 e in omega arith
+
+words-relation : (rules n kind a b r : ℕ) → rightWords rules n kind a b r ≡ true → r < relationCount
+unfolding rightWords
+words-relation rules n zero a b r e = relation-unused r (third (unused a) (unused b) (unused r) e)
+words-relation rules n (suc zero) a b r e = relation-unused r (third (leb a lastTerminal) (unused b) (unused r) e)
+words-relation rules n (suc (suc zero)) a b r e = relation-unused r (third (ltb a rules) (unused b) (unused r) e)
+words-relation rules n (suc (suc (suc zero))) a b r e = relation-unused r (third (lower a n) (lower b n) (unused r) e)
+words-relation rules n (suc (suc (suc (suc zero)))) a b r e = relation-unused r (third (lower a n) (lower b n) (unused r) e)
+words-relation rules n (suc (suc (suc (suc (suc zero))))) a b r e = relation-unused r (third (lower a n) (unused b) (unused r) e)
+words-relation rules n (suc (suc (suc (suc (suc (suc zero)))))) a b r e = relation-unused r (third (lower a n) (unused b) (unused r) e)
+words-relation rules n (suc (suc (suc (suc (suc (suc (suc zero))))))) a b r e = ltb-true r relationCount (third (lower a n) (unused b) (isRelation r) e)
+words-relation rules n (suc (suc (suc (suc (suc (suc (suc (suc zero)))))))) a b r e = ltb-true r relationCount (third (lower a n) (unused b) (isRelation r) e)
+words-relation rules n (suc (suc (suc (suc (suc (suc (suc (suc (suc zero))))))))) a b r e = relation-unused r (third (lower a n) (unused b) (unused r) e)
+words-relation rules n (suc (suc (suc (suc (suc (suc (suc (suc (suc (suc k)))))))))) a b r e = absurd (false≢true e)
+
 -- None of the three numbers applies.
 none-fails : (a b c : Bool) → _≡_ {A = Answer Unit} (refuseIf a 3 (refuseIf b 4 (refuseIf c 5 (given tt)))) (given tt) → (a ≡ false) × (b ≡ false) × (c ≡ false)
 none-fails true b c e = absurd (let z : _≡_ {A = ℕ} 0 1 = cc in omega arith)
@@ -58,6 +79,14 @@ inside-table nodes rules e n h =
     words-inside rules (nodeCount nodes) n h
     (λ k l. ltb-true (standsFor rules k) (nodeCount nodes) (every-at (length rules) (λ r. ltb (standsFor rules r) (nodeCount nodes)) (unnot _ (ok .2)) k l))
     (kindOf nodes n) (aOf nodes n) (bOf nodes n) (relationOf nodes n)
+    (every-at (nodeCount nodes) (rightNode nodes rules) (unnot _ (ok .1)) n h)
+
+-- Every node's relation is one of those there are.
+pub relation-there : (nodes rules : List ℕ) → tableAnswer nodes rules ≡ given tt → (n : ℕ) → n < nodeCount nodes → relationOf nodes n < relationCount
+unfolding tableAnswer fails4
+relation-there nodes rules e n h =
+    let ok = none-fails (fails3 nodes rules) (fails4 nodes rules) (fails5 nodes rules) e in
+    words-relation (length rules) n (kindOf nodes n) (aOf nodes n) (bOf nodes n) (relationOf nodes n)
     (every-at (nodeCount nodes) (rightNode nodes rules) (unnot _ (ok .1)) n h)
 
 -- Its counts are within the limits, and its words are whole nodes.

@@ -14,9 +14,10 @@ mostRules = 128
 abbrev pub lastTerminal : ℕ
 lastTerminal = 255
 
--- How many relations there are: "0 equal, 1 greater, 2 at least, 3 any". "The same four numbers are token modes."
+-- How many relations there are: "0 equal, 1 greater, 2 at least, 3 any", and "4 to 34" (02, note 1). The same numbers are
+-- token modes.
 abbrev pub relationCount : ℕ
-relationCount = 4
+relationCount = 35
 
 -- "At most 4,096 tokens"
 abbrev pub mostTokens : ℕ

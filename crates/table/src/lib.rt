@@ -18,7 +18,7 @@ pub const RULES: usize = 128;
 pub const LAST_TERMINAL: u16 = 255;
 
 // How many relations, and token modes, there are.
-pub const RELATIONS: u16 = 4;
+pub const RELATIONS: u16 = 35;
 
 // The most tokens, and the last column of one.
 pub const TOKENS: usize = 4096;

@@ -6,3 +6,4 @@ pub mod Existence
 pub mod LimitLaws
 pub mod Agreement
 pub mod OffsetsUnread
+pub mod StepLaws

@@ -42,6 +42,11 @@ module _ (found : ℕ → ℕ → Bool) (none : (n : ℕ) → found 0 n ≡ fals
       by-test true h = omega arith
       by-test false h = omega arith
 
+  misses-some : (n k : ℕ) → 1 ≤ misses found (suc k) n
+  unfolding misses
+  misses-some n zero = rw (none n) (omega arith)
+  misses-some n (suc k) = let h = misses-some n k in omega arith
+
 module _ (nodes rules : List ℕ) (count : ℕ) where
   -- A child that is entered is in the table.
   enters-inside : {f : Form} {c : ℕ} → Enters nodes rules f c → Inside rules count f → c < count
@@ -105,7 +110,11 @@ module _ (nodes rules : List ℕ) (passing : tableAnswer nodes rules ≡ given t
       rw (found-no-more c (enters-inside nodes rules count enter (inside-table nodes rules passing n h)))
       (misses-more found none-first n c (later n c h enter) count)
 
-  -- A rank is at most the number of nodes.
+  -- A rank is at least 1 and at most the number of nodes.
+  pub rank-some : (n : ℕ) → 1 ≤ rank nodes rules n
+  unfolding rank
+  rank-some n = misses-some found none-first n count
+
   pub rank-most : (n : ℕ) → n < nodeCount nodes → rank nodes rules n ≤ nodeCount nodes
   unfolding rank
   rank-most n h = rw (found-no-more n h) (misses-most found none-first n count)

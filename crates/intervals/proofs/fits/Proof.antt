@@ -5,7 +5,7 @@ use Rattle.intervals.proofs.fits.Tie as tie
 use mathlib.Core.Path.{refl, sym}
 use mathlib.Core.Bool.{and-true}
 use lib.Dec.{leb·zero}
-use Rattle.intervals.proofs.IntervalLaws.{over-two, over-lower, fits-by}
+use Rattle.intervals.proofs.IntervalLaws.{over-three, over-lower, fits-by}
 
 returns : tie.Need-returns
 returns c =
@@ -33,8 +33,17 @@ returns-4 c =
     let joined = c .before .if1 in
     let start = c .before .before in
     fits-by (start .args .flag) (start .args .mode) (joined .r) (start .args .c) (start .args .i) (joined .came)
-    (λ a. (a .0 .taken, a .1)) (λ b. (b .0 .left, b .1))
-    (rw (over-two _ (c .match .rest .0 .0 .1) (c .match .rest .0 .1) (c .match .rest .1) .1, leb·zero (start .args .i)) refl)
+    (λ a. (a .0 .taken, a .1)) (λ b. (b .0 .left, b .1)) (rw (c .match .keys4, leb·zero (start .args .i)) refl)
+
+stepped-requires : tie.Need-stepped-requires
+stepped-requires c κs = over-three _ (c .match .rest .0 .0 .0 .1) (c .match .rest .0 .0 .1) (c .match .rest .0 .1) (c .match .rest .1)
+
+returns-5 : tie.Need-returns-5
+returns-5 c =
+    let joined = c .before .before .if1 in
+    let start = c .before .before .before in
+    fits-by (start .args .flag) (start .args .mode) (joined .r) (start .args .c) (start .args .i) (joined .came)
+    (λ a. (a .0 .taken, a .1)) (λ b. (b .0 .left, b .1)) (c .stepped .ensures)
 
 pub fits-spec : {M : Type 1} → statement M
-fits-spec = tie.close (tie.spec (λ c κs. search needs) returns returns-2 returns-3 returns-4)
+fits-spec = tie.close (tie.spec (λ c κs. search needs) stepped-requires returns returns-2 returns-3 returns-4 returns-5)
