@@ -1,4 +1,4 @@
 pub mod LeafLaws
-pub mod LowLaws
+pub mod HighLaws
 pub mod WalkLaws
 pub mod RunLaws

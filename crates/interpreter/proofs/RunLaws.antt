@@ -1,11 +1,19 @@
 -- What a run answers, over plain values: by the walk's outcome, or by the first number that applies.
 use Prim.Native.Nat.{ℕ, _+_, _-_, _≤_}
 use mathlib.Core.Path.{_≡_, refl, ap, _∙_}
-use mathlib.Core.Bool.{true, false}
+use mathlib.Core.Bool.{true, false, not as isFalse, _||_}
 use mathlib.Core.List.{List}
 use native.Mathlib.Omega.{arith}
-use Rattle.table.specs.Form.{form}
-use Rattle.columns.specs.Intervals.{ends}
+use borrow.Author.Tests.{ltb-false}
+use Rattle.table.specs.Limits.{mostColumn}
+use Rattle.table.specs.Checks.{isRelation}
+use Rattle.table.proofs.Every.{both-false}
+use lib.Dec.{ltb}
+use Rattle.table.specs.Form.{form, nodeCount}
+use Rattle.columns.specs.Intervals.{ends, isUpTo}
+use Rattle.columns.specs.InternalHighest.{finite}
+use Rattle.columns.specs.declared.Upper.{Upper}
+use Rattle.columns.specs.declared.Upper.the-variants.{At, Endless}
 use Rattle.columns.specs.declared.Interval.{Interval}
 use Rattle.columns.specs.declared.State.{State}
 use Rattle.columns.specs.declared.Start.{Start}
@@ -16,13 +24,28 @@ use Rattle.table.proofs.AnswerLaws.{first-refuses, first-names, first-passes}
 use Rattle.well_formed.specs.Check.{checkAnswer}
 use Rattle.well_formed.proofs.VerdictLaws.{check-means}
 use Rattle.clauses.specs.Clauses as clauses
-use Rattle.clauses.specs.Limits.{tokensOf, fails11, fails12, WithinLimits}
+use Rattle.clauses.specs.Limits.{tokensOf, finiteOver, fails11, fails12, WithinLimits}
 use Rattle.clauses.specs.RunAnswer.{EndsRun, ourOutcome, runAnswer, Reads}
 use Rattle.theorems.proofs.Narrows.{onward}
 use Rattle.theorems.proofs.Agreement.{outcome-only}
 use Rattle.theorems.proofs.LimitLaws.{begins}
 use Rattle.interpreter.specs.InternalWalk.{outcomeOf, Checked, Ready, Gives}
 use Rattle.interpreter.proofs.WalkLaws.{weight-most}
+
+-- A finite upper end of a start within the limits is at most the last column.
+upper-right : (nodes words : List ℕ) (start : Start) → fails12 nodes words start ≡ false → finiteOver (start .interval .upper) ≡ false
+unfolding fails12
+upper-right nodes words start e =
+    let n = isFalse (ltb (start .node) (nodeCount nodes)) in
+    let p = ltb (tokensOf words .count) (start .place) in
+    let o = isFalse (isUpTo (start .interval .lower) (start .interval .upper)) in
+    let l = ltb mostColumn (start .interval .lower) in
+    let u = finiteOver (start .interval .upper) in
+    both-false (n || p || o || l) u (both-false (n || p || o || l || u) (isFalse (isRelation (start .mode))) e .0) .1
+
+upper-in : (h : Upper) → finiteOver h ≡ false → finite h ≤ mostColumn
+upper-in (At x) e = ltb-false mostColumn x e
+upper-in Endless e = omega arith
 
 module _ (nodes rules words : List ℕ) (start : Start) where
   abbrev Answered : Answer (clauses.Outcome Interval) → Type 0
@@ -62,6 +85,7 @@ module _ (nodes rules words : List ℕ) (start : Start) where
       begin-ready =
           let b = begins nodes words start begin in
           let l = b .lower in
+          let u = upper-in (start .interval .upper) (upper-right nodes words start begin) in
           let w = weight-most nodes rules words (start .node) from checked (b .node) in
           record { checked = checked; node = b .node; place = b .place; room = omega arith }
 

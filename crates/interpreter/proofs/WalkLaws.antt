@@ -5,15 +5,18 @@ use mathlib.Core.Bool.{Bool, true, false, cond}
 use mathlib.Core.List.{List}
 use mathlib.Core.Logic.{⊎-elim}
 use lib.ListN.{length}
-use native.Mathlib.Nat.{eq-or-lt-of-le, mul-le-mul}
+use lib.Dec.{eqb}
+use native.Mathlib.Nat.{eq-or-lt-of-le, mul-le-mul, mul-le-mul-right, suc-mul}
 use native.Mathlib.Omega.{arith}
-use Rattle.table.specs.Limits.{mostColumn}
+use borrow.Author.Tests.{eqb-true, eqb-false}
+use Rattle.table.specs.Limits.{relationCount, mostColumn}
 use Rattle.table.specs.Form as table
 use Rattle.table.specs.Form.{Form, form, decode, kindOf, aOf, bOf, relationOf, nodeCount, standsFor}
 use Rattle.table.specs.InternalInside.{Inside}
-use Rattle.table.proofs.Inside.{inside-table, counts-inside, rule-there}
+use Rattle.table.proofs.Inside.{inside-table, counts-inside, rule-there, relation-there}
 use Rattle.columns.specs.Intervals.{ends, afterToken}
-use Rattle.columns.proofs.EndLaws.{inner-low}
+use Rattle.columns.specs.InternalHighest.{highest}
+use Rattle.columns.proofs.HighestLaws.{rise-most, inner-high}
 use Rattle.columns.specs.declared.State.{State}
 use Rattle.columns.specs.declared.Outcome.{Outcome}
 use Rattle.columns.specs.declared.Outcome.the-variants.{Success, Failure}
@@ -21,7 +24,7 @@ use Rattle.well_formed.specs.Facts.{nothing, May}
 use Rattle.well_formed.specs.InternalRank.{Enters, enters-rule, enters-first, enters-second, enters-choice}
 use Rattle.well_formed.specs.InternalRank.{enters-other, enters-not, enters-repeat, enters-indent, enters-position}
 use Rattle.well_formed.specs.InternalRank.{enters-align, rank}
-use Rattle.well_formed.proofs.RankLaws.{rank-falls, rank-most, repeat-reads}
+use Rattle.well_formed.proofs.RankLaws.{rank-falls, rank-some, rank-most, repeat-reads}
 use Rattle.clauses.specs.Clauses as clauses
 use Rattle.clauses.specs.Clauses.{Run}
 use Rattle.clauses.specs.Evaluation.{reads}
@@ -29,18 +32,18 @@ use Rattle.clauses.specs.Limits.{tokensOf}
 use Rattle.clauses.proofs.Sound.{terminal-read, terminal-unread}
 use Rattle.theorems.proofs.Narrows.{onward, within}
 use Rattle.theorems.proofs.ShownFacts.{shown, at-once}
-use Rattle.theorems.proofs.Existence.{weighs-less}
 use Rattle.theorems.proofs.LimitLaws.{in-limits}
 use Rattle.after_child.specs.AfterChild.{leftState, alignedState}
-use Rattle.interpreter.specs.InternalWalk.{stateOf, outcomeOf, childState, tokenOutcome, ReadyToken, weight, Checked, Ready, ReadyRule, Gives}
-use Rattle.interpreter.proofs.LowLaws.{lower-end}
+use Rattle.interpreter.specs.InternalWalk.{stateOf, outcomeOf, childState, tokenOutcome, ReadyToken, weight, mostWeight, mostEnd, Checked}
+use Rattle.interpreter.specs.InternalWalk.{Ready, firstNode, ReadyFirst, ReadyRule, Gives}
+use Rattle.interpreter.proofs.HighLaws.{ends-under}
 
 -- The form of a node, by its kind.
 formed : (nodes : List ℕ) (n q : ℕ) → kindOf nodes n ≡ q → form nodes n ≡ decode q (aOf nodes n) (bOf nodes n) (relationOf nodes n)
 unfolding form
 formed nodes n q e = rw e refl
 
--- A first child's state is at the same place, with the lower end at most one higher.
+-- A first child's state is at the same place, with the ends at most 31 higher.
 child-place : (q r : ℕ) (s : State) → childState q r s .place ≡ s .place
 unfolding childState
 child-place zero r s = refl
@@ -55,19 +58,19 @@ child-place (suc (suc (suc (suc (suc (suc (suc (suc zero)))))))) r s = refl
 child-place (suc (suc (suc (suc (suc (suc (suc (suc (suc zero))))))))) r s = refl
 child-place (suc (suc (suc (suc (suc (suc (suc (suc (suc (suc q)))))))))) r s = refl
 
-child-low : (q r : ℕ) (s : State) → childState q r s .interval .lower ≤ s .interval .lower + 1
+child-high : (q r : ℕ) (s : State) → r < relationCount → highest (childState q r s .interval) ≤ highest (s .interval) + 31
 unfolding childState
-child-low zero r s = omega arith
-child-low (suc zero) r s = omega arith
-child-low (suc (suc zero)) r s = omega arith
-child-low (suc (suc (suc zero))) r s = omega arith
-child-low (suc (suc (suc (suc zero)))) r s = omega arith
-child-low (suc (suc (suc (suc (suc zero))))) r s = omega arith
-child-low (suc (suc (suc (suc (suc (suc zero)))))) r s = omega arith
-child-low (suc (suc (suc (suc (suc (suc (suc zero))))))) r s = inner-low r (s .interval)
-child-low (suc (suc (suc (suc (suc (suc (suc (suc zero)))))))) r s = omega arith
-child-low (suc (suc (suc (suc (suc (suc (suc (suc (suc zero))))))))) r s = omega arith
-child-low (suc (suc (suc (suc (suc (suc (suc (suc (suc (suc q)))))))))) r s = omega arith
+child-high zero r s l = omega arith
+child-high (suc zero) r s l = omega arith
+child-high (suc (suc zero)) r s l = omega arith
+child-high (suc (suc (suc zero))) r s l = omega arith
+child-high (suc (suc (suc (suc zero)))) r s l = omega arith
+child-high (suc (suc (suc (suc (suc zero))))) r s l = omega arith
+child-high (suc (suc (suc (suc (suc (suc zero)))))) r s l = omega arith
+child-high (suc (suc (suc (suc (suc (suc (suc zero))))))) r s l = let h = inner-high r (s .interval) in let m = rise-most r in omega arith
+child-high (suc (suc (suc (suc (suc (suc (suc (suc zero)))))))) r s l = omega arith
+child-high (suc (suc (suc (suc (suc (suc (suc (suc (suc zero))))))))) r s l = omega arith
+child-high (suc (suc (suc (suc (suc (suc (suc (suc (suc (suc q)))))))))) r s l = omega arith
 
 -- A node whose kind is none of 0, 1, 2 and 8 enters a.
 enters-a :
@@ -116,17 +119,24 @@ is-nine rules count (suc (suc (suc (suc (suc (suc (suc (suc zero)))))))) a b r i
 is-nine rules count (suc (suc (suc (suc (suc (suc (suc (suc (suc zero))))))))) a b r i h0 h1 h2 h3 h4 h5 h6 h7 h8 = refl
 is-nine rules count (suc (suc (suc (suc (suc (suc (suc (suc (suc (suc q)))))))))) a b r i h0 h1 h2 h3 h4 h5 h6 h7 h8 = absurd i
 
+-- A token less weighs more than any rank.
+token-lighter : (left left' most r r' : ℕ) → left' < left → r' ≤ most → 1 ≤ r → left' * most + r' < left * most + r
+token-lighter left left' most r r' h k l =
+    let x : suc left' * most ≤ left * most = mul-le-mul-right most h in
+    let y = suc-mul left' most in
+    omega arith
+
 module _ (nodes rules words : List ℕ) where
   made : {τ : ℕ} {f : Form} {s : State} {o : Outcome} → Run ends nodes rules (tokensOf words) τ f (stateOf s) (outcomeOf o) → Gives nodes rules words τ f s o
   made d = record { derived = d }
 
-  -- Where the child failed, so do a sequence, an indent and an align.
+  -- Where what is walked first failed, so do a terminal, a sequence, an indent and an align.
   failed :
-      (count τ a b r : ℕ) (s : State) (q : ℕ)
+      (count τ n a b r : ℕ) (s : State) (q : ℕ)
       → Inside rules count (decode q a b r)
-      → Gives nodes rules words τ (form nodes a) (childState q r s) Failure
+      → form nodes n ≡ decode q a b r
+      → Gives nodes rules words τ (form nodes (firstNode q n a)) (childState q r s) Failure
       → (q ≡ 0 → ⊥)
-      → (q ≡ 1 → ⊥)
       → (q ≡ 2 → ⊥)
       → (q ≡ 8 → ⊥)
       → (q ≡ 4 → ⊥)
@@ -134,17 +144,17 @@ module _ (nodes rules words : List ℕ) where
       → (q ≡ 6 → ⊥)
       → Gives nodes rules words τ (decode q a b r) s Failure
   unfolding childState
-  failed count τ a b r s zero i d h0 h1 h2 h8 h4 h5 h6 = absurd (h0 refl)
-  failed count τ a b r s (suc zero) i d h0 h1 h2 h8 h4 h5 h6 = absurd (h1 refl)
-  failed count τ a b r s (suc (suc zero)) i d h0 h1 h2 h8 h4 h5 h6 = absurd (h2 refl)
-  failed count τ a b r s (suc (suc (suc zero))) i d h0 h1 h2 h8 h4 h5 h6 = made (clauses.sequence-fails (d .derived))
-  failed count τ a b r s (suc (suc (suc (suc zero)))) i d h0 h1 h2 h8 h4 h5 h6 = absurd (h4 refl)
-  failed count τ a b r s (suc (suc (suc (suc (suc zero))))) i d h0 h1 h2 h8 h4 h5 h6 = absurd (h5 refl)
-  failed count τ a b r s (suc (suc (suc (suc (suc (suc zero)))))) i d h0 h1 h2 h8 h4 h5 h6 = absurd (h6 refl)
-  failed count τ a b r s (suc (suc (suc (suc (suc (suc (suc zero))))))) i d h0 h1 h2 h8 h4 h5 h6 = made (clauses.indent-fails (d .derived))
-  failed count τ a b r s (suc (suc (suc (suc (suc (suc (suc (suc zero)))))))) i d h0 h1 h2 h8 h4 h5 h6 = absurd (h8 refl)
-  failed count τ a b r s (suc (suc (suc (suc (suc (suc (suc (suc (suc zero))))))))) i d h0 h1 h2 h8 h4 h5 h6 = made (clauses.align-fails (d .derived))
-  failed count τ a b r s (suc (suc (suc (suc (suc (suc (suc (suc (suc (suc q)))))))))) i d h0 h1 h2 h8 h4 h5 h6 = absurd i
+  failed count τ n a b r s zero i f d h0 h2 h8 h4 h5 h6 = absurd (h0 refl)
+  failed count τ n a b r s (suc zero) i f d h0 h2 h8 h4 h5 h6 = rw f at d
+  failed count τ n a b r s (suc (suc zero)) i f d h0 h2 h8 h4 h5 h6 = absurd (h2 refl)
+  failed count τ n a b r s (suc (suc (suc zero))) i f d h0 h2 h8 h4 h5 h6 = made (clauses.sequence-fails (d .derived))
+  failed count τ n a b r s (suc (suc (suc (suc zero)))) i f d h0 h2 h8 h4 h5 h6 = absurd (h4 refl)
+  failed count τ n a b r s (suc (suc (suc (suc (suc zero))))) i f d h0 h2 h8 h4 h5 h6 = absurd (h5 refl)
+  failed count τ n a b r s (suc (suc (suc (suc (suc (suc zero)))))) i f d h0 h2 h8 h4 h5 h6 = absurd (h6 refl)
+  failed count τ n a b r s (suc (suc (suc (suc (suc (suc (suc zero))))))) i f d h0 h2 h8 h4 h5 h6 = made (clauses.indent-fails (d .derived))
+  failed count τ n a b r s (suc (suc (suc (suc (suc (suc (suc (suc zero)))))))) i f d h0 h2 h8 h4 h5 h6 = absurd (h8 refl)
+  failed count τ n a b r s (suc (suc (suc (suc (suc (suc (suc (suc (suc zero))))))))) i f d h0 h2 h8 h4 h5 h6 = made (clauses.align-fails (d .derived))
+  failed count τ n a b r s (suc (suc (suc (suc (suc (suc (suc (suc (suc (suc q)))))))))) i f d h0 h2 h8 h4 h5 h6 = absurd i
 
   -- One token.
   token-gives : (τ a : ℕ) (s : State) → Gives nodes rules words τ (table.terminal a) s (tokenOutcome words τ a s)
@@ -171,18 +181,16 @@ module _ (nodes rules words : List ℕ) where
     pub less : weight nodes rules words n s < w
     pub ready : Ready nodes rules words n s
 
-  -- No weight is over 4,097 times 513.
-  pub weight-most : (n : ℕ) (s : State) → Checked nodes rules words → n < nodeCount nodes → weight nodes rules words n s < 2101761
+  -- No weight is over the largest.
+  pub weight-most : (n : ℕ) (s : State) → Checked nodes rules words → n < nodeCount nodes → weight nodes rules words n s ≤ mostWeight
   unfolding weight
   weight-most n s k h =
       let few = in-limits words (k .tokens) .few in
       let small = counts-inside nodes rules (k .table) .1 in
-      let x =
-      weighs-less (tokensOf words .count + 1) (tokensOf words .count - s .place) (nodeCount nodes) 0
-      (rank nodes rules n) (omega arith) (rank-most nodes rules (k .table) (k .well) n h) in
-      let one : tokensOf words .count + 1 ≤ 4097 = omega arith in
-      let two : nodeCount nodes + 1 ≤ 513 = omega arith in
-      let y : (tokensOf words .count + 1) * (nodeCount nodes + 1) ≤ 4097 * 513 = mul-le-mul one two in
+      let x = rank-most nodes rules (k .table) (k .well) n h in
+      let one : tokensOf words .count - s .place ≤ 4096 = omega arith in
+      let two : nodeCount nodes ≤ 512 = omega arith in
+      let y : (tokensOf words .count - s .place) * nodeCount nodes ≤ 4096 * 512 = mul-le-mul one two in
       omega arith
 
   module _ (n : ℕ) (s : State) (h : Ready nodes rules words n s) where
@@ -193,7 +201,7 @@ module _ (nodes rules words : List ℕ) where
         → Enters nodes rules (form nodes n) c
         → (u : State)
         → u .place ≡ s .place
-        → u .interval .lower ≤ s .interval .lower + 1
+        → highest (u .interval) ≤ highest (s .interval) + 31
         → Lighter (weight nodes rules words n s) c u
     unfolding weight
     entered c i enter u p l =
@@ -201,8 +209,8 @@ module _ (nodes rules words : List ℕ) where
         let b = h .place in
         let m = h .room in
         let less :
-        (tokensOf words .count - u .place) * (nodeCount nodes + 1) + rank nodes rules c
-        < (tokensOf words .count - s .place) * (nodeCount nodes + 1) + rank nodes rules n =
+        (tokensOf words .count - u .place) * nodeCount nodes + rank nodes rules c
+        < (tokensOf words .count - s .place) * nodeCount nodes + rank nodes rules n =
         rw p (omega arith) in
         record {
           less = less;
@@ -223,9 +231,9 @@ module _ (nodes rules words : List ℕ) where
         (λ (e : s .place ≡ u .place).
         let k = q (shown ends nodes rules (tokensOf words) d nothing (at-once (sym e))) in rw (← e) (omega arith))
         (λ (l : s .place < u .place).
-        weighs-less (tokensOf words .count - s .place) (tokensOf words .count - u .place) (nodeCount nodes)
+        token-lighter (tokensOf words .count - s .place) (tokensOf words .count - u .place) (nodeCount nodes)
         (rank nodes rules n) (rank nodes rules c) (omega arith)
-        (rank-most nodes rules (h .checked .table) (h .checked .well) c i))
+        (rank-most nodes rules (h .checked .table) (h .checked .well) c i) (rank-some nodes rules (h .checked .table) (h .checked .well) n))
         (eq-or-lt-of-le (onward ends nodes rules (tokensOf words) d))
 
     after :
@@ -235,11 +243,23 @@ module _ (nodes rules words : List ℕ) where
         → (May nodes rules (form nodes a) nothing → rank nodes rules c < rank nodes rules n)
         → Lighter (weight nodes rules words n s) c u
     after a c τ u i d q =
-        let low = lower-end nodes rules (tokensOf words) mostColumn (in-limits words (h .checked .tokens) .column) d in
+        let high = ends-under nodes rules (tokensOf words) mostColumn (in-limits words (h .checked .tokens) .column) (highest (s .interval)) (omega arith) d in
         let w = weight-most c u (h .checked) i in
         let m = h .room in
         let l = lighter a c τ u i d q in
         record { less = l; ready = record { checked = h .checked; node = i; place = within ends nodes rules (tokensOf words) (h .place) d; room = omega arith } }
+
+-- A node's four words, and the tokens' words, are there.
+module _ {nodes rules words : List ℕ} {n : ℕ} {s : State} (h : Ready nodes rules words n s) where
+  pub node-there : n * 4 + 3 < length nodes
+  node-there = let l = h .node in let w = counts-inside nodes rules (h .checked .table) .0 in omega arith
+
+  token-ready : ReadyToken words
+  token-ready =
+      let k = in-limits words (h .checked .tokens) in
+      let few = k .few in
+      let whole = k .whole in
+      record { whole = whole; few = omega arith }
 
 -- The loop has come from a mode, a node and a state to others: what is left to do is ready and weighs no more, and its
 -- outcome is the whole's.
@@ -287,35 +307,27 @@ module _ {nodes rules words : List ℕ} {τ₀ n₀ : ℕ} {s₀ : State} {τ n 
   turn τ' n' u x f = let l = x .less in let k = h .low in record { ready = x .ready; low = omega arith; back = λ o d. h .back o (f o d) }
 
   pub for-node : n * 4 + 3 < length nodes
-  for-node = let l = h .ready .node in let w = counts-inside nodes rules (h .ready .checked .table) .0 in omega arith
+  for-node = node-there (h .ready)
 
   -- Empty.
   pub out-empty : kind ≡ 0 → Whole (Success s)
   out-empty p = out (Success s) 0 p (record { derived = clauses.empty })
 
-  -- A terminal.
-  pub for-token : ReadyToken words
-  for-token =
-      let k = in-limits words (h .ready .checked .tokens) in
-      let few = k .few in
-      let whole = k .whole in
-      record { whole = whole; few = omega arith }
+  -- A rule, in a state i that is written anew.
+  module _ (p : kind ≡ 2) {i : State} (e : i ≡ s) where
+    rule-next : Lighter nodes rules words (weight nodes rules words n s) (standsFor rules a) i
+    rule-next =
+        rw e
+        (entered nodes rules words n s (h .ready) (standsFor rules a) (inside 2 p) (enters 2 (standsFor rules a) p enters-rule) s refl (omega arith))
 
-  pub out-token : kind ≡ 1 → (o : Outcome) → o ≡ tokenOutcome words τ a s → Whole o
-  out-token p o e = rw e (out (tokenOutcome words τ a s) 1 p (token-gives nodes rules words τ a s))
+    pub rule-less : {T : ℕ} → 2 * weight nodes rules words n₀ s₀ + 1 ≡ T → 2 * weight nodes rules words (standsFor rules a) i + 2 < T
+    rule-less q = let l = rule-next .less in let k = h .low in omega arith
 
-  -- A rule.
-  rule-next : kind ≡ 2 → Lighter nodes rules words (weight nodes rules words n s) (standsFor rules a) s
-  rule-next p = entered nodes rules words n s (h .ready) (standsFor rules a) (inside 2 p) (enters 2 (standsFor rules a) p enters-rule) s refl (omega arith)
+    pub rule-ready : ReadyRule nodes rules words a i
+    rule-ready = record { there = rule-there nodes rules (h .ready .checked .table) n (h .ready .node) p; ready = rule-next .ready }
 
-  pub rule-less : {T : ℕ} → 2 * weight nodes rules words n₀ s₀ ≡ T → kind ≡ 2 → 2 * weight nodes rules words (standsFor rules a) s + 1 < T
-  rule-less q p = let l = rule-next p .less in let k = h .low in omega arith
-
-  pub rule-ready : kind ≡ 2 → ReadyRule nodes rules words a s
-  rule-ready p = record { there = rule-there nodes rules (h .ready .checked .table) n (h .ready .node) p; ready = rule-next p .ready }
-
-  pub out-rule : kind ≡ 2 → (o : Outcome) → Gives nodes rules words τ (table.rule a) s o → Whole o
-  out-rule p o d = out o 2 p d
+    pub out-rule : (o : Outcome) → Gives nodes rules words τ (table.rule a) i o → Whole o
+    out-rule o d = out o 2 p (subst (λ (u : State). Gives nodes rules words τ (table.rule a) u o) e d)
 
   -- A position.
   position-next : kind ≡ 8 → Lighter nodes rules words (weight nodes rules words n s) a s
@@ -327,67 +339,67 @@ module _ {nodes rules words : List ℕ} {τ₀ n₀ : ℕ} {s₀ : State} {τ n 
   pub position-again : kind ≡ 8 → Walk nodes rules words τ₀ n₀ s₀ r a s
   position-again p = turn r a s (position-next p) (λ o d. rw (formed nodes n 8 p) (record { derived = clauses.position (d .derived) }))
 
-  -- The first child's call.
-  pub for-child : s .interval .lower + 1 < 2 ^ 32
-  for-child = let m = h .ready .room in omega arith
+  -- The call for what is walked first.
+  relation-in : r < relationCount
+  relation-in = relation-there nodes rules (h .ready .checked .table) n (h .ready .node)
 
-  call :
-      {i : State}
-      → i ≡ childState kind r s
-      → (kind ≡ 0 → ⊥)
-      → (kind ≡ 1 → ⊥)
-      → (kind ≡ 2 → ⊥)
-      → (kind ≡ 8 → ⊥)
-      → Lighter nodes rules words (weight nodes rules words n s) a i
-  call {i} e h0 h1 h2 h8 =
-      let x = enters-a nodes rules (nodeCount nodes) kind a b r (inside kind refl) h0 h1 h2 h8 in
-      entered nodes rules words n s (h .ready) a (x .0) (enters kind a refl (x .1)) i (ap (λ (u : State). u .place) e ∙ child-place kind r s) (rw e (child-low kind r s))
+  module _ (h0 : kind ≡ 0 → ⊥) (h2 : kind ≡ 2 → ⊥) (h8 : kind ≡ 8 → ⊥) {k : ℕ} (y : k ≡ firstNode kind n a) where
+    call : (kind ≡ 1 → ⊥) → Lighter nodes rules words (weight nodes rules words n s) a (childState kind r s)
+    call h1 =
+        let x = enters-a nodes rules (nodeCount nodes) kind a b r (inside kind refl) h0 h1 h2 h8 in
+        entered nodes rules words n s (h .ready) a (x .0) (enters kind a refl (x .1)) (childState kind r s) (child-place kind r s) (child-high kind r s relation-in)
 
-  pub call-less :
-      {i : State} {T : ℕ}
-      → 2 * weight nodes rules words n₀ s₀ ≡ T
-      → i ≡ childState kind r s
-      → (kind ≡ 0 → ⊥)
-      → (kind ≡ 1 → ⊥)
-      → (kind ≡ 2 → ⊥)
-      → (kind ≡ 8 → ⊥)
-      → 2 * weight nodes rules words a i + 1 < T
-  call-less q e h0 h1 h2 h8 = let l = call e h0 h1 h2 h8 .less in let k = h .low in omega arith
+    -- A terminal is walked in the state as it is.
+    own : kind ≡ 1 → childState kind r s ≡ s
+    unfolding childState
+    own p = rw p refl
 
-  pub call-ready :
-      {i : State}
-      → i ≡ childState kind r s
-      → (kind ≡ 0 → ⊥)
-      → (kind ≡ 1 → ⊥)
-      → (kind ≡ 2 → ⊥)
-      → (kind ≡ 8 → ⊥)
-      → Ready nodes rules words a i
-  call-ready e h0 h1 h2 h8 = call e h0 h1 h2 h8 .ready
+    by-kind : (P : ℕ → Type 0) → (kind ≡ 1 → P n) → ((kind ≡ 1 → ⊥) → P a) → P k
+    by-kind P f g = rw y (by-test (eqb kind 1) refl)
+      where
+        by-test : (t : Bool) → eqb kind 1 ≡ t → P (cond t n a)
+        by-test true e = f (eqb-true kind 1 e)
+        by-test false e = g (eqb-false kind 1 e)
 
-  -- After it: the state i that it was asked in, and the outcome x that it gave.
-  module _ {i : State} (e : i ≡ childState kind r s) {x : Outcome} (d : Gives nodes rules words τ (form nodes a) i x) where
-    abbrev Child : State → Outcome → Type 0
-    Child u o = Run ends nodes rules (tokensOf words) τ (form nodes a) (stateOf u) (outcomeOf o)
+    pub call-less : {T : ℕ} → 2 * weight nodes rules words n₀ s₀ + 1 ≡ T → cond (eqb kind 1) 0 (2 * weight nodes rules words k (childState kind r s) + 2) < T
+    call-less {T} q = rw y (by-test (eqb kind 1) refl)
+      where
+        by-test : (t : Bool) → eqb kind 1 ≡ t → cond t 0 (2 * weight nodes rules words (cond t n a) (childState kind r s) + 2) < T
+        by-test true e = omega arith
+        by-test false e = let w = call (eqb-false kind 1 e) .less in let m = h .low in omega arith
 
-    gave : (q : ℕ) → kind ≡ q → {o : Outcome} → x ≡ o → Child (childState q r s) o
+    pub call-ready : ReadyFirst nodes rules words k kind r s
+    call-ready =
+        record {
+          ready = by-kind (λ (m : ℕ). Ready nodes rules words m (childState kind r s)) (λ p. rw (own p) (h .ready)) (λ h1. call h1 .ready);
+          terminal = λ p. by-kind (λ (m : ℕ). kindOf nodes m ≡ 1) (λ q. q) (λ h1. absurd (h1 p));
+          room = let m = h .ready .room in let l = relation-in in omega arith;
+        }
+
+  -- After it: the outcome x that it gave.
+  module _ {k : ℕ} (e : k ≡ firstNode kind n a) {x : Outcome} (d : Gives nodes rules words τ (form nodes k) (childState kind r s) x) where
+    abbrev Child : ℕ → State → Outcome → Type 0
+    Child m u o = Run ends nodes rules (tokensOf words) τ (form nodes m) (stateOf u) (outcomeOf o)
+
+    gave : (q : ℕ) → kind ≡ q → {o : Outcome} → x ≡ o → Child (firstNode q n a) (childState q r s) o
     gave q p {o} z =
-        let f : i ≡ childState q r s = e ∙ ap (λ (k : ℕ). childState k r s) p in
-        subst (λ (u : State). Child u o) f (subst (λ (v : Outcome). Child i v) z (d .derived))
+        subst (λ (j : ℕ). Child (firstNode j n a) (childState j r s) o) p
+        (subst (λ (m : ℕ). Child m (childState kind r s) o) e (subst (λ (v : Outcome). Child k (childState kind r s) v) z (d .derived)))
 
     -- A kind whose child is walked in the state as it is.
-    third : kind ≡ 3 → {o : Outcome} → x ≡ o → Child s o
+    third : kind ≡ 3 → {o : Outcome} → x ≡ o → Child a s o
     unfolding childState
     third p z = gave 3 p z
 
-    fourth : kind ≡ 4 → {o : Outcome} → x ≡ o → Child s o
+    fourth : kind ≡ 4 → {o : Outcome} → x ≡ o → Child a s o
     unfolding childState
     fourth p z = gave 4 p z
 
-    fifth : kind ≡ 5 → {o : Outcome} → x ≡ o → Child s o
+    fifth : kind ≡ 5 → {o : Outcome} → x ≡ o → Child a s o
     unfolding childState
     fifth p z = gave 5 p z
 
-    sixth : kind ≡ 6 → {o : Outcome} → x ≡ o → Child s o
+    sixth : kind ≡ 6 → {o : Outcome} → x ≡ o → Child a s o
     unfolding childState
     sixth p z = gave 6 p z
 
@@ -410,20 +422,24 @@ module _ {nodes rules words : List ℕ} {τ₀ n₀ : ℕ} {s₀ : State} {τ n 
 
       pub out-failed :
           (kind ≡ 0 → ⊥)
-          → (kind ≡ 1 → ⊥)
           → (kind ≡ 2 → ⊥)
           → (kind ≡ 8 → ⊥)
           → (kind ≡ 4 → ⊥)
           → (kind ≡ 5 → ⊥)
           → (kind ≡ 6 → ⊥)
           → Whole Failure
-      out-failed h0 h1 h2 h8 h4 h5 h6 =
+      out-failed h0 h2 h8 h4 h5 h6 =
           out Failure kind refl
-          (failed nodes rules words (nodeCount nodes) τ a b r s kind (inside kind refl)
-          (record { derived = gave kind refl z }) h0 h1 h2 h8 h4 h5 h6)
+          (failed nodes rules words (nodeCount nodes) τ n a b r s kind (inside kind refl) (formed nodes n kind refl)
+          (record { derived = gave kind refl z }) h0 h2 h8 h4 h5 h6)
 
     -- The child succeeded.
     module _ (u : State) (z : x ≡ Success u) where
+      -- A terminal.
+      pub out-terminal : kind ≡ 1 → Whole (Success u)
+      unfolding childState
+      out-terminal p = h .back (Success u) (record { derived = gave 1 p z })
+
       -- A sequence: its second part is the next turn.
       sequence-next : kind ≡ 3 → Lighter nodes rules words (weight nodes rules words n s) b u
       sequence-next p =
@@ -471,9 +487,9 @@ module _ {nodes rules words : List ℕ} {τ₀ n₀ : ℕ} {s₀ : State} {τ n 
 
       pub out-align :
           (kind ≡ 0 → ⊥)
-          → (kind ≡ 1 → ⊥)
           → (kind ≡ 2 → ⊥)
           → (kind ≡ 8 → ⊥)
+          → (kind ≡ 1 → ⊥)
           → (kind ≡ 3 → ⊥)
           → (kind ≡ 4 → ⊥)
           → (kind ≡ 5 → ⊥)
@@ -482,26 +498,59 @@ module _ {nodes rules words : List ℕ} {τ₀ n₀ : ℕ} {s₀ : State} {τ n 
           → {v : State}
           → v ≡ alignedState s u
           → Whole (Success v)
-      out-align h0 h1 h2 h8 h3 h4 h5 h6 h7 {v} y =
+      out-align h0 h2 h8 h1 h3 h4 h5 h6 h7 {v} y =
           let p = is-nine rules (nodeCount nodes) kind a b r (inside kind refl) h0 h1 h2 h3 h4 h5 h6 h7 h8 in
           rw y (out (Success (alignedState s u)) 9 p (aligned p))
 
--- The walk of a first child.
-module _ {nodes rules words : List ℕ} {n : ℕ} {s : State} (h : Ready nodes rules words n s) where
-  -- From it, or from a rule, to the expression walk of the node.
-  pub node-less : {T : ℕ} → 2 * weight nodes rules words n s + 1 ≡ T → 2 * weight nodes rules words n s < T
-  node-less q = omega arith
-
-  pub first-node : n * 4 + 3 < length nodes
-  first-node = for-node (start {τ = 0} h)
+-- The walk of what is walked first.
+module _ {nodes rules words : List ℕ} {n q r : ℕ} {s : State} (h : ReadyFirst nodes rules words n q r s) where
+  pub first-there : n * 4 + 3 < length nodes
+  first-there = node-there (h .ready)
 
   pub first-token : ReadyToken words
-  first-token = for-token (start {τ = 0} h)
+  first-token = token-ready (h .ready)
 
-  pub out-first : {τ : ℕ} → kindOf nodes n ≡ 1 → (o : Outcome) → o ≡ tokenOutcome words τ (aOf nodes n) s → Gives nodes rules words τ (form nodes n) s o
-  out-first p o e = out-token (start h) p o e
+  -- The state i that the form makes.
+  module _ {i : State} (y : i ≡ childState q r s) where
+    -- To the expression walk of a node that is no terminal.
+    pub first-less : (kindOf nodes n ≡ 1 → ⊥) → {T : ℕ} → cond (eqb q 1) 0 (2 * weight nodes rules words n (childState q r s) + 2) ≡ T → 2 * weight nodes rules words n i + 1 < T
+    first-less f {T} e = rw y (by-test (eqb q 1) refl e)
+      where
+        by-test :
+            (t : Bool)
+            → eqb q 1 ≡ t
+            → cond t 0 (2 * weight nodes rules words n (childState q r s) + 2) ≡ T
+            → 2 * weight nodes rules words n (childState q r s) + 1 < T
+        by-test true p k = absurd (f (h .terminal (eqb-true q 1 p)))
+        by-test false p k = omega arith
+
+    pub first-ready : Ready nodes rules words n i
+    first-ready = rw y (h .ready)
+
+    pub out-token :
+        {τ : ℕ}
+        → kindOf nodes n ≡ 1
+        → (o : Outcome)
+        → o ≡ tokenOutcome words τ (aOf nodes n) i
+        → Gives nodes rules words τ (form nodes n) (childState q r s) o
+    out-token {τ} p o e =
+        let g : Gives nodes rules words τ (form nodes n) i (tokenOutcome words τ (aOf nodes n) i) =
+        rw (formed nodes n 1 p) (token-gives nodes rules words τ (aOf nodes n) i) in
+        let x : Gives nodes rules words τ (form nodes n) i o = rw e g in
+        subst (λ (u : State). Gives nodes rules words τ (form nodes n) u o) y x
+
+    pub out-first :
+        {τ : ℕ} {x o : Outcome}
+        → Gives nodes rules words τ (form nodes n) i x
+        → o ≡ x
+        → Gives nodes rules words τ (form nodes n) (childState q r s) o
+    out-first {τ} {x} {o} d e = rw e (subst (λ (u : State). Gives nodes rules words τ (form nodes n) u x) y d)
 
 -- The rule walk.
 module _ {nodes rules words : List ℕ} {x : ℕ} {s : State} (h : ReadyRule nodes rules words x s) where
+  -- To the expression walk of its node.
+  pub node-less : {T : ℕ} → 2 * weight nodes rules words (standsFor rules x) s + 2 ≡ T → 2 * weight nodes rules words (standsFor rules x) s + 1 < T
+  node-less q = omega arith
+
   pub out-of-rule : {τ : ℕ} (o : Outcome) → Gives nodes rules words τ (form nodes (standsFor rules x)) s o → Gives nodes rules words τ (table.rule x) s o
   out-of-rule o d = record { derived = clauses.rule (d .derived) }

@@ -4,10 +4,13 @@ use mathlib.Core.Path.{_≡_}
 use mathlib.Core.Bool.{true, false, cond}
 use mathlib.Core.List.{List}
 use lib.ListN.{length}
+use lib.Dec.{eqb}
+use Rattle.table.specs.Limits.{mostNodes, mostTokens, mostColumn}
 use Rattle.table.specs.Answer.{given}
 use Rattle.table.specs.Checks.{tableAnswer}
-use Rattle.table.specs.Form.{Form, rule, nodeCount, standsFor}
+use Rattle.table.specs.Form.{Form, rule, kindOf, nodeCount, standsFor}
 use Rattle.columns.specs.Intervals.{ends, innerEnds, fits, afterToken}
+use Rattle.columns.specs.InternalHighest.{highest}
 use Rattle.columns.specs.declared.Interval.{Interval}
 use Rattle.columns.specs.declared.State.{State}
 use Rattle.columns.specs.declared.Outcome.{Outcome}
@@ -62,9 +65,16 @@ pub record ReadyToken (words : List ℕ) : Type 0 where
   pub whole : length words % 4 ≡ 0
   pub few : length words ≤ 16384
 
--- What is left to do at a node in a state: tokens left, then rank.
+-- What is left to do at a node in a state: tokens left, then rank, which is 1 to the number of nodes.
 unfoldable pub weight : List ℕ → List ℕ → List ℕ → ℕ → State → ℕ
-weight nodes rules words n s = (tokensOf words .count - s .place) * (nodeCount nodes + 1) + rank nodes rules n
+weight nodes rules words n s = (tokensOf words .count - s .place) * nodeCount nodes + rank nodes rules n
+
+-- The largest weight, and the highest end: at every place each node is entered once, and raises both ends by at most 31.
+abbrev pub mostWeight : ℕ
+mostWeight = (mostTokens + 1) * mostNodes
+
+abbrev pub mostEnd : ℕ
+mostEnd = mostColumn + 31 * mostWeight
 
 -- The checks that a call of the walk has behind it: 3, 4, 5, 7 and 11.
 pub record Checked (nodes rules words : List ℕ) : Type 0 where
@@ -72,12 +82,22 @@ pub record Checked (nodes rules words : List ℕ) : Type 0 where
   pub well : Passes nodes rules
   pub tokens : fails11 words ≡ false
 
--- What the expression walk asks: a node and a place that are there, and room for the lower end to rise.
+-- What the expression walk asks: a node and a place that are there, and room for both ends to rise.
 pub record Ready (nodes rules words : List ℕ) (n : ℕ) (s : State) : Type 0 where
   pub checked : Checked nodes rules words
   pub node : n < nodeCount nodes
   pub place : s .place ≤ tokensOf words .count
-  pub room : s .interval .lower + weight nodes rules words n s ≤ 2 ^ 25
+  pub room : highest (s .interval) + 31 * weight nodes rules words n s ≤ mostEnd
+
+-- The node that is walked first in a node n of a kind: a terminal's own, else its first child a.
+abbrev pub firstNode : ℕ → ℕ → ℕ → ℕ
+firstNode q n a = cond (eqb q 1) n a
+
+-- What its walk asks: in a terminal it is one itself.
+pub record ReadyFirst (nodes rules words : List ℕ) (n q r : ℕ) (s : State) : Type 0 where
+  pub ready : Ready nodes rules words n (childState q r s)
+  pub terminal : q ≡ 1 → kindOf nodes n ≡ 1
+  pub room : highest (s .interval) + r < 2 ^ 32
 
 -- What the rule walk asks.
 pub record ReadyRule (nodes rules words : List ℕ) (x : ℕ) (s : State) : Type 0 where

@@ -4,26 +4,19 @@ use columns::Outcome;
 use columns::State;
 use columns::Upper;
 use intervals::after_token;
+use intervals::amount;
 use intervals::fits;
 use table::kinds;
 use table::relations;
 ghost use mathlib.Core.Path.{_≡_};
 ghost use Prim.Native.Nat.{_+_, _<_, _^_};
-ghost use Rattle.columns.specs.Intervals.{innerEnds};
+ghost use Rattle.columns.specs.Intervals.{plus, innerEnds};
+ghost use Rattle.columns.specs.InternalHighest.{finite, highest};
 ghost use Rattle.interpreter.specs.InternalWalk.{childState, ReadyToken, tokenOutcome, columnOutcome};
 
-// The state in which the first child of a node is walked, written anew.
-pub(crate) fn child(kind: u16, r: u16, s: State) -> State
-    requires { ⌜ s .interval .lower + 1 < 2 ^ 32 ⌝ }
-    ensures { λ x. ⌜ x ≡ childState kind r s ⌝ }
-{
-    let inside = entered(kind, r, s);
-    anew(inside)
-}
-
-// That state as the form makes it: an indent's in its inner set, an align's with the flag set.
-fn entered(kind: u16, r: u16, s: State) -> State
-    requires { ⌜ s .interval .lower + 1 < 2 ^ 32 ⌝ }
+// The state in which the first child of a node is walked: an indent's in its inner set, an align's with the flag set.
+pub(crate) fn entered(kind: u16, r: u16, s: State) -> State
+    requires { ⌜ highest (s .interval) + r < 2 ^ 32 ⌝ }
     ensures { λ x. ⌜ x ≡ childState kind r s ⌝ }
 {
     let c = s.interval;
@@ -47,38 +40,56 @@ fn entered(kind: u16, r: u16, s: State) -> State
 
 // The inner set on the way in.
 fn inner(r: u16, c: Interval) -> Interval
-    requires { ⌜ c .lower + 1 < 2 ^ 32 ⌝ }
+    requires { ⌜ highest c + r < 2 ^ 32 ⌝ }
     ensures { λ x. ⌜ x ≡ innerEnds r c ⌝ }
 {
     let l = c.lower;
+    let h = c.upper;
     match r {
         relations::EQUAL => c,
         relations::GREATER => Interval {
-            lower: raised(l),
+            lower: raised(l, 1),
             upper: Upper::Endless,
         },
         relations::AT_LEAST => Interval {
             lower: l,
             upper: Upper::Endless,
         },
-        _ => Interval {
+        relations::ANY => Interval {
             lower: 0,
             upper: Upper::Endless,
         },
+        _ => {
+            let d = amount(r);
+            let lower = raised(l, d);
+            let upper = more(h, d);
+            Interval { lower, upper }
+        }
     }
 }
 
-// A column raised by 1.
-fn raised(l: u32) -> u32
-    requires { ⌜ l + 1 < 2 ^ 32 ⌝ }
-    ensures { λ x. ⌜ x ≡ l + 1 ⌝ }
+// An upper end plus an amount; without end stays.
+fn more(h: Upper, d: u32) -> Upper
+    requires { ⌜ finite h + d < 2 ^ 32 ⌝ }
+    ensures { λ x. ⌜ x ≡ plus h d ⌝ }
 {
-    l + 1
+    match h {
+        Upper::Endless => h,
+        Upper::At(x) => Upper::At(raised(x, d)),
+    }
 }
 
-// The same state, its upper end written anew: so the compiler stores as one what the child's walk loads as one, and the
-// load need not wait.
-fn anew(s: State) -> State
+// A column raised by an amount.
+fn raised(l: u32, d: u32) -> u32
+    requires { ⌜ l + d < 2 ^ 32 ⌝ }
+    ensures { λ x. ⌜ x ≡ l + d ⌝ }
+{
+    l + d
+}
+
+// The same state, its upper end written anew: so the compiler stores as one what a walk loads as one, and the load need not
+// wait.
+pub(crate) fn anew(s: State) -> State
     ensures { λ x. ⌜ x ≡ s ⌝ }
 {
     let c = s.interval;
@@ -100,6 +111,16 @@ fn anew(s: State) -> State
             },
             flag: s.flag,
         },
+    }
+}
+
+// The same outcome, its state written anew: what comes back from a walk is then in registers.
+pub(crate) fn fresh(x: Outcome) -> Outcome
+    ensures { λ y. ⌜ y ≡ x ⌝ }
+{
+    match x {
+        Outcome::Failure => Outcome::Failure,
+        Outcome::Success(u) => Outcome::Success(anew(u)),
     }
 }
 

@@ -62,7 +62,14 @@ step-below (suc (suc zero)) c i d h e l = absurd (omega arith)
 step-below (suc (suc (suc zero))) c i d h e l = absurd (omega arith)
 step-below (suc (suc (suc (suc k)))) c i d h e l = rw (lt-leb (c .lower + suc k) i (omega arith)) refl
 
--- What a step leaves on the way out.
+-- What a step makes on the way in, and what it leaves on the way out.
+pub step-inner : (r : ℕ) (c : Interval) (d : ℕ) → any < r → d ≡ amount r → to (c .lower + d) (plus (c .upper) d) ≡ innerEnds r c
+step-inner zero c d h e = absurd (omega arith)
+step-inner (suc zero) c d h e = absurd (omega arith)
+step-inner (suc (suc zero)) c d h e = absurd (omega arith)
+step-inner (suc (suc (suc zero))) c d h e = absurd (omega arith)
+step-inner (suc (suc (suc (suc k)))) c d h e = let q : d ≡ suc k = omega arith in rw q refl
+
 pub step-outer : (r : ℕ) (c : Interval) (d : ℕ) → any < r → d ≡ amount r → to (c .lower - d) (less (c .upper) d) ≡ outerEnds r c
 step-outer zero c d h e = absurd (omega arith)
 step-outer (suc zero) c d h e = absurd (omega arith)

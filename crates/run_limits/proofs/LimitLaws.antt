@@ -8,6 +8,7 @@ use native.Mathlib.Omega.{arith}
 use lib.ListN.{length}
 use lib.Dec.{leb, ltb}
 use borrow.Author.Tests.{lt-ltb, le-ltb, lt-leb, le-leb}
+use Rattle.table.specs.Checks.{isRelation}
 use Rattle.table.proofs.Orders.{le-or-lt}
 use Rattle.columns.specs.Intervals.{isUpTo}
 use Rattle.columns.specs.declared.Start.{Start}
@@ -46,16 +47,16 @@ module _ (nodes words : List ℕ) (start : Start) where
         {x : Bool}
         (e : x ≡ (not (isUpTo (start .interval .lower) (start .interval .upper)) || ltb 65535 (start .interval .lower) || finiteOver (start .interval .upper)))
       where
-        wrong-rest : (x || not (ltb (start .mode) 4)) ≡ fails12 nodes words start
+        wrong-rest : (x || not (isRelation (start .mode))) ≡ fails12 nodes words start
         unfolding fails12
         wrong-rest =
             rw (lt-ltb (start .node) (length nodes / 4) there, le-ltb (length words / 4) (start .place) reached)
-            (ap (λ (b : Bool). b || not (ltb (start .mode) 4)) e
+            (ap (λ (b : Bool). b || not (isRelation (start .mode))) e
             ∙ three-of-four (not (isUpTo (start .interval .lower) (start .interval .upper)))
-            (ltb 65535 (start .interval .lower)) (finiteOver (start .interval .upper)) (not (ltb (start .mode) 4)))
+            (ltb 65535 (start .interval .lower)) (finiteOver (start .interval .upper)) (not (isRelation (start .mode))))
 
         pub wrong-ends : x ≡ true → true ≡ fails12 nodes words start
-        wrong-ends t = sym (ap (λ (b : Bool). b || not (ltb (start .mode) 4)) t) ∙ wrong-rest
+        wrong-ends t = sym (ap (λ (b : Bool). b || not (isRelation (start .mode))) t) ∙ wrong-rest
 
-        pub mode-left : x ≡ false → not (ltb (start .mode) 4) ≡ fails12 nodes words start
-        mode-left t = sym (ap (λ (b : Bool). b || not (ltb (start .mode) 4)) t) ∙ wrong-rest
+        pub mode-left : x ≡ false → not (isRelation (start .mode)) ≡ fails12 nodes words start
+        mode-left t = sym (ap (λ (b : Bool). b || not (isRelation (start .mode))) t) ∙ wrong-rest

@@ -13,30 +13,40 @@ use Rattle.interpreter.proofs.walk.rule.Reads as rule
 use Rattle.interpreter.proofs.walk.rule.Kinds as rule-kinds
 use Rattle.interpreter.proofs.walk.+expression+first+rule.Lts-rule as rule-lts
 use Rattle.after_child.proofs.aligned.Reads as aligned-reads
-use Rattle.interpreter.proofs.states.child.Reads as child-reads
+use Rattle.interpreter.proofs.states.anew.Reads as anew-reads
+use Rattle.interpreter.proofs.states.entered.Reads as entered-reads
+use Rattle.interpreter.proofs.states.fresh.Reads as fresh-reads
+use Rattle.interpreter.proofs.walk.first_node.Reads as first-node-reads
 use Rattle.after_child.proofs.left.Reads as left-reads
 use Rattle.interpreter.proofs.states.token.Reads as token-reads
 use Rattle.interpreter.proofs.walk.+expression+first+rule.{statement}
 use Rattle.interpreter.proofs.walk.+expression+first+rule.Tie.{close}
+use mathlib.Core.Path.{_∙_}
+use mathlib.Core.Bool.{cond}
+use lib.Dec.{eqb}
 use borrow.Author.Needs.{needs}
 use native.Mathlib.Omega.{arith}
 use Rattle.table.specs.Form.{standsFor}
-use Rattle.interpreter.specs.InternalWalk.{weight}
-use Rattle.interpreter.proofs.WalkLaws.{Walk, start, for-node, out-empty, for-token, out-token, rule-less}
-use Rattle.interpreter.proofs.WalkLaws.{rule-ready, out-rule, position-less, position-again, for-child}
-use Rattle.interpreter.proofs.WalkLaws.{call-less, call-ready, choice-less, choice-again, out-not}
-use Rattle.interpreter.proofs.WalkLaws.{out-repeat, out-failed, sequence-less, sequence-again, out-choice}
-use Rattle.interpreter.proofs.WalkLaws.{out-not-fails, repeat-less, repeat-again, out-indent, out-align}
-use Rattle.interpreter.proofs.WalkLaws.{first-node, first-token, out-first, node-less, out-of-rule}
+use Rattle.interpreter.specs.InternalWalk.{childState, weight}
+use Rattle.interpreter.proofs.WalkLaws.{Walk, start, for-node, out-empty, rule-less, rule-ready, out-rule}
+use Rattle.interpreter.proofs.WalkLaws.{position-less, position-again, call-less, call-ready, choice-less}
+use Rattle.interpreter.proofs.WalkLaws.{choice-again, out-not, out-repeat, out-failed, out-terminal}
+use Rattle.interpreter.proofs.WalkLaws.{sequence-less, sequence-again, out-choice, out-not-fails, repeat-less}
+use Rattle.interpreter.proofs.WalkLaws.{repeat-again, out-indent, out-align, first-there, first-token, first-less}
+use Rattle.interpreter.proofs.WalkLaws.{first-ready, out-token, out-first, node-less, out-of-rule}
 
 abbrev μ-expression : Measures 3 expression-kinds.ps ℕ
-μ-expression κs a = 2 * weight (a .0 .now) (a .1 .0 .now) (a .1 .1 .0 .now) (a .1 .1 .1 .1 .0) (a .1 .1 .1 .1 .1 .0)
+μ-expression κs a = 2 * weight (a .0 .now) (a .1 .0 .now) (a .1 .1 .0 .now) (a .1 .1 .1 .1 .0) (a .1 .1 .1 .1 .1 .0) + 1
 
+-- A terminal is walked at its own node, which weighs no less, but no call follows.
 abbrev μ-first : Measures 3 first-kinds.ps ℕ
-μ-first κs a = 2 * weight (a .0 .now) (a .1 .0 .now) (a .1 .1 .0 .now) (a .1 .1 .1 .1 .0) (a .1 .1 .1 .1 .1 .0) + 1
+μ-first κs a =
+    let kind = a .1 .1 .1 .1 .1 .0 in
+    cond (eqb kind 1) 0
+    (2 * weight (a .0 .now) (a .1 .0 .now) (a .1 .1 .0 .now) (a .1 .1 .1 .1 .0) (childState kind (a .1 .1 .1 .1 .1 .1 .0) (a .1 .1 .1 .1 .1 .1 .1 .0)) + 2)
 
 abbrev μ-rule : Measures 3 rule-kinds.ps ℕ
-μ-rule κs a = 2 * weight (a .0 .now) (a .1 .0 .now) (a .1 .1 .0 .now) (standsFor (a .1 .0 .now) (a .1 .1 .1 .1 .0)) (a .1 .1 .1 .1 .1 .0) + 1
+μ-rule κs a = 2 * weight (a .0 .now) (a .1 .0 .now) (a .1 .1 .0 .now) (standsFor (a .1 .0 .now) (a .1 .1 .1 .1 .0)) (a .1 .1 .1 .1 .1 .0) + 2
 
 abbrev expression-at : ℕ → In 3 expression-kinds.ps
 expression-at t =
@@ -58,15 +68,15 @@ rule-at t = and 3 rule-kinds.ps (is 3 rule-kinds.ps μ-rule t) rule.Pre
 abbrev rule-below : ℕ → In 3 rule-kinds.ps
 rule-below t = and 3 rule-kinds.ps (falls 3 rule-kinds.ps _<_ μ-rule t) rule.Pre
 
--- What a call of each callee asks and gives: those of the expression walk, and those of a first child's.
+-- What a call of each callee asks and gives: those of the expression walk, and those of the walk of what comes first.
 abbrev claims : ℕ → expression-lts.Claims
 claims t = (
-  token-reads.Asked,
-  token-reads.Learnt,
+  anew-reads.Asked,
+  anew-reads.Learnt,
   rule-below t,
   rule.Post,
-  child-reads.Asked,
-  child-reads.Learnt,
+  first-node-reads.Asked,
+  first-node-reads.Learnt,
   first-below t,
   first.Post,
   left-reads.Asked,
@@ -76,7 +86,18 @@ claims t = (
 )
 
 abbrev first-claims : ℕ → first-lts.Claims
-first-claims t = (token-reads.Asked, token-reads.Learnt, expression-below t, expression.Post)
+first-claims t = (
+  entered-reads.Asked,
+  entered-reads.Learnt,
+  token-reads.Asked,
+  token-reads.Learnt,
+  anew-reads.Asked,
+  anew-reads.Learnt,
+  expression-below t,
+  expression.Post,
+  fresh-reads.Asked,
+  fresh-reads.Learnt,
+)
 
 abbrev expression-Inv-loop : expression-lts.InvT-loop
 expression-Inv-loop nodes rules tokens mode₀ node₀ s₀ mode node s = Walk nodes rules tokens mode₀ node₀ s₀ mode node s
@@ -140,118 +161,118 @@ module _ (t : ℕ) where
   expression-returns : At expression-lts.Need-returns
   expression-returns c = out-empty (turn-at (c .before) .loop .inv) (c .match .keys1)
 
-  expression-token-requires : At expression-lts.Need-token-requires
-  expression-token-requires c κs = for-token (turn-at (c .before) .loop .inv)
-
-  expression-returns-2 : At expression-lts.Need-returns-2
-  expression-returns-2 c = out-token (turn-at (c .before .before) .loop .inv) (c .before .match .keys2) _ (c .token .ensures)
-
   expression-rule-requires : At expression-lts.Need-rule-requires
   expression-rule-requires c κs =
-      let turn = turn-at (c .before) in
+      let turn = turn-at (c .before .before) in
       let start = turn .before .before .before .before in
-      (rule-less (turn .loop .inv) (start .pre .0) (c .match .keys3), rule-ready (turn .loop .inv) (c .match .keys3))
+      let key = c .before .match .keys2 in
+      (rule-less (turn .loop .inv) key (c .anew .ensures) (start .pre .0), rule-ready (turn .loop .inv) key (c .anew .ensures))
 
-  expression-returns-3 : At expression-lts.Need-returns-3
-  expression-returns-3 c = out-rule (turn-at (c .before .before) .loop .inv) (c .before .match .keys3) _ (c .rule .ensures)
+  expression-returns-2 : At expression-lts.Need-returns-2
+  expression-returns-2 c =
+      out-rule (turn-at (c .before .before .before) .loop .inv) (c .before .before .match .keys2) (c .before .anew .ensures) _ (c .rule .ensures)
 
   expression-loop-less : At expression-lts.Need-loop-less
-  expression-loop-less c = position-less (turn-at (c .before) .loop .inv) (c .match .keys4)
+  expression-loop-less c = position-less (turn-at (c .before) .loop .inv) (c .match .keys3)
 
   expression-loop-again : At expression-lts.Need-loop-again
-  expression-loop-again c = position-again (turn-at (c .before) .loop .inv) (c .match .keys4)
-
-  expression-child-requires : At expression-lts.Need-child-requires
-  expression-child-requires c κs = for-child (turn-at (c .before) .loop .inv)
+  expression-loop-again c = position-again (turn-at (c .before) .loop .inv) (c .match .keys3)
 
   expression-first-requires : At expression-lts.Need-first-requires
   expression-first-requires c κs =
       let turn = turn-at (c .before .before) in
       let start = turn .before .before .before .before in
       let rest = c .before .match .rest in (
-        call-less (turn .loop .inv) (start .pre .0) (c .child .ensures) (rest .0 .0 .0 .1) (rest .0 .0 .1) (rest .0 .1) (rest .1),
-        call-ready (turn .loop .inv) (c .child .ensures) (rest .0 .0 .0 .1) (rest .0 .0 .1) (rest .0 .1) (rest .1),
+        call-less (turn .loop .inv) (rest .0 .0 .1) (rest .0 .1) (rest .1) (c .first-node .ensures) (start .pre .0),
+        call-ready (turn .loop .inv) (rest .0 .0 .1) (rest .0 .1) (rest .1) (c .first-node .ensures),
       )
 
   expression-loop-less-2 : At expression-lts.Need-loop-less-2
   expression-loop-less-2 c =
       let first = c .before .before .before in
-      choice-less (turn-of first .loop .inv) (first .before .child .ensures) (first .first .ensures) (c .before .enum-told .given .1)
+      choice-less (turn-of first .loop .inv) (first .before .first-node .ensures) (first .first .ensures) (c .before .enum-told .given .1)
       (c .match3 .keys1)
 
   expression-loop-again-2 : At expression-lts.Need-loop-again-2
   expression-loop-again-2 c =
       let first = c .before .before .before in
-      choice-again (turn-of first .loop .inv) (first .before .child .ensures) (first .first .ensures) (c .before .enum-told .given .1)
+      choice-again (turn-of first .loop .inv) (first .before .first-node .ensures) (first .first .ensures) (c .before .enum-told .given .1)
       (c .match3 .keys1)
+
+  expression-returns-3 : At expression-lts.Need-returns-3
+  expression-returns-3 c =
+      let first = c .before .before .before in
+      out-not (turn-of first .loop .inv) (first .before .first-node .ensures) (first .first .ensures) (c .before .enum-told .given .1)
+      (c .match3 .keys2)
 
   expression-returns-4 : At expression-lts.Need-returns-4
   expression-returns-4 c =
       let first = c .before .before .before in
-      out-not (turn-of first .loop .inv) (first .before .child .ensures) (first .first .ensures) (c .before .enum-told .given .1)
-      (c .match3 .keys2)
+      out-repeat (turn-of first .loop .inv) (first .before .first-node .ensures) (first .first .ensures) (c .before .enum-told .given .1)
+      (c .match3 .keys3)
 
   expression-returns-5 : At expression-lts.Need-returns-5
   expression-returns-5 c =
       let first = c .before .before .before in
-      out-repeat (turn-of first .loop .inv) (first .before .child .ensures) (first .first .ensures) (c .before .enum-told .given .1)
-      (c .match3 .keys3)
+      let rest = first .before .before .match .rest in
+      out-failed (turn-of first .loop .inv) (first .before .first-node .ensures) (first .first .ensures) (c .before .enum-told .given .1)
+      (rest .0 .0 .1) (rest .0 .1) (rest .1) (c .match3 .rest .0 .0 .1) (c .match3 .rest .0 .1) (c .match3 .rest .1)
 
   expression-returns-6 : At expression-lts.Need-returns-6
   expression-returns-6 c =
-      let first = c .before .before .before in
-      let rest = first .before .before .match .rest in
-      out-failed (turn-of first .loop .inv) (first .before .child .ensures) (first .first .ensures) (c .before .enum-told .given .1)
-      (rest .0 .0 .0 .1) (rest .0 .0 .1) (rest .0 .1) (rest .1) (c .match3 .rest .0 .0 .1) (c .match3 .rest .0 .1) (c .match3 .rest .1)
+      let x = c .before .before .x in
+      let first = c .before .before .before .before in
+      out-terminal (turn-of first .loop .inv) (first .before .first-node .ensures) (first .first .ensures) (x .given .0 .0) (x .given .1)
+      (c .match4 .keys1)
 
   expression-loop-less-3 : At expression-lts.Need-loop-less-3
   expression-loop-less-3 c =
       let x = c .before .before .x in
       let first = c .before .before .before .before in
-      sequence-less (turn-of first .loop .inv) (first .before .child .ensures) (first .first .ensures) (x .given .0 .0) (x .given .1)
-      (c .match4 .keys1)
+      sequence-less (turn-of first .loop .inv) (first .before .first-node .ensures) (first .first .ensures) (x .given .0 .0) (x .given .1)
+      (c .match4 .keys2)
 
   expression-loop-again-3 : At expression-lts.Need-loop-again-3
   expression-loop-again-3 c =
       let x = c .before .before .x in
       let first = c .before .before .before .before in
-      sequence-again (turn-of first .loop .inv) (first .before .child .ensures) (first .first .ensures) (x .given .0 .0) (x .given .1)
-      (c .match4 .keys1)
+      sequence-again (turn-of first .loop .inv) (first .before .first-node .ensures) (first .first .ensures) (x .given .0 .0) (x .given .1)
+      (c .match4 .keys2)
 
   expression-returns-7 : At expression-lts.Need-returns-7
   expression-returns-7 c =
       let x = c .before .before .x in
       let first = c .before .before .before .before in
-      out-choice (turn-of first .loop .inv) (first .before .child .ensures) (first .first .ensures) (x .given .0 .0) (x .given .1)
-      (c .match4 .keys2)
+      out-choice (turn-of first .loop .inv) (first .before .first-node .ensures) (first .first .ensures) (x .given .0 .0) (x .given .1)
+      (c .match4 .keys3)
 
   expression-returns-8 : At expression-lts.Need-returns-8
   expression-returns-8 c =
       let x = c .before .before .x in
       let first = c .before .before .before .before in
-      out-not-fails (turn-of first .loop .inv) (first .before .child .ensures) (first .first .ensures) (x .given .0 .0) (x .given .1)
-      (c .match4 .keys3)
+      out-not-fails (turn-of first .loop .inv) (first .before .first-node .ensures) (first .first .ensures) (x .given .0 .0) (x .given .1)
+      (c .match4 .keys4)
 
   expression-loop-less-4 : At expression-lts.Need-loop-less-4
   expression-loop-less-4 c =
       let x = c .before .before .x in
       let first = c .before .before .before .before in
-      repeat-less (turn-of first .loop .inv) (first .before .child .ensures) (first .first .ensures) (x .given .0 .0) (x .given .1)
-      (c .match4 .keys4)
+      repeat-less (turn-of first .loop .inv) (first .before .first-node .ensures) (first .first .ensures) (x .given .0 .0) (x .given .1)
+      (c .match4 .keys5)
 
   expression-loop-again-4 : At expression-lts.Need-loop-again-4
   expression-loop-again-4 c =
       let x = c .before .before .x in
       let first = c .before .before .before .before in
-      repeat-again (turn-of first .loop .inv) (first .before .child .ensures) (first .first .ensures) (x .given .0 .0) (x .given .1)
-      (c .match4 .keys4)
+      repeat-again (turn-of first .loop .inv) (first .before .first-node .ensures) (first .first .ensures) (x .given .0 .0) (x .given .1)
+      (c .match4 .keys5)
 
   expression-returns-9 : At expression-lts.Need-returns-9
   expression-returns-9 c =
       let ended = c .before .before in
       let first = ended .before .before .before in
-      out-indent (turn-of first .loop .inv) (first .before .child .ensures) (first .first .ensures) (ended .before .x .given .0 .0)
-      (ended .before .x .given .1) (c .before .match4 .keys5) (c .left .ensures)
+      out-indent (turn-of first .loop .inv) (first .before .first-node .ensures) (first .first .ensures) (ended .before .x .given .0 .0)
+      (ended .before .x .given .1) (c .before .match4 .keys6) (c .left .ensures)
 
   expression-returns-10 : At expression-lts.Need-returns-10
   expression-returns-10 c =
@@ -259,48 +280,60 @@ module _ (t : ℕ) where
       let first = ended .before .before .before in
       let rest = first .before .before .match .rest in
       let rest4 = c .before .match4 .rest in
-      out-align (turn-of first .loop .inv) (first .before .child .ensures) (first .first .ensures) (ended .before .x .given .0 .0)
-      (ended .before .x .given .1) (rest .0 .0 .0 .1) (rest .0 .0 .1) (rest .0 .1) (rest .1) (rest4 .0 .0 .0 .0 .1) (rest4 .0 .0 .0 .1)
+      out-align (turn-of first .loop .inv) (first .before .first-node .ensures) (first .first .ensures) (ended .before .x .given .0 .0)
+      (ended .before .x .given .1) (rest .0 .0 .1) (rest .0 .1) (rest .1) (rest4 .0 .0 .0 .0 .0 .1) (rest4 .0 .0 .0 .0 .1) (rest4 .0 .0 .0 .1)
       (rest4 .0 .0 .1) (rest4 .0 .1) (rest4 .1) (c .aligned .ensures)
 
-first-mul-at : (t : ℕ) → first-lts.Need-mul-at (first-claims t) (first-at t) first.Post
-first-mul-at t c = omega (arith, first-node (c .before .before .before .pre .1))
+-- The needs of the walk of what comes first.
+module _ (t : ℕ) where
+  abbrev In-first : (first-lts.Claims → In 3 first-kinds.ps → Out 3 first-kinds.ps first-kinds.r → Type 0) → Type 0
+  In-first place = place (first-claims t) (first-at t) first.Post
 
-first-mul-if1 : (t : ℕ) → first-lts.Need-mul-if1 (first-claims t) (first-at t) first.Post
-first-mul-if1 t c = omega (arith, first-node (c .before .before .before .pre .1))
+  first-mul-at : In-first first-lts.Need-mul-at
+  first-mul-at c = omega (arith, first-there (c .before .before .before .pre .1))
 
-first-shared-slice-read-if1 : (t : ℕ) → first-lts.Need-shared-slice-read-if1 (first-claims t) (first-at t) first.Post
-first-shared-slice-read-if1 t c = omega (arith, first-node (c .before .before .before .before .pre .1))
+  first-entered-requires : In-first first-lts.Need-entered-requires
+  first-entered-requires c κs = c .before .before .before .pre .1 .room
 
-first-add-token : (t : ℕ) → first-lts.Need-add-token (first-claims t) (first-at t) first.Post
-first-add-token t c =
-    let start = c .before .before .before .before .before in
-    omega (arith, first-node (start .pre .1))
+  first-mul-if1 : In-first first-lts.Need-mul-if1
+  first-mul-if1 c = omega (arith, first-there (c .before .before .before .before .pre .1))
 
-first-mul-token : (t : ℕ) → first-lts.Need-mul-token (first-claims t) (first-at t) first.Post
-first-mul-token t c =
-    let start = c .before .before .before .before .before in
-    omega (arith, first-node (start .pre .1))
+  -- Where the node's kind is read, and the start from there.
+  abbrev begun : In-first first-lts.After-shared-slice-known4 → In-first first-lts.Start
+  begun c = c .before .before .before .before .before
 
-first-shared-slice-read-token : (t : ℕ) → first-lts.Need-shared-slice-read-token (first-claims t) (first-at t) first.Post
-first-shared-slice-read-token t c =
-    let start = c .before .before .before .before .before .before in
-    omega (arith, first-node (start .pre .1))
+  first-shared-slice-read-if1 : In-first first-lts.Need-shared-slice-read-if1
+  first-shared-slice-read-if1 c = omega (arith, first-there (begun c .pre .1))
 
-first-token-requires : (t : ℕ) → first-lts.Need-token-requires (first-claims t) (first-at t) first.Post
-first-token-requires t c κs =
-    let start = c .before .before .before .before .before .before in
-    first-token (start .pre .1)
+  first-add-token : In-first first-lts.Need-add-token
+  first-add-token c = omega (arith, first-there (begun (c .before) .pre .1))
 
-first-returns : (t : ℕ) → first-lts.Need-returns (first-claims t) (first-at t) first.Post
-first-returns t c =
-    let start = c .before .before .before .before .before .before .before in
-    out-first (start .pre .1) (c .before .before .if1 .taken) _ (c .token .ensures)
+  first-mul-token : In-first first-lts.Need-mul-token
+  first-mul-token c = omega (arith, first-there (begun (c .before) .pre .1))
 
-first-expression-requires : (t : ℕ) → first-lts.Need-expression-requires (first-claims t) (first-at t) first.Post
-first-expression-requires t c κs =
-    let start = c .before .before .before .before .before in
-    (node-less (start .pre .1) (start .pre .0), start .pre .1)
+  first-shared-slice-read-token : In-first first-lts.Need-shared-slice-read-token
+  first-shared-slice-read-token c = omega (arith, first-there (begun (c .before .before) .pre .1))
+
+  first-token-requires : In-first first-lts.Need-token-requires
+  first-token-requires c κs = first-token (begun (c .before .before) .pre .1)
+
+  first-returns : In-first first-lts.Need-returns
+  first-returns c =
+      let read = c .before .before .before in
+      out-token (begun read .pre .1) (read .before .entered .ensures) (c .before .before .if1 .taken) _ (c .token .ensures)
+
+  first-expression-requires : In-first first-lts.Need-expression-requires
+  first-expression-requires c κs =
+      let read = c .before .before in
+      let start = begun read in
+      let made = c .anew .ensures ∙ read .before .entered .ensures in
+      (first-less (start .pre .1) made (c .before .if1 .left) (start .pre .0), first-ready (start .pre .1) made)
+
+  first-returns-2 : In-first first-lts.Need-returns-2
+  first-returns-2 c =
+      let walked = c .before in
+      let read = walked .before .before .before in
+      out-first (begun read .pre .1) (walked .before .anew .ensures ∙ read .before .entered .ensures) (walked .expression .ensures) (c .fresh .ensures)
 
 rule-shared-slice-read-node : (t : ℕ) → rule-lts.Need-shared-slice-read-node (
   expression-below t,
@@ -314,7 +347,7 @@ rule-expression-requires : (t : ℕ) → rule-lts.Need-expression-requires (
 ) (rule-at t) rule.Post
 rule-expression-requires t c κs =
     let start = c .before .before .before .before in
-    (node-less (start .pre .1 .ready) (start .pre .0), start .pre .1 .ready)
+    (node-less (start .pre .1) (start .pre .0), start .pre .1 .ready)
 
 rule-returns :
     (t : ℕ) → rule-lts.Need-returns (expression-below t, expression.Post) (rule-at t) rule.Post
@@ -331,17 +364,18 @@ pub +expression+first+rule-spec : {M : Type 1} → statement M
     (expression-shared-slice-read-kind t) (expression-add-a t) (expression-mul-a t)
     (expression-shared-slice-read-a t) (expression-add-b t) (expression-mul-b t)
     (expression-shared-slice-read-b t) (expression-add-r t) (expression-mul-r t)
-    (expression-shared-slice-read-r t) (expression-returns t) (expression-token-requires t)
-    (expression-returns-2 t) (expression-rule-requires t) (expression-returns-3 t) (expression-loop-less t)
-    (expression-loop-again t) (expression-child-requires t) (expression-first-requires t) (λ c. search needs)
-    (expression-loop-less-2 t) (expression-loop-again-2 t) (expression-returns-4 t) (expression-returns-5 t)
-    (expression-returns-6 t) (λ c. search needs) (expression-loop-less-3 t) (expression-loop-again-3 t)
-    (expression-returns-7 t) (expression-returns-8 t) (expression-loop-less-4 t) (expression-loop-again-4 t)
-    (λ c κs. search needs) (expression-returns-9 t) (λ c κs. search needs) (expression-returns-10 t))
+    (expression-shared-slice-read-r t) (expression-returns t) (λ c κs. search needs) (expression-rule-requires t)
+    (expression-returns-2 t) (expression-loop-less t) (expression-loop-again t) (λ c κs. search needs)
+    (expression-first-requires t) (λ c. search needs) (expression-loop-less-2 t) (expression-loop-again-2 t)
+    (expression-returns-3 t) (expression-returns-4 t) (expression-returns-5 t) (λ c. search needs)
+    (expression-returns-6 t) (expression-loop-less-3 t) (expression-loop-again-3 t) (expression-returns-7 t)
+    (expression-returns-8 t) (expression-loop-less-4 t) (expression-loop-again-4 t) (λ c κs. search needs)
+    (expression-returns-9 t) (λ c κs. search needs) (expression-returns-10 t))
     (λ t.
-    first-lts.spec (first-claims t) (first-at t) first.Post (first-mul-at t) (first-mul-if1 t)
-    (first-shared-slice-read-if1 t) (first-add-token t) (first-mul-token t) (first-shared-slice-read-token t)
-    (first-token-requires t) (first-returns t) (first-expression-requires t) (λ c. c .expression .ensures))
+    first-lts.spec (first-claims t) (first-at t) first.Post (first-mul-at t) (first-entered-requires t)
+    (first-mul-if1 t) (first-shared-slice-read-if1 t) (first-add-token t) (first-mul-token t)
+    (first-shared-slice-read-token t) (first-token-requires t) (first-returns t) (λ c κs. search needs)
+    (first-expression-requires t) (λ c κs. search needs) (first-returns-2 t))
     (λ t.
     rule-lts.spec (expression-below t, expression.Post) (rule-at t) rule.Post (λ c. search needs)
     (rule-shared-slice-read-node t) (rule-expression-requires t) (rule-returns t))
