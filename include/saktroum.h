@@ -50,9 +50,9 @@ enum saktroum_refusal {
     SAKTROUM_REFUSED_SPELLING = 2,    /* a keyword or name breaks its rules */
     SAKTROUM_REFUSED_COUNTS = 3,      /* node words no multiple of 4, node or rule count outside the limits (1 to 512
                                          nodes, 0 to 128 rules) */
-    SAKTROUM_REFUSED_NODE = 4,        /* kind over 9, child not lower, no such rule, terminal over 255, relation over 3,
+    SAKTROUM_REFUSED_NODE = 4,        /* kind over 9, child not lower, no such rule, terminal over 255, relation over 34,
                                          unused word not 0 */
-    SAKTROUM_REFUSED_RULE = 5,        /* a rule's node or the file's start node not in the table, the file's mode over 3 */
+    SAKTROUM_REFUSED_RULE = 5,        /* a rule's node or the file's start node not in the table, the file's mode over 34 */
     SAKTROUM_REFUSED_ROOM = 6,        /* a lent slice too short for the table or the rules */
     SAKTROUM_REFUSED_ILL_FORMED = 7,  /* not well formed; the node is the lowest such one */
     SAKTROUM_REFUSED_REPORT = 8,      /* report over 65,535 bytes, or a refused byte */
@@ -62,7 +62,7 @@ enum saktroum_refusal {
                                          65,535 */
     SAKTROUM_REFUSED_START = 12       /* start node past the table, place past the tokens (right behind the last is
                                          allowed), lower end over the upper or over 65,535, upper end over 65,535, mode
-                                         over 3 */
+                                         over 34 */
 };
 
 /* The kinds of nodes; a, b and relation are words 1 to 3 of a node, 0 where they are not used. */
@@ -79,8 +79,12 @@ enum {
     SAKTROUM_ALIGN = 9     /* a: node */
 };
 
-/* Relations and token modes. */
+/* Relations and token modes: how an inner column, or a token's, stands to the baseline. 4 to 34 are steps: it is the
+ * baseline plus an amount of 1 to 31, which is the number less 3. From 35 on they are refused (by 4, 5 and 12). */
 enum { SAKTROUM_EQUAL = 0, SAKTROUM_GREATER = 1, SAKTROUM_AT_LEAST = 2, SAKTROUM_ANY = 3 };
+
+/* The step of an amount: SAKTROUM_STEP(2) is 5, two columns right of the baseline. */
+#define SAKTROUM_STEP(amount) (SAKTROUM_ANY + (amount))
 
 /* The number in an answer, 0 if the call passed every check, and the node in one with 7. */
 static inline uint32_t saktroum_number(uint32_t answer) { return answer & 65535; }

@@ -15,13 +15,16 @@ A grammar in words, where `#` begins a comment:
     a*  a+  a?                any number of times, at least once, once or not at all; these bind closest
     !a                        not: a cannot be read here, and nothing is read
     align a                   the first token of a stands on the baseline
-    indent RELATION a         a has a baseline of its own; RELATION is equal, greater, at-least or any
+    indent RELATION a         a has a baseline of its own
     position RELATION a       the token mode inside a
     a b                       a, then b
     a / b                     a, or if a fails b; binds least
     "loss"  number  word  eol a keyword, a number, any other word, the end of a line
     token  line  end          any one token; the rest of a line; no token stays unread, at whatever column
     empty  NAME  (a)          nothing, a rule, an expression
+
+RELATION says how an inner column, or a token's, stands to the baseline: equal, greater, at-least or any; or it is a step,
++1 to +31, without a blank behind +: exactly so many columns right of the baseline.
 
 A grammar that the reader would refuse is told so with its place, and then nothing is written. A FILE that is there
 already is written over only if it is a grammar file, or empty.
@@ -39,7 +42,9 @@ from typing import NamedTuple, Optional, Tuple
 # The table: kinds, relations and terminals have the numbers that the reader knows them by.
 KINDS = ("empty", "terminal", "rule", "sequence", "choice", "not", "repeat", "indent", "position", "align")
 EMPTY, TERMINAL, RULE, SEQUENCE, CHOICE, NOT, REPEAT, INDENT, POSITION, ALIGN = range(10)
-RELATIONS = ("equal", "greater", "at-least", "any")
+NAMED = ("equal", "greater", "at-least", "any")
+STEPS = tuple(f"+{amount}" for amount in range(1, 32))
+RELATIONS = (*NAMED, *STEPS)  # each as it is written
 ANY = RELATIONS.index("any")
 TERMINALS = ("number", "word", "eol")
 EOL, FIRST_KEYWORD = 2, 3
@@ -53,7 +58,7 @@ FIRST_FIELD = b"\x01\x00\x01\x01"
 STATEMENTS = ("keywords", "start", "mode")
 BUILT_IN = ("token", "line", "end")
 IN_EXPRESSIONS = ("align", "indent", "position", "empty", *TERMINALS, *BUILT_IN)
-RESERVED = (*STATEMENTS, *IN_EXPRESSIONS, *RELATIONS)
+RESERVED = (*STATEMENTS, *IN_EXPRESSIONS, *NAMED)
 
 # What other notations write, and what it is called here.
 ELSEWHERE = {
@@ -83,7 +88,7 @@ INSTEAD_OF_EXPRESSIONS = {
     "{": "any number of times is written `(..)*`",
     **{sign: f"{sign} stands behind an expression" for sign in "*+?"},
     **dict.fromkeys("/)", "for nothing write empty"),
-    **dict.fromkeys(RELATIONS, "a relation stands behind indent, position or mode"),
+    **dict.fromkeys(NAMED, "a relation stands behind indent, position or mode"),
     "any": "any one token is written token, and the relation any stands behind indent, position or mode",
     "mode": "in a rule it is position",
 }
@@ -136,7 +141,7 @@ class Faults(Exception):
 QUOTES = "'`\u2018\u2019\u201c\u201d\u201e"
 LEXEME = re.compile(
     rf'\s+|#[^\n]*|(?P<word>"[^"\n]*"?|[A-Za-z][\w-]*|\w[\w.-]*|[{QUOTES}][^\s"{QUOTES}]*[{QUOTES}]?'
-    r"|//|/\*|\(\*|--|::?=|[<>=]=|=>|<-|->|.)"
+    r"|[+-][0-9][\w.-]*|//|/\*|\(\*|--|::?=|[<>=]=|=>|<-|->|.)"
 )
 
 
@@ -166,6 +171,10 @@ class Word(NamedTuple):
             return "a name is written without quotes"
         return "a name begins with a letter from a to z" if self.is_like_name() and not self.is_name() else None
 
+    def as_step(self):
+        """Where a step stands, if the word is one, or would be one with another number."""
+        return "a step stands behind indent, position or mode" if re.match(r"\+[0-9]", self.text) else None
+
     def told(self):
         """The word as a message shows it."""
         if not self.text:
@@ -174,6 +183,8 @@ class Word(NamedTuple):
             return f"the keyword {self.text}"
         if self.text in RESERVED:
             return f"the reserved word {self.text}"
+        if self.text in STEPS:
+            return f"the step {self.text}"
         if self.is_name() or self.text[0] in QUOTES:
             return self.text
         return f"'{self.text}'" if self.text.isprintable() else repr(self.text)
@@ -276,7 +287,7 @@ class Parser:
         word, before = self.word(), self.before()
         if word.is_open():
             return Faults(Fault(word.place, 'this keyword is not closed: a second " is expected on its line'))
-        hints = [hint for hint in hints if hint] or [SIGNS.get(word.text, "")]
+        hints = [hint for hint in hints if hint] or [SIGNS.get(word.text) or word.as_step()]
         if before.text in STATEMENTS and word.text in ("=", ":", *EQUALS_ELSEWHERE):
             hints = [f"{before.text} is written without {word.text}, and no rule can be named {before.text}"]
         told = f"the next rule, {word.text}" if word.is_name() and self.begins_rule() else word.told()
@@ -375,10 +386,11 @@ class Parser:
     def relation(self):
         word, after = self.word(), self.word(1).text
         if word.text not in RELATIONS:
-            like = RELATIONS_ELSEWHERE.get(word.text) or near(word.text, RELATIONS)
+            like = RELATIONS_ELSEWHERE.get(word.text) or near(word.text, NAMED)
             apart = word.text in ("=", ":", "(") and after in RELATIONS
             hint = f"write {after} without {word.text}" if apart else like and f"is it {like}?"
-            raise self.expected("a relation (equal, greater, at-least or any)", hint)
+            what = f"a relation ({', '.join(NAMED)}, or {STEPS[0]} to {STEPS[-1]})"
+            raise self.expected(what, hint or step_meant(word.text))
         return RELATIONS.index(self.take().text)
 
     def too_deep(self):
@@ -452,7 +464,7 @@ class Parser:
             equals = None if self.begins_line() else 'a keyword is written "="'
             return self.expected(what, "for nothing write empty", equals)
         signs = SIGNS.get(word.text), INSTEAD_OF_EXPRESSIONS.get(word.text)
-        return self.expected(what, *signs, word.as_name(), word.as_keyword())
+        return self.expected(what, *signs, word.as_step(), word.as_name(), word.as_keyword())
 
     def bracketed(self):
         opening = self.take()
@@ -470,6 +482,20 @@ def near(name, names, least=0.6):
     """The name that is most like this one, whatever the capitals, if there is one."""
     others = {other.lower(): other for other in names}
     return next((others[found] for found in difflib.get_close_matches(name.lower(), others, 1, least)), None)
+
+
+def step_meant(text):
+    """What is told of a word that is no relation, if a step could be meant by it."""
+    text = text.strip(QUOTES + '"')
+    number = re.fullmatch(r"\+?0*([0-9]+)", text)
+    if number and number[1] == "0":
+        return "for no step write equal"
+    if number:
+        over = f"no step is over {STEPS[-1]}; those of indents one in the other add up"
+        return f"is it +{number[1]}?" if f"+{number[1]}" in STEPS else over
+    if text.startswith("+"):
+        return "a step is written like +2, without a blank"
+    return "a step goes to the right, as +2" if re.fullmatch("-[0-9]*", text) else None
 
 
 def unknown_rule(source, name, place, reserved=()):

@@ -12,9 +12,9 @@ WIDEST = 120  # in bytes
 HEAD = """\
 -- The blocks of docs/HANDBOOK.md as cases: each run of a report by a grammar, then a check of each grammar. This file is made
 -- from the handbook by trials/handbook.py: nodes as tools/build.py numbers them, tokens as the scanner gives them, the answers
--- as the handbook has them, where they follow from 01, "Columns and states", and 001, section 2.1, by hand. `HandbookHold`, in
--- proofs, computes them all.
-use Prim.Native.Nat.{ℕ}
+-- as the handbook has them, where they follow from 01, "Columns and states", 02, note 1, and 001, section 2.1, by hand.
+-- `HandbookHold`, in proofs, computes them all.
+use Prim.Native.Nat.{ℕ, _+_}
 use mathlib.Core.Bool.{Bool, true, false}
 use mathlib.Core.List.{List, [], _∷_}
 use Rattle.table.specs.Answer.{given, refusedAt}
@@ -30,11 +30,15 @@ use Rattle.clauses.specs.Cases.{TokenAt, _at_, reads, fails, Case, run, 
 abbrev pub within : ℕ → ℕ → Interval → Bool → Start
 within node mode interval flag = record { node = node; place = 0; interval = interval; flag = flag; mode = mode }
 
+-- The step of an amount: "the value less 3" is the amount.
+abbrev pub step : ℕ → ℕ
+step amount = any + amount
+
 -- Terminals: 0 a number, 1 another word, 2 a line end, 3 + k keyword k of the grammar. A report's tokens stand below its
 -- lines, a grammar's nodes below the rule that first has them.
 """
 
-RELATIONS = ("equal", "greater", "atLeast", "any")
+NAMED = ("equal", "greater", "atLeast", "any")
 
 
 def wrapped(items, first):
@@ -60,15 +64,20 @@ def listed(name, kind, groups):
     return f"abbrev pub {name} : List {kind}\n{name} =\n{body}\n"
 
 
+def relation(number):
+    """A relation by its name, or as a step of its amount."""
+    return NAMED[number] if number < len(NAMED) else f"(step {number - build.ANY})"
+
+
 def form(words):
     """A node as a form."""
-    kind, a, b, relation = words
+    kind, a, b, number = words
     name = build.KINDS[kind]
     if kind == build.EMPTY:
         return name
     if kind in (build.SEQUENCE, build.CHOICE):
         return f"{name} {a} {b}"
-    return f"{name} {a} {RELATIONS[relation]}" if kind in (build.INDENT, build.POSITION) else f"{name} {a}"
+    return f"{name} {a} {relation(number)}" if kind in (build.INDENT, build.POSITION) else f"{name} {a}"
 
 
 def rule_texts(table):
@@ -111,9 +120,9 @@ def answer(text):
 def start(case):
     """The start of a run."""
     if (case.lower, case.upper, case.flag) == (0, None, False):
-        return f"(from {case.node} {RELATIONS[case.mode]})"
+        return f"(from {case.node} {relation(case.mode)})"
     upper = "Endless" if case.upper is None else f"(At {case.upper})"
-    return f"(within {case.node} {RELATIONS[case.mode]} (to {case.lower} {upper}) {'true' if case.flag else 'false'})"
+    return f"(within {case.node} {relation(case.mode)} (to {case.lower} {upper}) {'true' if case.flag else 'false'})"
 
 
 def cases_part(grammars, reports, names):

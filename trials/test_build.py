@@ -23,6 +23,7 @@ import build  # noqa: E402
 
 HEAD = 'keywords "loss" ":"\nstart report\nmode greater\n'
 SEED, GRAMMARS = 13, 600
+RELATION = "a relation (equal, greater, at-least, any, or +1 to +31)"
 
 
 def faults_of(text):
@@ -109,7 +110,7 @@ class Messages(unittest.TestCase):
         self.says("start a\nstart b", "x:2:1: start is there twice; the first is at 1:1")
         self.says("start (", "x:1:7: the name of the start rule expected, not '('")
         self.says("start\nreport = word", "x:2:1: the name of the start rule expected, not the next rule, report")
-        for line, what in (("mode", "a relation (equal, greater, at-least or any)"), ("start", "the name of the start rule"),
+        for line, what in (("mode", RELATION), ("start", "the name of the start rule"),
                            ("keywords", 'a keyword in quotes, as "loss",')):
             for sign in ("=", ":", ":="):
                 hint = f"{line} is written without {sign}, and no rule can be named {line}"
@@ -150,7 +151,7 @@ class Messages(unittest.TestCase):
         self.says(HEAD + "report = word loss: number", "x:4:19: an expression expected, not ':'; a keyword is written \":\"")
 
     def test_relations(self):
-        relation = "a relation (equal, greater, at-least or any) expected, not"
+        relation = f"{RELATION} expected, not"
         for written, meant in ((">", "greater"), (">=", "at-least"), ("=>", "at-least"), ("=", "equal"), ("==", "equal")):
             for before in ("", "word "):
                 told = f"x:4:{17 + len(before)}: {relation} '{written}'; is it {meant}?"
@@ -168,6 +169,49 @@ class Messages(unittest.TestCase):
         self.says(HEAD + "report = indent word", f"x:4:17: {relation} the reserved word word")
         self.says(HEAD + "report = indent (word)", f"x:4:17: {relation} '('")
         self.says(HEAD + 'report = position "loss"', f'x:4:19: {relation} the keyword "loss"')
+
+    def test_no_steps(self):
+        """What is no step: told with its place, and how a step is written."""
+        relation, written = f"{RELATION} expected, not", "a step is written like +2, without a blank"
+        over = "no step is over +31; those of indents one in the other add up"
+        for word, told, hint in (
+            *((zero, f"'{zero}'", "for no step write equal") for zero in ("+0", "+00", "0")),
+            *((far, f"'{far}'", over) for far in ("+32", "+310", "+032", "32", "+" + "9" * 5000)),
+            *((step, f"'{step}'", "is it +2?") for step in ("+02", "+002", "2")),
+            ('"+2"', 'the keyword "+2"', "is it +2?"),
+            ("'+2'", "'+2'", "is it +2?"),
+            *((plus, "'+'", written) for plus in ("+", "+ 2", "++2", "+-2", "+\u0662")),
+            *((other, f"'{other}'", written) for other in ("+2x", "+2.5", "+2-3")),
+            *((left, f"'{left}'", "a step goes to the right, as +2") for left in ("-2", "-0", "-")),
+            ("--2", "'--'", "a comment begins with #"),
+            ("=+2", "'='", "write +2 without ="),
+            ("(+31)", "'('", "write +31 without ("),
+        ):
+            self.says(HEAD + f"report = word indent {word} eol", f"x:4:22: {relation} {told}; {hint}")
+            self.says(HEAD + f"report = position\n {word} eol", f"x:5:2: {relation} {told}; {hint}")
+            if word != "=+2":  # this is told as any other = behind mode
+                self.says(f"mode {word}", f"x:1:6: {relation} {told}; {hint}")
+
+    def test_steps_elsewhere(self):
+        """A step where none can stand, one with a wrong number too."""
+        behind = "a step stands behind indent, position or mode"
+        for rule, column in (("word +2", 15), ("word+2", 14), ("+2 word", 10), ("(word +2)", 16), ("indent greater +2 eol", 25),
+                             ("indent +31 +2 eol", 21), ("!+2", 11), ("align +2 eol", 16)):
+            told = f'{behind}; a keyword is written "+2"'
+            self.says(HEAD + f"report = {rule}", f"x:4:{column}: an expression expected, not the step +2; {told}")
+        for word in ("+0", "+32", "+2x"):
+            told = f"an expression expected, not '{word}'; {behind}; a keyword is written \"{word}\""
+            self.says(HEAD + f"report = word{word}", f"x:4:14: {told}")
+        self.says(HEAD + "report = word -2", "x:4:15: an expression expected, not '-2'; a keyword is written \"-2\"")
+        statement = "keywords, start, mode or a rule `NAME = ..` expected, not the step +2;"
+        self.says("mode greater +2", f"x:1:14: {statement} {behind}")
+        self.says("start +2", f"x:1:7: the name of the start rule expected, not the step +2; {behind}")
+        self.says('keywords "a" +2', f'x:1:14: a keyword in quotes, {statement} a keyword is written "+2"')
+        words = [word.text for word in build.words_of(HEAD + 'report = align (indent any eol+ / position +2 word)* end')]
+        self.says("\n".join(words))
+        for at in range(len(words)):
+            told = first_line("\n".join([*words[:at], "+2", *words[at:]]))
+            self.assertRegex(told, f"^x:({at}|{at + 1}|{at + 2}):1: .* expected, not ")
 
     def test_expressions(self):
         none, nothing = "an expression expected, not", "for nothing write empty"
@@ -328,6 +372,26 @@ class Nodes(unittest.TestCase):
             self.assertEqual(list(of("line token end").rules), ["report"])
             self.assertFalse(any(node[0] == build.RULE for node in of("line token end").nodes))
 
+    def test_relations(self):
+        """The number of each relation, in a node and as the mode: the names are 0 to 3, and a step is its amount and 3."""
+        written = {"equal": 0, "greater": 1, "at-least": 2, "any": 3, "+1": 4, "+2": 5, "+9": 12, "+10": 13, "+31": 34}
+        for relation, number in written.items():
+            for rule, node in ((f"indent {relation} word", (build.INDENT, 0, 0, number)),
+                               (f"position {relation} (word)", (build.POSITION, 0, 0, number)),
+                               (f"indent {relation}(word)", (build.INDENT, 0, 0, number))):
+                self.assertEqual(nodes_of(f"report = {rule}").nodes, [(build.TERMINAL, 1, 0, 0), node])
+            for line in (f"mode {relation}", f"mode\n {relation} # comment"):
+                self.assertEqual(build.grammar_of(f"start r\n{line}\nr = word").mode, number)
+        self.assertEqual(len(build.RELATIONS), 35)
+        self.assertEqual(nodes_of("report = indent+2 word").nodes, nodes_of("report = indent +2 word").nodes)
+
+    def test_plus(self):
+        """A + behind an expression is no step, whatever follows it."""
+        for rule in ("word+ eol", "word+eol", "(word)+ eol", "word+(eol)"):
+            self.assertEqual(nodes_of(f"report = {rule}").nodes, nodes_of("report = (word word*) eol").nodes)
+        twice = nodes_of("report = indent +2 word+ indent +2 (word+)")
+        self.assertEqual([node[3] for node in twice.nodes if node[0] == build.INDENT], [5])
+
     def test_keywords_anywhere(self):
         last = build.grammar_of('start report\nmode any\nreport = "a" token\nkeywords "a"\nkeywords "b"')
         first = build.grammar_of('keywords "a" "b"\nstart report\nmode any\nreport = "a" token')
@@ -349,6 +413,10 @@ class Nodes(unittest.TestCase):
             rules = "\n".join(f"{rule.name} = {build.text_of(rule.expression)}" for rule in grammar.source.rules)
             again = build.grammar_of(f'keywords "a" "b"\nstart r0\nmode any\n{rules}\n')
             self.assertEqual((again.nodes, again.rules), (grammar.nodes, grammar.rules), rules)
+
+    def test_step_texts(self):
+        for text in ("indent +1 word", "position +31 (word eol)", "align indent +2 (word+ / eol)", "(indent +2 word)+ eol"):
+            self.assertEqual(build.text_of(nodes_of(f"report = {text}").source.rules[0].expression), text)
 
 
 def children(grammar, number, spelled):
@@ -451,6 +519,18 @@ class Refusals(unittest.TestCase):
         text = self.keywords("a").replace("= word", "= end " + "!" * 511 + "word")
         self.assertIn("take 10 of them, for 1 keyword (", first_line(text))
 
+    def test_relations(self):
+        """The reader takes each relation that can be written, as the mode too, and no number behind the last."""
+        for relation in build.RELATIONS:
+            self.same(f"start r\nmode {relation}\nr = indent {relation} position {relation} word", "passed")
+        grammar = build.grammar_of("start r\nmode +31\nr = indent +31 word")
+        self.assertEqual(build.file_of(grammar)[-12:], bytes([7, 0, 0, 0, 0, 34, 5, 0, 3, 0, 1, 34]))
+        grammar.mode += 1
+        self.assertEqual(self.answer(grammar), "refused 5")
+        kind, a, b, relation = grammar.nodes[-1]
+        grammar.nodes[-1] = kind, a, b, relation + 1
+        self.assertEqual(self.answer(grammar), "refused 4")
+
     def test_7(self):
         reads = "repeats what may succeed without reading a token"
         comes = "is left recursive: it comes back to itself before a token is read,"
@@ -531,7 +611,8 @@ def random_expression(chance, names, depth):
         return f"({inner()} / {inner()})"
     if form < 6:
         return f"({inner()}){chance.choice('*+?')}"
-    return f"{chance.choice(['!', 'align ', 'indent greater ', 'position any '])}({inner()})"
+    relation = ("greater", "+2", "any", "+31")[depth - 1]
+    return f"{chance.choice(['!', 'align ', f'indent {relation} ', f'position {relation} '])}({inner()})"
 
 
 class Command(unittest.TestCase):
@@ -593,6 +674,10 @@ class Command(unittest.TestCase):
             "node  kind       a     b     relation  rule  place    in words",
             "0     terminal   1     0     0         r     3:5      word",
             "rule 0, r, is node 0\n")), ""))
+        self.write("start r\nmode +2\nr = indent +2 (position +31 word)")
+        self.assertEqual(self.start("--nodes", "x.grammar")[1].splitlines()[2:4], [
+            "1     position   0     0     34        r     3:16     +31 0",
+            "2     indent     1     0     5         r     3:5      +2 1"])
 
     def test_counts(self):
         for rules, says in (

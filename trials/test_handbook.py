@@ -67,7 +67,8 @@ class Told(unittest.TestCase):
         form = "a run is written `(NUMBER) START -> success N L H clear` or `.. -> failure`"
         self.says("(1) -> success 4", "(1) -> 4", f"15: {form}")
         self.says("rule entry", "rule other", "17: no such start: rule other")
-        self.says("mode equal", "mode all", "16: no such start: mode all")
+        for mode in ("all", "+0", "+32", "+"):
+            self.says("mode equal", f"mode {mode}", f"16: no such start: mode {mode}")
         self.says("# entry.grammar\n", "", "4: the first line of a grammar is `# NAME.grammar`")
         self.says("```report", "```text", "12: a block is a grammar, a report or sh")
         self.says("An entry:\n", "    entry = word\n", "1: a block is fenced, not indented")
@@ -92,6 +93,12 @@ class Told(unittest.TestCase):
         cases = handbook_cases.file_of(*handbook.read_handbook(READER, RIGHT))
         self.assertEqual(cases[cases.index("unfoldable") :], CASES)
 
+    def test_steps(self):
+        """Steps in a grammar, as its mode and in a start: the cases have their amounts."""
+        cases = handbook_cases.file_of(*handbook.read_handbook(READER, STEPS))
+        self.assertIn("\n    terminal 1 ∷ position 0 (step 1) ∷ indent 1 (step 31) ∷ choice 0 2\n", cases)
+        self.assertEqual(cases[cases.index("unfoldable") :], STEP_CASES)
+
 
 CASES = """\
 unfoldable pub handbookCases : List Case
@@ -105,6 +112,38 @@ handbookCases =
     -- Each grammar: it passes the check, or the builder tells that it does not.
     ∷ check entryNodes entryRules (given tt)
     ∷ check leftNodes leftRules (refusedAt 7 0)
+    ∷ []
+"""
+
+STEPS = """\
+```grammar
+# stepped.grammar
+start stepped
+mode +2
+
+stepped = word / indent +31 (position +1 word)
+```
+
+```report
+  far
+
+(1) -> success 1 0 0 clear
+(2) mode +3 -> failure
+(3) mode +1, from 1 to 1 -> success 1 1 1 clear
+```
+"""
+
+STEP_CASES = """\
+unfoldable pub handbookCases : List Case
+handbookCases =
+    -- 1. stepped.grammar on |  far|
+    run steppedNodes steppedRules report1 (from 3 (step 2)) (reads 1 0 (At 0) false)
+    -- 2. stepped.grammar, mode +3, on |  far|
+    ∷ run steppedNodes steppedRules report1 (from 3 (step 3)) fails
+    -- 3. stepped.grammar, mode +1, from 1 to 1, on |  far|
+    ∷ run steppedNodes steppedRules report1 (within 3 (step 1) (to 1 (At 1)) false) (reads 1 1 (At 1) false)
+    -- Each grammar: it passes the check, or the builder tells that it does not.
+    ∷ check steppedNodes steppedRules (given tt)
     ∷ []
 """
 
