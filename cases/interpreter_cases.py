@@ -161,8 +161,8 @@ for node in (
     # "child not lower": the node itself is 2
     (3, 2, 0, 0), (3, 0, 2, 0), (4, 2, 0, 0), (4, 0, 3, 0), (5, 2, 0, 0), (6, 2, 0, 0), (7, 2, 0, 1), (8, 3, 0, 1),
     (9, 2, 0, 0),
-    # "relation over 3"
-    (7, 0, 0, 4), (7, 0, 0, 65535), (8, 0, 0, 4), (8, 0, 0, 256),
+    # 02, Note 1: "Numbers 4, 5 and 12 begin at relation or mode 35."
+    (7, 0, 0, 35), (7, 0, 0, 65535), (8, 0, 0, 35), (8, 0, 0, 256),
     # "unused word not 0"
     (0, 1, 0, 0), (0, 0, 1, 0), (0, 0, 0, 1), (1, 1, 1, 0), (1, 1, 0, 1), (2, 0, 1, 0), (2, 0, 0, 1), (3, 0, 1, 1),
     (4, 0, 1, 1), (5, 0, 1, 0), (5, 0, 0, 1), (6, 0, 1, 0), (6, 0, 0, 1), (7, 0, 1, 1), (8, 0, 1, 1), (9, 0, 1, 0),
@@ -171,7 +171,7 @@ for node in (
     refused(f"node 2 is {node}", 4, [A, B, node], [0, 1], "a2")
 # The same with nothing wrong: a at 2 in mode at least leaves 0 to 2.
 for node in (EMPTY, A, (1, 255, 0, 0), rule(1), sequence(1, 0), choice(0, 1), not_(1), repeat(1), indent(1, 3),
-             position(1, 3), align(1)):
+             indent(1, 34), position(1, 3), position(1, 34), align(1)):
     runs(f"node 2 is {node}", "1 0 2 clear", [A, B, node], [0, 1], "a2")
 refused("node 511 a kind 10", 4, [EMPTY] * 511 + [KIND_10])
 refused("rule 0 of none", 4, [rule(0)])
@@ -256,7 +256,7 @@ for rest in ((0, 0), (0, 1), (1, 0), (3, 2), (256, 256), (65536, 65536), (U32, 0
 
 # --- Number 12 -----------------------------------------------------------------------------------
 
-# "start node or place past its end .. mode over 3".
+# "start node or place past its end ..".
 refused("small 12, interval 5 to 4", 12, [EMPTY], lower=5, upper=4)
 # "start node .. past its end"
 for count in (1, 2, 3, 512):
@@ -291,10 +291,10 @@ for lower, upper in (
 ):
     refused(f"interval {lower} to {'inf' if upper is None else upper}", 12, [EMPTY], lower=lower, upper=upper)
 refused("interval 5 to 4, flag set", 12, [EMPTY], tokens="a2", lower=5, upper=4, flag=True, mode=3)
-# "mode over 3"
-for mode in (0, 1, 2, 3):
+# 02, Note 1: "Numbers 4, 5 and 12 begin at relation or mode 35."
+for mode in (0, 1, 2, 3, 4, 34):
     same(f"mode {mode}", [EMPTY], mode=mode)
-for mode in (4, 5, 7, 255, 256, 257, 258, 259, 32768, 65535):
+for mode in (35, 36, 255, 256, 257, 258, 259, 290, 32768, 65535):
     refused(f"mode {mode}", 12, [EMPTY], mode=mode)
     refused(f"mode {mode}, flag set, a2", 12, [A], tokens="a2", flag=True, mode=mode)
 
@@ -320,12 +320,12 @@ def ordered(said, chosen, ill, table, tokens, **start):
 
 for chosen in faults.choices(3, 4, 5, 7, 11, 12):
     tokens = token_words("a5") + ([1, 1, 1] if 11 in chosen else [])
-    ordered("late", chosen, 0, faults.late_table(chosen), tokens, mode=4 if 12 in chosen else 2)
+    ordered("late", chosen, 0, faults.late_table(chosen), tokens, mode=35 if 12 in chosen else 2)
 for chosen in faults.choices(3, 4, 5, 7, 11, 12):
     tokens = [1, 5, 0, 0, 256 if 11 in chosen else 2, 0, 0, 0]
     ordered("early", chosen, 2, faults.early_table(chosen, 1), tokens, node=3 if 12 in chosen else 2)
 
-BAD_START = {"node": 1, "place": 2, "lower": 5, "upper": 4, "flag": True, "mode": 4}
+BAD_START = {"node": 1, "place": 2, "lower": 5, "upper": 4, "flag": True, "mode": 35}
 for number, said, nodes, rules, tokens, start in (
     (3, "3 before 12, no node and start node 0", [], [], [], {}),
     (3, "3 before 12, 3 words and start node 9", [0] * 3, [], [], {"node": 9}),
@@ -338,7 +338,7 @@ for number, said, nodes, rules, tokens, start in (
     (11, "11 before 12, 3 words and interval 5 to 4", [EMPTY], [], [0] * 3, {"lower": 5, "upper": 4}),
     (11, "11 before 12, 4097 tokens and place 4098", [EMPTY], [], [0] * 16388, {"place": 4098}),
     (11, "11 before 12, 4097 tokens and place 4097", [EMPTY], [], [0] * 16388, {"place": 4097}),
-    (11, "11 before 12, column 65536 and mode 4", [EMPTY], [], [0, 65536, 0, 0], {"mode": 4}),
+    (11, "11 before 12, column 65536 and mode 35", [EMPTY], [], [0, 65536, 0, 0], {"mode": 35}),
     (11, "11 before 12, terminal 256 and start node 1 of 1", [EMPTY], [], [256, 0, 0, 0], {"node": 1}),
     (11, "11 before 12, column 65536 and all of 12", [EMPTY], [], [0, 65536, 0, 0], BAD_START),
     (12, "all of 12", [EMPTY], [], [0, 65535, 0, 0], BAD_START),
