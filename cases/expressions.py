@@ -17,7 +17,7 @@ RELATIONS = {
 }
 
 
-def relation(word):
+def relation_number(word):
     """A relation or mode by its name. A step is written as its amount behind a plus."""
     return table_nodes.step(int(word[1:])) if word[0] == "+" else RELATIONS[word]
 
@@ -108,7 +108,7 @@ class Written:
         if self.take("align"):
             return ("align", self.prefixed())
         if form := self.take("indent", "position"):
-            by = relation(self.take())
+            by = relation_number(self.take())
             return (form, self.prefixed(), by)
         return self.postfixed()
 

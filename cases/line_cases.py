@@ -529,6 +529,40 @@ case("blocks on empty lines", steps_all, b"\n \n\t\n", EMPTY_ANSWER)
 case("a number on a line of its own", steps, STEP_TEXT.replace(b": 0.5", b":\n    0.5"), EMPTY_ANSWER)
 
 
+# --- Two columns a level (02, Note 1) -----------------------------------------------------------------------
+
+# "One splicer maker indents each level by two columns, never more, and users want stray lines to fail."
+SPLICER = (b"span", b"splice", b"loss", b":")
+LEVEL_TEXT = (
+    b"span 1:\n  splice 1:\n    loss: 0.04\n    loss: 0.05\n  splice 2:\n    loss: 0.02\n"
+    b"span 2:\n  splice 3:\n    loss: 0.03\n"
+)
+
+
+def levels(relation):
+    """Spans, the splices of each and their losses, every line aligned with its level's first, and behind them no token."""
+    rules = f"Y = (align (b number d eol indent {relation} Z))+; Z = (align (c d number eol))+"
+    spans = f"(align (a number d eol indent {relation} Y))*"
+    return grammar(f"{spans} !(position any (a / b / c / d / number / word / eol))", GREATER, SPLICER, rules)
+
+
+# Align makes 0 to 0 of the first span, and the tokens behind it are greater. By 2 inside: 2 to 2 for the splices; again:
+# 4 to 4 for the losses. Out 2 to 2, then 0 to 0. Nine lines of four tokens.
+by_two = levels("+2")
+case("two columns a level", by_two, LEVEL_TEXT, success(36, 0, 0))
+case("two columns a level, moved right by 4", by_two, b"    " + LEVEL_TEXT[:-1].replace(b"\n", b"\n    "), success(36, 4, 4))
+# A line one column too far right or left is at no level, and a token is left behind what was read.
+STRAY = LEVEL_TEXT.replace(b"    loss: 0.02", b"     loss: 0.02")
+case("two columns a level, a stray loss further right", by_two, STRAY, FAILURE)
+case("two columns a level, a stray loss further left", by_two, LEVEL_TEXT.replace(b"    loss: 0.02", b"   loss: 0.02"), FAILURE)
+case("two columns a level, a stray splice", by_two, LEVEL_TEXT.replace(b"  splice 2", b"   splice 2"), FAILURE)
+# Under greater that loss is the first of its block and may stand at 5.
+case("greater a level, the same stray loss", levels("greater"), STRAY, success(36, 0, 0))
+# The last step as the start's mode, by 31: from 0 on it is 31 on, and 31 to 31 falls to 0 to 0.
+case("start mode 34 at column 30", grammar("a", 34), b" " * 30 + b":", FAILURE)
+case("start mode 34 at column 31", grammar("a", 34), b" " * 31 + b":", success(1, 0, 0))
+
+
 # --- The scanner's terminals and columns --------------------------------------------------------------------
 
 # "0 for a number (an optional `-`, digits, optionally `.` and digits ..); else 1".
