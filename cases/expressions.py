@@ -17,6 +17,11 @@ RELATIONS = {
 }
 
 
+def relation_number(word):
+    """A relation or mode by its name. A step is written as its amount behind a plus."""
+    return table_nodes.step(int(word[1:])) if word[0] == "+" else RELATIONS[word]
+
+
 def numbered(names, first=0):
     """Terminals by their names, numbered in this order."""
     return {name: number for number, name in enumerate(names, first)}
@@ -73,7 +78,7 @@ class Table:
 class Written:
     """A written expression, read word by word."""
 
-    WORDS = re.compile(r"""\s*("[^"]*"|[A-Za-z][\w-]*'?|[/!*+?()])""")
+    WORDS = re.compile(r"""\s*("[^"]*"|[A-Za-z][\w-]*'?|\+\d+|[/!*+?()])""")
 
     def __init__(self, text, terminals):
         self.terminals = terminals
@@ -103,8 +108,8 @@ class Written:
         if self.take("align"):
             return ("align", self.prefixed())
         if form := self.take("indent", "position"):
-            relation = RELATIONS[self.take()]
-            return (form, self.prefixed(), relation)
+            by = relation_number(self.take())
+            return (form, self.prefixed(), by)
         return self.postfixed()
 
     def postfixed(self):

@@ -6,7 +6,7 @@ import itertools
 import table_nodes
 from grammar_fields import EMPTY, START, VERSION, field, keyword, node, rule, rules, start
 from records import spaced
-from table_nodes import flat, repeat, terminal
+from table_nodes import ANY, RELATION_COUNT, flat, repeat, terminal
 
 
 def choices(*numbers):
@@ -61,8 +61,8 @@ def early_file(chosen):
         + keyword(b"a:" if 2 in chosen else b"a")
         + rule(1, b"r")
         + EMPTY * (512 if 3 in chosen else 2)
-        + node(8, 0, 0, 4 if 4 in chosen else 3)
-        + start(0, 4 if 5 in chosen else 3)
+        + node(8, 0, 0, RELATION_COUNT if 4 in chosen else ANY)
+        + start(0, RELATION_COUNT if 5 in chosen else ANY)
     )
 
 

@@ -507,12 +507,14 @@ for kind, said in ((5, "not"), (6, "repeat"), (9, "align")):
     for a, b, relation in ((0, 1, 0), (1, 1, 0), (0, 256, 0), (0, 0, 1), (1, 0, 3)):
         tried(f"{said} with {a} {b} {relation}", (kind, a, b, relation), 4)
 
-# Kinds 7 and 8: "a = node, relation"; "relation over 3"; b is unused.
+# Kinds 7 and 8: "a = node, relation"; b is unused. 02, Note 1: "Numbers 4, 5 and 12 begin at relation or mode 35."
 for kind, said in ((7, "indent"), (8, "position")):
     for a in (0, 1):
         for relation in (0, 1, 2, 3):
             tried(f"{said} of {a} by {relation}", (kind, a, 0, relation), None)
-    for relation in (4, 5, 7, 128, 252, 255):
+    for relation in (4, 34):
+        tried(f"{said} of 0 by {relation}", (kind, 0, 0, relation), None)
+    for relation in (35, 36, 67, 128, 252, 255):
         tried(f"{said} of 0 by {relation}", (kind, 0, 0, relation), 4)
     for a in (2, 3, 4, 256, 65535):
         tried(f"{said} of {a} by 1", (kind, a, 0, 1), 4)
@@ -525,7 +527,7 @@ for kind in (10, 11, 15, 16, 19, 99, 128, 246, 255):
 # A table has room for kinds and relations that no file can hold.
 for kind in (256, 257, 265, 65535):
     tried(f"kind {kind}", (kind, 0, 0, 0), 4)
-for relation in (256, 259, 65535):
+for relation in (256, 259, 290, 65535):
     tried(f"indent of 0 by {relation}", (7, 0, 0, relation), 4)
     tried(f"empty with relation {relation}", (0, 0, 0, relation), 4)
 
@@ -591,10 +593,10 @@ for number in (256, 258, 299):
 for place, pairs in faults.places([(0, b"a"), (0, b"b"), (0, b"c")], (1, b"d")):
     refused(f"bad rule node at {place} of 4", 5, grammar_fields.file([EMPTY_WORDS], pairs=pairs))
 
-# "file's mode over 3".
-for mode in (0, 1, 2, 3):
+# 02, Note 1: "Numbers 4, 5 and 12 begin at relation or mode 35."
+for mode in (0, 1, 2, 3, 4, 34):
     reads(f"mode {mode}", (1, 0, 0, 0, mode), VERSION + EMPTY + start(0, mode))
-for mode in (4, 5, 7, 9, 128, 252, 255):
+for mode in (35, 36, 38, 67, 128, 252, 255):
     refused(f"mode {mode}", 5, VERSION + EMPTY + start(0, mode))
 
 
@@ -650,7 +652,7 @@ for number, said, file, lent in (
     (1, "1 before 3, 513 nodes and a byte more", VERSION + EMPTY * 513 + START + b"\0", WIDE),
     (1, "1 before 3, 129 rules and a keyword", RULES_129 + keyword(b"k") + TAIL, WIDE),
     (1, "1 before 4, kind 10 and a node of 7 bytes", VERSION + node(10) + field(4, bytes(7)) + START, SMALL),
-    (1, "1 before 5, mode 9 and a byte more", VERSION + EMPTY + start(0, 9) + b"\x05", SMALL),
+    (1, "1 before 5, mode 35 and a byte more", VERSION + EMPTY + start(0, 35) + b"\x05", SMALL),
     (1, "1 before 6, no word lent and a byte more", ONE_NODE + b"\0", (0, 0)),
     (2, "2 before 3, 129 rules, one name bad", with_names(*NAMES[:128], b"a b"), WIDE),
     (2, "2 before 3, 129 rules, two names equal", with_names(*NAMES[:128], NAMES[0]), WIDE),
@@ -663,7 +665,7 @@ for number, said, file, lent in (
     (3, "3 before 4, 513 nodes and kind 10", VERSION + node(10) + EMPTY * 512 + START, WIDE),
     (3, "3 before 4, 129 rules and kind 10", RULES_129 + node(10) + START, WIDE),
     (3, "3 before 4, 129 rules and rule 129 named", RULES_129 + node(2, 129) + START, WIDE),
-    (3, "3 before 5, no node and mode 9", VERSION + start(0, 9), SMALL),
+    (3, "3 before 5, no node and mode 35", VERSION + start(0, 35), SMALL),
     (3, "3 before 5, no node and a rule", VERSION + rule(0, b"r") + START, SMALL),
     (3, "3 before 5, 513 nodes and start 513", VERSION + EMPTY * 513 + start(513), WIDE),
     (3, "3 before 6, no node and no word lent", VERSION + START, (0, 0)),
@@ -671,10 +673,11 @@ for number, said, file, lent in (
     (3, "3 before 6, 129 rules and 128 words", with_names(*NAMES[:129]), (4, 128)),
     (4, "4 before 5, kind 10 and a bad rule node", VERSION + rule(1, b"r") + node(10) + START, SMALL),
     (4, "4 before 5, last node bad and a bad first rule node", VERSION + rule(9, b"r") + EMPTY + node(6, 1) + START, SMALL),
-    (4, "4 before 5, kind 10 and mode 9", VERSION + node(10) + start(0, 9), SMALL),
+    (4, "4 before 5, kind 10 and mode 35", VERSION + node(10) + start(0, 35), SMALL),
+    (4, "4 before 5, relation 35 and mode 35", VERSION + EMPTY + node(7, 0, 0, 35) + start(1, 35), SMALL),
     (4, "4 before 6, kind 10 and no word lent", VERSION + node(10) + START, (0, 0)),
     (5, "5 before 6, bad start and no word lent", VERSION + EMPTY + start(1), (0, 0)),
-    (5, "5 before 6, mode 4 and 3 words lent", VERSION + EMPTY + start(0, 4), (3, 0)),
+    (5, "5 before 6, mode 35 and 3 words lent", VERSION + EMPTY + start(0, 35), (3, 0)),
     (5, "5 before 6, bad rule node, no rule word", VERSION + rule(1, b"r") + TAIL, (4, 0)),
 ):
     refused(said, number, file, lent)
@@ -743,7 +746,7 @@ for said, file in (
     ("refused by 2, equal keywords", VERSION + keyword(b"k") + keyword(b"k") + rule(0, b"r") + TAIL),
     ("refused by 3, no node", GOOD + START),
     ("refused by 4, kind 10", GOOD + node(10) + START),
-    ("refused by 5, mode 4", GOOD + EMPTY + start(0, 4)),
+    ("refused by 5, mode 35", GOOD + EMPTY + start(0, 35)),
     ("refused by 5, bad rule node", GOOD + rule(1, b"s") + TAIL),
 ):
     part("k", f"{said}, keyword 0", 0, file, "")

@@ -3,16 +3,16 @@
 
 Nothing here runs a grammar. Each call has its answer written beside it, worked out by hand; a family of
 calls has one answer for all, or the rule that gives each, in its loop or function. A comment quotes the
-words of document 01 or names the clause of document 001 that decide it.
+words of document 01 or 02 or names the clause of document 001 that decide it.
 
 Expressions are written as README.md says: a to z are terminals 1 to 26. A token is a letter and a column. An
 interval is its two ends, and an answer the tokens read, the interval and the flag.
 """
 
 import faults
-from expressions import RELATIONS, Table, named_columns, written, written_rules
+from expressions import Table, named_columns, relation_number, written, written_rules
 from records import Cases, Payloads, begin, wide
-from table_nodes import EMPTY, align, choice, flat, indent, not_, over, position, repeat, rule, sequence, terminal
+from table_nodes import EMPTY, align, choice, flat, indent, not_, over, position, repeat, rule, sequence, step, terminal
 
 CASES = Cases("interpreter_cases")
 TABLE_BYTES, TOKEN_BYTES = Payloads(), Payloads(100, (4, 16, 32))
@@ -93,7 +93,7 @@ def given(expression, mode, tokens, answer, rules="", start="0 inf", flag="clear
         label += ", flag set" if flag == "set" else ""
         label += f", place {place}" if place else ""
     line = answer if answer == "failure" else success(answer, place)
-    record(label, table.nodes, table.rules, tokens, line, RELATIONS[mode], node=table.start, place=place,
+    record(label, table.nodes, table.rules, tokens, line, relation_number(mode), node=table.start, place=place,
            lower=int(lower), upper=None if upper == "inf" else int(upper), flag=flag == "set")
 
 
@@ -161,8 +161,8 @@ for node in (
     # "child not lower": the node itself is 2
     (3, 2, 0, 0), (3, 0, 2, 0), (4, 2, 0, 0), (4, 0, 3, 0), (5, 2, 0, 0), (6, 2, 0, 0), (7, 2, 0, 1), (8, 3, 0, 1),
     (9, 2, 0, 0),
-    # "relation over 3"
-    (7, 0, 0, 4), (7, 0, 0, 65535), (8, 0, 0, 4), (8, 0, 0, 256),
+    # 02, Note 1: "Numbers 4, 5 and 12 begin at relation or mode 35."
+    (7, 0, 0, 35), (7, 0, 0, 65535), (8, 0, 0, 35), (8, 0, 0, 256),
     # "unused word not 0"
     (0, 1, 0, 0), (0, 0, 1, 0), (0, 0, 0, 1), (1, 1, 1, 0), (1, 1, 0, 1), (2, 0, 1, 0), (2, 0, 0, 1), (3, 0, 1, 1),
     (4, 0, 1, 1), (5, 0, 1, 0), (5, 0, 0, 1), (6, 0, 1, 0), (6, 0, 0, 1), (7, 0, 1, 1), (8, 0, 1, 1), (9, 0, 1, 0),
@@ -171,7 +171,7 @@ for node in (
     refused(f"node 2 is {node}", 4, [A, B, node], [0, 1], "a2")
 # The same with nothing wrong: a at 2 in mode at least leaves 0 to 2.
 for node in (EMPTY, A, (1, 255, 0, 0), rule(1), sequence(1, 0), choice(0, 1), not_(1), repeat(1), indent(1, 3),
-             position(1, 3), align(1)):
+             indent(1, 34), position(1, 3), position(1, 34), align(1)):
     runs(f"node 2 is {node}", "1 0 2 clear", [A, B, node], [0, 1], "a2")
 refused("node 511 a kind 10", 4, [EMPTY] * 511 + [KIND_10])
 refused("rule 0 of none", 4, [rule(0)])
@@ -256,7 +256,7 @@ for rest in ((0, 0), (0, 1), (1, 0), (3, 2), (256, 256), (65536, 65536), (U32, 0
 
 # --- Number 12 -----------------------------------------------------------------------------------
 
-# "start node or place past its end .. mode over 3".
+# "start node or place past its end ..".
 refused("small 12, interval 5 to 4", 12, [EMPTY], lower=5, upper=4)
 # "start node .. past its end"
 for count in (1, 2, 3, 512):
@@ -291,10 +291,10 @@ for lower, upper in (
 ):
     refused(f"interval {lower} to {'inf' if upper is None else upper}", 12, [EMPTY], lower=lower, upper=upper)
 refused("interval 5 to 4, flag set", 12, [EMPTY], tokens="a2", lower=5, upper=4, flag=True, mode=3)
-# "mode over 3"
-for mode in (0, 1, 2, 3):
+# 02, Note 1: "Numbers 4, 5 and 12 begin at relation or mode 35."
+for mode in (0, 1, 2, 3, 4, 34):
     same(f"mode {mode}", [EMPTY], mode=mode)
-for mode in (4, 5, 7, 255, 256, 257, 258, 259, 32768, 65535):
+for mode in (35, 36, 255, 256, 257, 258, 259, 290, 32768, 65535):
     refused(f"mode {mode}", 12, [EMPTY], mode=mode)
     refused(f"mode {mode}, flag set, a2", 12, [A], tokens="a2", flag=True, mode=mode)
 
@@ -320,12 +320,12 @@ def ordered(said, chosen, ill, table, tokens, **start):
 
 for chosen in faults.choices(3, 4, 5, 7, 11, 12):
     tokens = token_words("a5") + ([1, 1, 1] if 11 in chosen else [])
-    ordered("late", chosen, 0, faults.late_table(chosen), tokens, mode=4 if 12 in chosen else 2)
+    ordered("late", chosen, 0, faults.late_table(chosen), tokens, mode=35 if 12 in chosen else 2)
 for chosen in faults.choices(3, 4, 5, 7, 11, 12):
     tokens = [1, 5, 0, 0, 256 if 11 in chosen else 2, 0, 0, 0]
     ordered("early", chosen, 2, faults.early_table(chosen, 1), tokens, node=3 if 12 in chosen else 2)
 
-BAD_START = {"node": 1, "place": 2, "lower": 5, "upper": 4, "flag": True, "mode": 4}
+BAD_START = {"node": 1, "place": 2, "lower": 5, "upper": 4, "flag": True, "mode": 35}
 for number, said, nodes, rules, tokens, start in (
     (3, "3 before 12, no node and start node 0", [], [], [], {}),
     (3, "3 before 12, 3 words and start node 9", [0] * 3, [], [], {"node": 9}),
@@ -338,7 +338,7 @@ for number, said, nodes, rules, tokens, start in (
     (11, "11 before 12, 3 words and interval 5 to 4", [EMPTY], [], [0] * 3, {"lower": 5, "upper": 4}),
     (11, "11 before 12, 4097 tokens and place 4098", [EMPTY], [], [0] * 16388, {"place": 4098}),
     (11, "11 before 12, 4097 tokens and place 4097", [EMPTY], [], [0] * 16388, {"place": 4097}),
-    (11, "11 before 12, column 65536 and mode 4", [EMPTY], [], [0, 65536, 0, 0], {"mode": 4}),
+    (11, "11 before 12, column 65536 and mode 35", [EMPTY], [], [0, 65536, 0, 0], {"mode": 35}),
     (11, "11 before 12, terminal 256 and start node 1 of 1", [EMPTY], [], [256, 0, 0, 0], {"node": 1}),
     (11, "11 before 12, column 65536 and all of 12", [EMPTY], [], [0, 65536, 0, 0], BAD_START),
     (12, "all of 12", [EMPTY], [], [0, 65535, 0, 0], BAD_START),
@@ -1176,6 +1176,112 @@ for column, answer in ((4999, "failure"), (5000, "101 0 0 clear"), (5007, "101 0
           name=f"100 a with 50 greaters each, then align b at {column}")
 given("X", "any", "a0 " * 100 + "b65535", "failure", rules=FAR, start="65535 inf",
       name="100 a with 50 greaters each from 65535, then align b at 65535")
+
+
+# --- Steps (02, Note 1) --------------------------------------------------------------------------
+
+# "the inner column is the outer one plus 1 to 31": a leaves 5 to 5, and b lies that much right of it, no more
+# and no less.
+for amount in (1, 2, 31):
+    for column, answer in ((4 + amount, "failure"), (5 + amount, "2 5 5 clear"), (6 + amount, "failure")):
+        given(f"a indent +{amount} b", "equal", f"a5 b{column}", answer)
+# The same as the token's mode.
+for column, answer in ((35, "failure"), (36, "1 5 5 clear"), (37, "failure")):
+    given("a", "+31", f"a{column}", answer, start="5 5")
+# "On the way in both ends rise": 3 to 4 is 5 to 6 inside; i to i falls to i-2 to i-2. At least: 5 to 6 met with
+# 0 to i, and "on the way out both fall".
+row("a", "+2", "3 4", "- 3-3 4-4 -", first=4)
+row("indent +2 a", "at-least", "3 4", "- 3-3 3-4 3-4", first=4)
+# With the flag set the mode is not asked, and a lies in the interval itself; under an indent it is the inner one.
+given("a", "+2", "a5", "1 5 5 clear", start="5 5", flag="set")
+given("a", "+2", "a7", "failure", start="5 5", flag="set")
+given("indent +2 a", "greater", "a5", "1 3 3 clear", start="3 3", flag="set")
+given("indent +2 a", "greater", "a6", "failure", start="3 3", flag="set")
+# No column is 2 right of another but those from 2 on.
+given("a", "+2", "a1", "failure")
+given("a", "+2", "a2", "1 0 0 clear")
+
+# "both fall, stopping at 0". 0 to 5 is 2 to 7 inside. Equal leaves 2 to 2, and both ends fall to 0. At least
+# leaves 2 to 4, and only the lower one does.
+given("indent +2 a", "equal", "a2", "1 0 0 clear", start="0 5")
+given("indent +2 a", "at-least", "a4", "1 0 2 clear", start="0 5")
+# Without end stays so: 4 on is 35 on inside. Any leaves 35 on; equal 35 to 35; at least 35 to 40.
+given("indent +31 a", "any", "a0", "1 4 inf clear", start="4 inf")
+given("indent +31 a", "equal", "a34", "failure", start="4 inf")
+given("indent +31 a", "equal", "a35", "1 4 4 clear", start="4 inf")
+given("indent +31 a", "at-least", "a40", "1 4 9 clear", start="4 inf")
+# A child that reads nothing: the ends rise and fall by the same, and the flag is "as it left it".
+given("indent +31 empty", "equal", "a0", "0 0 0 clear", start="0 0")
+given("indent +31 empty", "equal", "a0", "0 4 inf set", start="4 inf", flag="set")
+
+# Amounts add: 4 to 4 is 6 to 6, then 9 to 9. So do an indent's and a mode's. Three times 31 is 93.
+for column, answer in ((8, "failure"), (9, "1 4 4 clear"), (10, "failure")):
+    given("indent +2 (indent +3 a)", "equal", f"a{column}", answer, start="4 4")
+given("indent +2 (position +3 a)", "equal", "a9", "1 4 4 clear", start="4 4")
+given("indent +31 (indent +31 (indent +31 a))", "equal", "a93", "1 0 0 clear")
+# With the four: 3 to 3 is 4 on, then 6 on; or 5 to 5, then 6 on. Both read a6 and not a5. Any and a step: 2 on.
+for expression in ("indent greater (indent +2 a)", "indent +2 (indent greater a)"):
+    given(expression, "equal", "a5", "failure", start="3 3")
+    given(expression, "equal", "a6", "1 3 3 clear", start="3 3")
+given("indent any (indent +2 a)", "equal", "a1", "failure", start="3 6")
+given("indent any (indent +2 a)", "equal", "a2", "1 3 6 clear", start="3 6")
+
+# Align outside a step, and inside: from 3 to 3 the first token lies at 5; b by the mode, right of 5.
+given("align (indent +2 a)", "greater", "a5", "1 3 3 clear", start="3 3")
+given("align (indent +2 a)", "greater", "a6", "failure", start="3 3")
+given("indent +2 (align (a b))", "greater", "a5 b6", "2 3 3 clear", start="3 3")
+given("indent +2 (align (a b))", "greater", "a5 b5", "failure", start="3 3")
+given("indent +2 (align (a b))", "greater", "a6 b7", "failure", start="3 3")
+given("(align (indent +2 empty)) a", "greater", "a5", "1 0 4 clear", name="case h with a step")
+# Not: inside is 5 to 5, so a3 is not read there, and a5 is.
+given("!(indent +2 a) a", "equal", "a3", "1 3 3 clear", start="3 3")
+given("!(indent +2 a) a", "equal", "a5", "failure", start="3 3")
+given("indent +2 !a", "equal", "a3", "0 3 3 clear", start="3 3")
+# "b from the old state": the first reads a5 and leaves 5 to 5 inside, in mode +2 3 to 3, and fails at c. From 0
+# on again: 1 on inside, 5 to 5, outside 4 to 4; then 5 to 5 in mode equal.
+given("indent +2 (a b) / indent +1 (a c)", "equal", "a5 c5", "2 4 4 clear")
+given("position +2 (a b) / a c", "equal", "a5 c5", "2 5 5 clear")
+# Rounds: 3 to 3 after the first, so that every a lies at 5. Through a rule too.
+given("(indent +2 a)*", "equal", "a5 a5 a6", "2 3 3 clear")
+given("position +2 X*", "equal", "a5 a5 a6", "2 3 3 clear", rules="X = a")
+# Two columns a level: a0; inside 2 to 2: a2; inside 4 to 4: a4; then a2 and a0 again. A line at 3 or 5 is at no
+# level, and the lines behind it are not read.
+LEVELS = "X = (align (a indent +2 X))*"
+given("X", "at-least", "a0 a2 a4 a2 a0", "5 0 0 clear", rules=LEVELS)
+given("X", "at-least", "a0 a2 a5 a2 a0", "2 0 0 clear", rules=LEVELS)
+given("X", "at-least", "a0 a3 a2", "1 0 0 clear", rules=LEVELS)
+
+# "A finite upper end may now pass 65,535 inside a run." From 65535 to 65535 by 31 inside is 65566 to 65566, where
+# no token lies: one in mode any is read, or under any, and the interval comes back as it was.
+LAST = "65535 65535"
+given("indent +31 empty", "equal", "a65535", f"0 {LAST} clear", start=LAST)
+given("indent +31 a", "any", "a7", f"1 {LAST} clear", start=LAST)
+given("indent +31 (indent any a)", "equal", "a7", f"1 {LAST} clear", start=LAST)
+given("indent +31 !a", "equal", "a65535", f"0 {LAST} clear", start=LAST)
+given("indent +31 a", "equal", "a65535", "failure", start=LAST)
+given("indent +31 (align a)", "any", "a65535", "failure", start=LAST)
+# 65504 to 65535 is 65535 to 65566 inside: only the upper end is past. a at 65535 leaves 65535 to 65535. One
+# further right there is no column left.
+given("indent +31 a", "equal", "a65535", "1 65504 65504 clear", start="65504 65535")
+given("indent +31 a", "equal", "a65535", "failure", start="65505 65535")
+given("a", "+31", "a65535", "1 65504 65504 clear", start="65504 65535")
+given("a", "+31", "a65535", "failure", start="65505 65535")
+# 511 times 31 is 15841.
+STEEP = over([A], lambda n: indent(n, step(31)))
+runs("511 indents by +31 over a, a15840", "failure", STEEP, tokens="a15840", node=511)
+runs("511 indents by +31 over a, a15845", "1 0 4 clear", STEEP, tokens="a15845", node=511)
+runs("511 indents by +31 from 65535 to 65535, mode any", f"1 {LAST} clear", STEEP, tokens="a7", node=511, mode=3,
+     lower=65535, upper=65535)
+# 50 steps by 31 a round are 1550: 100 rounds take 3 to 6 to 155003 to 155006 and back. After 42 rounds 0 to 0 is
+# 65100 to 65100, where align b finds its column; after 43 it is 66650.
+CLIMB = "indent +31 " * 50
+given("X", "any", "a0 " * 100, "100 3 6 clear", rules=f"X = a {CLIMB} X / empty", start="3 6",
+      name="100 a with 50 steps by 31 each, mode any, from 3 to 6")
+for count, column, answer in (
+    (42, 65099, "failure"), (42, 65100, "43 0 0 clear"), (42, 65101, "failure"), (43, 65535, "failure"),
+):
+    given("X", "any", "a0 " * count + f"b{column}", answer, rules=f"X = a {CLIMB} X / align b", start="0 0",
+          name=f"{count} a with 50 steps by 31 each, then align b at {column}")
 
 
 # --- Long lists ----------------------------------------------------------------------------------

@@ -58,7 +58,7 @@ def refused(number, *node_number):
     6 never occurs: it is "a lent slice too short for what is to be written", and what is lent here is not
     part of the inputs. Nor does 11: the tokens are the scanner's own, with terminals up to 3 + 252, "At most
     4,096 tokens, columns at most 65,535". Nor does 12: the start is "token 0, interval 0 without end, flag
-    clear", and a start node outside the table or a mode over 3 is 5 already.
+    clear", and a start node outside the table or a mode from 35 on is 5 already.
     """
     return spaced("refused", (number, *node_number))
 
@@ -529,6 +529,40 @@ case("blocks on empty lines", steps_all, b"\n \n\t\n", EMPTY_ANSWER)
 case("a number on a line of its own", steps, STEP_TEXT.replace(b": 0.5", b":\n    0.5"), EMPTY_ANSWER)
 
 
+# --- Two columns a level (02, Note 1) -----------------------------------------------------------------------
+
+# "One splicer maker indents each level by two columns, never more, and users want stray lines to fail."
+SPLICER = (b"span", b"splice", b"loss", b":")
+LEVEL_TEXT = (
+    b"span 1:\n  splice 1:\n    loss: 0.04\n    loss: 0.05\n  splice 2:\n    loss: 0.02\n"
+    b"span 2:\n  splice 3:\n    loss: 0.03\n"
+)
+
+
+def levels(relation):
+    """Spans, the splices of each and their losses, every line aligned with its level's first, and behind them no token."""
+    rules = f"Y = (align (b number d eol indent {relation} Z))+; Z = (align (c d number eol))+"
+    spans = f"(align (a number d eol indent {relation} Y))*"
+    return grammar(f"{spans} !(position any (a / b / c / d / number / word / eol))", GREATER, SPLICER, rules)
+
+
+# Align makes 0 to 0 of the first span, and the tokens behind it are greater. By 2 inside: 2 to 2 for the splices; again:
+# 4 to 4 for the losses. Out 2 to 2, then 0 to 0. Nine lines of four tokens.
+by_two = levels("+2")
+case("two columns a level", by_two, LEVEL_TEXT, success(36, 0, 0))
+case("two columns a level, moved right by 4", by_two, b"    " + LEVEL_TEXT[:-1].replace(b"\n", b"\n    "), success(36, 4, 4))
+# A line one column too far right or left is at no level, and a token is left behind what was read.
+STRAY = LEVEL_TEXT.replace(b"    loss: 0.02", b"     loss: 0.02")
+case("two columns a level, a stray loss further right", by_two, STRAY, FAILURE)
+case("two columns a level, a stray loss further left", by_two, LEVEL_TEXT.replace(b"    loss: 0.02", b"   loss: 0.02"), FAILURE)
+case("two columns a level, a stray splice", by_two, LEVEL_TEXT.replace(b"  splice 2", b"   splice 2"), FAILURE)
+# Under greater that loss is the first of its block and may stand at 5.
+case("greater a level, the same stray loss", levels("greater"), STRAY, success(36, 0, 0))
+# The last step as the start's mode, by 31: from 0 on it is 31 on, and 31 to 31 falls to 0 to 0.
+case("start mode 34 at column 30", grammar("a", 34), b" " * 30 + b":", FAILURE)
+case("start mode 34 at column 31", grammar("a", 34), b" " * 31 + b":", success(1, 0, 0))
+
+
 # --- The scanner's terminals and columns --------------------------------------------------------------------
 
 # "0 for a number (an optional `-`, digits, optionally `.` and digits ..); else 1".
@@ -797,7 +831,7 @@ case("no node", VERSION + START, EXAMPLE, refused(3))
 case("no node but keywords", VERSION + K0 + START, EXAMPLE, refused(3))
 # Also 5: neither the start node nor the rule's is there.
 case("no node but a rule", VERSION + R0 + START, EXAMPLE, refused(3))
-case("no node and mode 4", VERSION + start(0, 4), EXAMPLE, refused(3))
+case("no node and mode 35", VERSION + start(0, 35), EXAMPLE, refused(3))
 case("512 nodes, start at the last", grammar([EMPTY] * 512, ANY), EXAMPLE, EMPTY_ANSWER)
 case("512 nodes, start at the first", grammar([EMPTY] * 512, ANY, first=0), EXAMPLE, EMPTY_ANSWER)
 case("513 nodes, start at the last", grammar([EMPTY] * 513, ANY), EXAMPLE, refused(3))
@@ -846,9 +880,10 @@ for name, words in (
     ("not of itself", (5, 1, 0, 0)), ("repeat of itself", (6, 1, 0, 0)), ("indent of itself", (7, 1, 0, 1)),
     ("position of itself", (8, 1, 0, 1)), ("align of itself", (9, 1, 0, 0)),
     ("align of a higher node", (9, 2, 0, 0)),
-    ("indent relation 4", (7, 0, 0, 4)), ("indent relation 35", (7, 0, 0, 35)),
+    # 02, Note 1: "Numbers 4, 5 and 12 begin at relation or mode 35."
+    ("indent relation 35", (7, 0, 0, 35)), ("indent relation 36", (7, 0, 0, 36)),
     ("indent relation 255", (7, 0, 0, 255)),
-    ("position relation 4", (8, 0, 0, 4)), ("position relation 35", (8, 0, 0, 35)),
+    ("position relation 35", (8, 0, 0, 35)), ("position relation 36", (8, 0, 0, 36)),
     ("position relation 255", (8, 0, 0, 255)),
     ("empty with a", (0, 1, 0, 0)), ("empty with b", (0, 0, 1, 0)), ("empty with a relation", (0, 0, 0, 1)),
     ("empty with b of 256", (0, 0, 256, 0)),
@@ -861,6 +896,8 @@ for name, words in (
     ("align with b", (9, 0, 1, 0)), ("align with a relation", (9, 0, 0, 1)),
 ):
     case(f"bad node, {name}", grammar([EMPTY, words, EMPTY], ANY, (), [0], first=0), EXAMPLE, refused(4))
+for name, words in (("indent relation 34", indent(0, 34)), ("position relation 34", position(0, 34))):
+    case(f"good node, {name}", grammar([EMPTY, words, EMPTY], ANY, (), [0], first=0), EXAMPLE, EMPTY_ANSWER)
 # "node 0 a repeat of 0".
 case("node 0 a repeat of 0", grammar([repeat(0)], ANY, ()), EXAMPLE, refused(4))
 case("node 0 a sequence of 0 and 0", grammar([sequence(0, 0)], ANY, ()), EXAMPLE, refused(4))
@@ -873,7 +910,7 @@ case("terminal 255 without keywords", grammar([terminal(255)], ANY, ()), EXAMPLE
 
 # --- Refused by 5: rule nodes and the start -----------------------------------------------------------------
 
-# "a rule's node, or a file's start node .. file's mode over 3".
+# "a rule's node, or a file's start node ..". 02, Note 1: "Numbers 4, 5 and 12 begin at relation or mode 35."
 case("rule 0 = node 1 of 1", grammar([EMPTY], ANY, (), [1]), EXAMPLE, refused(5))
 case("last rule's node not there", grammar([EMPTY, EMPTY], ANY, (), [0, 1, 2]), EXAMPLE, refused(5))
 case("rule node 65,535", grammar([EMPTY], ANY, (), [65535]), EXAMPLE, refused(5))
@@ -882,8 +919,9 @@ case("rule node 512 of 512", grammar([EMPTY] * 512, ANY, (), [512]), EXAMPLE, re
 case("rule node 511 of 512", grammar([EMPTY] * 512, ANY, (), [511]), EXAMPLE, EMPTY_ANSWER)
 for first, count in ((1, 1), (2, 2), (256, 2), (512, 512), (65535, 1)):
     case(f"start node {first:,} of {count}", grammar([EMPTY] * count, ANY, (), first=first), EXAMPLE, refused(5))
-for mode in (4, 35, 128, 255):
+for mode in (35, 36, 128, 255):
     case(f"start mode {mode}", grammar("empty", mode, ()), EXAMPLE, refused(5))
+case("start mode 34", grammar("empty", 34, ()), EXAMPLE, EMPTY_ANSWER)
 
 
 # --- Refused by 7: well formed ------------------------------------------------------------------------------
@@ -1071,16 +1109,16 @@ FILES = (
     (1, "and 2", VERSION + SPACED + EMPTY_FIELD, refused(1)),
     (1, "and 3", VERSION, refused(1)),
     (1, "and 4", VERSION + BAD_NODE, refused(1)),
-    (1, "and 5", VERSION + rule(1, b"r0") + EMPTY_FIELD + start(0, 4)[:-1], refused(1)),
+    (1, "and 5", VERSION + rule(1, b"r0") + EMPTY_FIELD + start(0, 35)[:-1], refused(1)),
     (1, "and 7", VERSION + EMPTY_FIELD + node(6) + START + b"\x00", refused(1)),
-    (1, "and 2 to 5", VERSION + SPACED + rule(9, b"") + BAD_NODE * 513 + start(999, 9) + START, refused(1)),
+    (1, "and 2 to 5", VERSION + SPACED + rule(9, b"") + BAD_NODE * 513 + start(999, 99) + START, refused(1)),
     (2, "only", VERSION + SPACED + TAIL, refused(2)),
     (2, "and 3", VERSION + SPACED + START, refused(2)),
     (2, "and 3 by 513 nodes", VERSION + SPACED + EMPTY_FIELD * 513 + START, refused(2)),
     (2, "and 4", VERSION + SPACED + BAD_NODE + START, refused(2)),
     (2, "and 5", VERSION + rule(1, b"") + TAIL, refused(2)),
     (2, "and 7", VERSION + SPACED + EMPTY_FIELD + node(6) + start(1), refused(2)),
-    (2, "to 5", VERSION + keyword(b"") + rule(999, b"r0") + BAD_NODE * 513 + start(999, 9), refused(2)),
+    (2, "to 5", VERSION + keyword(b"") + rule(999, b"r0") + BAD_NODE * 513 + start(999, 99), refused(2)),
     (3, "only", VERSION + EMPTY_FIELD * 513 + START, refused(3)),
     (3, "and 4", VERSION + EMPTY_FIELD * 512 + BAD_NODE + START, refused(3)),
     (3, "and 5", VERSION + START, refused(3)),
@@ -1088,15 +1126,15 @@ FILES = (
     (3, "and 7", VERSION + EMPTY_FIELD * 512 + node(6) + START, refused(3)),
     (4, "only", VERSION + BAD_NODE + START, refused(4)),
     (4, "and 5 by the start", VERSION + BAD_NODE + start(1, 0), refused(4)),
-    (4, "and 5 by the mode", VERSION + BAD_NODE + start(0, 4), refused(4)),
+    (4, "and 5 by the mode", VERSION + BAD_NODE + start(0, 35), refused(4)),
     (4, "and 5 by a rule", VERSION + rule(1, b"r0") + BAD_NODE + START, refused(4)),
     # Node 1 is a repeat of empty.
     (4, "and 7", VERSION + EMPTY_FIELD + node(6) + BAD_NODE + START, refused(4)),
     (5, "by a rule", VERSION + rule(1, b"r0") + TAIL, refused(5)),
     (5, "by the start", VERSION + EMPTY_FIELD + start(1, 0), refused(5)),
-    (5, "by the mode", VERSION + EMPTY_FIELD + start(0, 4), refused(5)),
+    (5, "by the mode", VERSION + EMPTY_FIELD + start(0, 35), refused(5)),
     (5, "and 7 by the start", VERSION + EMPTY_FIELD + node(6) + start(2, 0), refused(5)),
-    (5, "and 7 by the mode", VERSION + EMPTY_FIELD + node(6) + start(1, 4), refused(5)),
+    (5, "and 7 by the mode", VERSION + EMPTY_FIELD + node(6) + start(1, 35), refused(5)),
     (5, "and 7 by a rule", VERSION + R0 + rule(1, b"r1") + node(2) + START, refused(5)),
     (7, "at node 1", VERSION + EMPTY_FIELD + node(6) + start(1, 3), refused(7, 1)),
     (7, "at node 0", VERSION + R0 + node(2) + START, refused(7, 0)),

@@ -521,11 +521,11 @@ BAD_FILES = (
     (4, "node 0 a repeat of 0", VERSION + node(6, 0) + START),
     (4, "kind 10", VERSION + node(10) + START),
     (4, "no such rule", VERSION + node(2, 0) + START),
-    (4, "relation 4", VERSION + EMPTY + node(7, 0, 0, 4) + START),
+    (4, "relation 35", VERSION + EMPTY + node(7, 0, 0, 35) + START),
     (4, "unused word", VERSION + node(0, 1) + START),
     (5, "rule 0 is node 1 of 1", VERSION + rule(1, b"r") + TAIL),
     (5, "start node 1 of 1", VERSION + EMPTY + start(1)),
-    (5, "mode 4", VERSION + EMPTY + start(0, 4)),
+    (5, "mode 35", VERSION + EMPTY + start(0, 35)),
 )
 for number, said, file in BAD_FILES:
     refused(f"file, {said}", number, file, b"a")

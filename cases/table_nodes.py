@@ -3,6 +3,16 @@
 # "Relations: 0 equal, 1 greater, 2 at least, 3 any"; "The same four numbers are token modes."
 EQUAL, GREATER, AT_LEAST, ANY = 0, 1, 2, 3
 
+# 02, Note 1: "Relations and modes 4 to 34 now mean ..", "Numbers 4, 5 and 12 begin at relation or mode 35."
+RELATION_COUNT = 35
+
+
+def step(amount):
+    """The relation or mode of a step: "the inner column is the outer one plus 1 to 31, the value less 3"."""
+    assert ANY < ANY + amount < RELATION_COUNT, amount
+    return ANY + amount
+
+
 # "Unused words are 0."
 EMPTY = (0, 0, 0, 0)
 

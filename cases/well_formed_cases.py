@@ -11,7 +11,8 @@ README.md says.
 import faults
 from expressions import RELATIONS
 from records import Cases, Payloads, wide
-from table_nodes import EMPTY, align, choice, flat, indent, not_, over, position, repeat, rule, sequence, terminal
+from table_nodes import EMPTY, RELATION_COUNT
+from table_nodes import align, choice, flat, indent, not_, over, position, repeat, rule, sequence, step, terminal
 
 CASES = Cases("well_formed_cases")
 BEFORE = Payloads()
@@ -107,8 +108,8 @@ refused("513 nodes and 129 rules", 3, [EMPTY] * 513, [0] * 129)
 ALLOWED = [
     (0, 0, 0, 0), (1, 0, 0, 0), (1, 3, 0, 0), (1, 254, 0, 0), (1, 255, 0, 0), (2, 0, 0, 0), (2, 1, 0, 0),
     (3, 0, 0, 0), (3, 1, 0, 0), (3, 1, 1, 0), (4, 0, 0, 0), (4, 0, 1, 0), (4, 1, 1, 0), (5, 0, 0, 0), (5, 1, 0, 0),
-    (6, 0, 0, 0), (6, 1, 0, 0), (7, 0, 0, 0), (7, 1, 0, 1), (7, 1, 0, 2), (7, 1, 0, 3), (8, 0, 0, 0), (8, 1, 0, 1),
-    (8, 1, 0, 2), (8, 1, 0, 3), (9, 0, 0, 0), (9, 1, 0, 0),
+    (6, 0, 0, 0), (6, 1, 0, 0), (7, 0, 0, 0), (7, 1, 0, 1), (7, 1, 0, 2), (7, 1, 0, 3), (7, 1, 0, 4), (7, 1, 0, 34),
+    (8, 0, 0, 0), (8, 1, 0, 1), (8, 1, 0, 2), (8, 1, 0, 3), (8, 1, 0, 4), (8, 1, 0, 34), (9, 0, 0, 0), (9, 1, 0, 0),
 ]
 for node in ALLOWED:
     passes(f"allowed node {node}", [A, B, node], [0, 1])
@@ -128,8 +129,8 @@ NOT_ALLOWED = [
     (4, 256, 0, 0), (4, 0, 256, 0), (5, 2, 0, 0), (5, 3, 0, 0), (5, 256, 0, 0), (5, 65535, 0, 0), (6, 2, 0, 0),
     (6, 3, 0, 0), (6, 256, 0, 0), (7, 2, 0, 0), (7, 3, 0, 1), (7, 256, 0, 2), (8, 2, 0, 0), (8, 3, 0, 1),
     (8, 256, 0, 2), (9, 2, 0, 0), (9, 3, 0, 0), (9, 65535, 0, 0),
-    # "relation over 3"
-    (7, 0, 0, 4), (7, 0, 0, 5), (7, 0, 0, 256), (7, 0, 0, 65535), (8, 0, 0, 4), (8, 0, 0, 5), (8, 0, 0, 257),
+    # 02, Note 1: "Numbers 4, 5 and 12 begin at relation or mode 35."
+    (7, 0, 0, 35), (7, 0, 0, 36), (7, 0, 0, 256), (7, 0, 0, 65535), (8, 0, 0, 35), (8, 0, 0, 36), (8, 0, 0, 257),
     (8, 0, 0, 65535),
     # "unused word not 0": empty uses none
     (0, 1, 0, 0), (0, 0, 1, 0), (0, 0, 0, 1), (0, 256, 0, 0), (0, 0, 256, 0), (0, 0, 0, 256),
@@ -169,7 +170,8 @@ refused("kind 10 as node 0 of 512", 4, [(10, 0, 0, 0)] + [EMPTY] * 511)
 passes("align of 510 as node 511", [EMPTY] * 511 + [align(510)])
 refused("align of 511 as node 511", 4, [EMPTY] * 511 + [align(511)])
 refused("sequence of 0 and 511 as node 511", 4, [EMPTY] * 511 + [sequence(0, 511)])
-refused("indent of relation 4 as node 511", 4, [EMPTY] * 511 + [indent(0, 4)])
+passes("indent of relation 34 as node 511", [EMPTY] * 511 + [indent(0, 34)])
+refused("indent of relation 35 as node 511", 4, [EMPTY] * 511 + [indent(0, 35)])
 
 
 # --- Number 5 ------------------------------------------------------------------------------------
@@ -272,6 +274,8 @@ for name, relation in RELATIONS.items():
     passes(f"(indent {name} a)*", [A, indent(0, relation), repeat(1)])
     bad(f"(position {name} empty)*", 2, [EMPTY, position(0, relation), repeat(1)])
     passes(f"(position {name} a)*", [A, position(0, relation), repeat(1)])
+bad("(indent +2 empty)*", 2, [EMPTY, indent(0, step(2)), repeat(1)])
+passes("(indent +2 a)*", [A, indent(0, step(2)), repeat(1)])
 bad("(align empty)*", 2, [EMPTY, align(0), repeat(1)])
 passes("(align a)*", [A, align(0), repeat(1)])
 bad("X* where X = empty", 2, [EMPTY, rule(0), repeat(1)], [0])
@@ -774,11 +778,11 @@ CORE_BAD = [EMPTY, rule(0), sequence(0, 1), EMPTY, choice(2, 3)]
 
 
 def any_indent(i):
-    return indent(i, i % 4)
+    return indent(i, i % RELATION_COUNT)
 
 
 def any_position(i):
-    return position(i, i % 4)
+    return position(i, i % RELATION_COUNT)
 
 
 def any_form(i):

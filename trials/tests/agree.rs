@@ -78,6 +78,12 @@ fn sets_and_two_ends_agree() {
         println!("{stats}");
         assert!(stats.share("run", "success") > 33.4);
         assert!(stats.share("run", "success, 2 or more read in layout") > 10.0);
+        // About half have steps, and more than a fifth of the successes go through one.
+        assert!((45.0..55.0).contains(&stats.share("run", "with steps")));
+        let success = stats.share("run", "success");
+        assert!(stats.share("run", "success, a token read by a step") > success / 5.0);
+        assert!(stats.share("run", "success, an end past 65,535") > 0.5);
+        assert!(stats.share("run", "failure, an end past 65,535") > 0.3);
         for number in [3, 4, 5, 7, 11, 12] {
             assert!(
                 stats.share("run", &format!("refused {number}")) > 0.3,

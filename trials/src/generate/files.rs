@@ -1,8 +1,10 @@
 //! Grammar files, good and damaged, with the room lent for their tables.
 
-use super::grammars::{self, Grammar};
+use super::grammars::{self, Grammar, LAST};
 use super::Rng;
+use crate::second::kind::{INDENT, POSITION};
 use crate::second::read;
+use crate::second::relation::{ANY, COUNT, EQUAL};
 
 /// A file and the lengths, in words, of the two lent slices.
 #[derive(Debug, Clone, PartialEq, Eq)]
@@ -80,12 +82,13 @@ pub(super) fn source(rng: &mut Rng) -> Source {
     } else {
         rng.below(nodes)
     };
+    let mode = grammar.relation(rng) as u8;
     Source {
         keywords,
         names,
         grammar,
         start: start as u16,
-        mode: rng.below(4) as u8,
+        mode,
     }
 }
 
@@ -272,7 +275,7 @@ fn damaged_bytes(rng: &mut Rng) -> Vec<u8> {
 /// A file at a limit or just past one.
 fn limits(rng: &mut Rng) -> Vec<u8> {
     let mut source = source(rng);
-    match rng.below(5) {
+    match rng.below(6) {
         // 253 or 254 keywords.
         0 => {
             let count = *rng.pick(&[253, 254]);
@@ -297,11 +300,18 @@ fn limits(rng: &mut Rng) -> Vec<u8> {
             fields.push((5, vec![0, 0, 0]));
             return bytes(&fields);
         }
-        // The start at the table's end, the modes around 3.
-        _ => {
+        // The start at the table's end, the modes around the last.
+        4 => {
             let count = source.grammar.nodes.len() as u16;
             source.start = *rng.pick(&[count - 1, count, 65_535]);
-            source.mode = *rng.pick(&[0, 3, 4, 255]);
+            source.mode = *rng.pick(&[EQUAL, ANY, LAST, COUNT, 255]) as u8;
+        }
+        // The relations around the last, over node 0 as the last node.
+        _ => {
+            let kind = *rng.pick(&[INDENT, POSITION]);
+            let relation = *rng.pick(&[ANY, LAST, COUNT, COUNT + 1, 255]);
+            source.grammar.nodes.truncate(511);
+            source.grammar.nodes.push([kind, 0, 0, relation]);
         }
     }
     bytes(&fields(&source))

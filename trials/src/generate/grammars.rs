@@ -1,19 +1,53 @@
-//! Grammars: well formed by construction, of several shapes, and wild ones.
+//! Grammars: well formed by construction, of several shapes, and wild ones. About half of
+//! them have steps.
 
 use super::Rng;
 use crate::second::kind::*;
+use crate::second::relation::{self, amount, ANY, AT_LEAST, EQUAL, GREATER};
 use crate::second::run::{Interval, State};
+
+/// The last relation, a step by the largest amount.
+pub(super) const LAST: u16 = relation::COUNT - 1;
 
 /// A table and its rules.
 #[derive(Debug, Clone)]
 pub(super) struct Grammar {
     pub nodes: Vec<[u16; 4]>,
     pub rules: Vec<u16>,
+    /// Whether about half of its relations are steps.
+    pub steps: bool,
+    /// Whether each round of its rule climbs by thousands of columns.
+    pub steep: bool,
 }
 
 impl Grammar {
+    /// No nodes yet, drawn with steps or without. Some that are drawn with them come to no
+    /// indent and no position, so more than half are.
+    fn new(rng: &mut Rng, rules: Vec<u16>) -> Self {
+        Grammar {
+            nodes: Vec::new(),
+            rules,
+            steps: rng.chance(60),
+            steep: false,
+        }
+    }
+
     pub fn words(&self) -> Vec<u16> {
         self.nodes.concat()
+    }
+
+    /// A relation or a mode for this grammar.
+    pub fn relation(&self, rng: &mut Rng) -> u16 {
+        self.relation_of(rng, &[EQUAL, GREATER, AT_LEAST, ANY])
+    }
+
+    /// A step half the time if this grammar has steps, else one of the choices.
+    fn relation_of(&self, rng: &mut Rng, choices: &[u16]) -> u16 {
+        if self.steps && rng.chance(50) {
+            step(rng)
+        } else {
+            *rng.pick(choices)
+        }
     }
 
     /// Adds a node and gives its number.
@@ -21,6 +55,17 @@ impl Grammar {
         self.nodes.push([kind, a, b, relation]);
         (self.nodes.len() - 1) as u16
     }
+}
+
+/// A step: mostly a small amount, sometimes the largest, and any.
+fn step(rng: &mut Rng) -> u16 {
+    let largest = usize::from(amount(LAST));
+    let by = match rng.below(10) {
+        0..=6 => rng.between(1, 4),
+        7 => largest,
+        _ => rng.between(1, largest),
+    };
+    ANY + by as u16
 }
 
 /// A grammar of any shape over the terminals of `alphabet`, mostly well formed.
@@ -71,10 +116,7 @@ pub(super) fn grown(rng: &mut Rng, size: usize, alphabet: &[u16]) -> Grammar {
         _ => *rng.pick(&[40, 127, 128]),
     };
     let promises: Vec<bool> = (0..rule_count).map(|_| rng.chance(75)).collect();
-    let mut grammar = Grammar {
-        nodes: Vec::new(),
-        rules: Vec::new(),
-    };
+    let mut grammar = Grammar::new(rng, Vec::new());
     let mut known: Vec<Known> = Vec::new();
     // One leaf is a terminal, so that every promise can be kept.
     let sure_terminal = rng.below(size.min(4));
@@ -83,7 +125,7 @@ pub(super) fn grown(rng: &mut Rng, size: usize, alphabet: &[u16]) -> Grammar {
         let (node, about) = if number == sure_terminal {
             leaf(rng, TERMINAL, alphabet, &promises)
         } else {
-            grow(rng, &known, alphabet, &promises)
+            grow(rng, &grammar, &known, alphabet, &promises)
         };
         grammar.nodes.push(node);
         known.push(about);
@@ -137,7 +179,13 @@ fn leaf(rng: &mut Rng, kind: u16, alphabet: &[u16], promises: &[bool]) -> ([u16;
 }
 
 /// The next node over those known.
-fn grow(rng: &mut Rng, known: &[Known], alphabet: &[u16], promises: &[bool]) -> ([u16; 4], Known) {
+fn grow(
+    rng: &mut Rng,
+    grammar: &Grammar,
+    known: &[Known],
+    alphabet: &[u16],
+    promises: &[bool],
+) -> ([u16; 4], Known) {
     let rule_weight = if promises.is_empty() { 0 } else { 12 };
     let first = known.is_empty();
     let over = |weight| if first { 0 } else { weight };
@@ -167,7 +215,7 @@ fn grow(rng: &mut Rng, known: &[Known], alphabet: &[u16], promises: &[bool]) -> 
     if kind == REPEAT && one.reads_nothing {
         kind = ALIGN;
     }
-    let relation = rng.below(4) as u16;
+    let relation = grammar.relation(rng);
     let (a, b) = (a as u16, b as u16);
     match kind {
         SEQUENCE => (
@@ -217,7 +265,7 @@ fn wrapped(rng: &mut Rng, grammar: &mut Grammar, node: u16, layers: usize) -> u1
         let relation = if kind == ALIGN {
             0
         } else {
-            rng.below(4) as u16
+            grammar.relation(rng)
         };
         node = grammar.push(kind, node, 0, relation);
     }
@@ -227,10 +275,7 @@ fn wrapped(rng: &mut Rng, grammar: &mut Grammar, node: u16, layers: usize) -> u1
 /// Blocks of statements, as in 001's example: a statement is a head and perhaps a
 /// block, a block is a row of statements under an indent, each of them aligned.
 fn blocks(rng: &mut Rng, alphabet: &[u16]) -> Grammar {
-    let mut grammar = Grammar {
-        nodes: Vec::new(),
-        rules: vec![0, 0],
-    };
+    let mut grammar = Grammar::new(rng, vec![0, 0]);
     let head = grammar.push(TERMINAL, *rng.pick(alphabet), 0, 0);
     let tail = grammar.push(TERMINAL, *rng.pick(alphabet), 0, 0);
     let empty = grammar.push(EMPTY, 0, 0, 0);
@@ -262,10 +307,12 @@ fn blocks(rng: &mut Rng, alphabet: &[u16]) -> Grammar {
     }
     let more = grammar.push(REPEAT, item, 0, 0);
     let row = grammar.push(SEQUENCE, item, more, 0);
-    let relation = *rng.pick(&[1, 1, 1, 2, 0, 3]);
+    let mostly_greater = [GREATER, GREATER, GREATER, AT_LEAST, EQUAL, ANY];
+    let relation = grammar.relation_of(rng, &mostly_greater);
     let mut rows = grammar.push(INDENT, row, 0, relation);
     if rng.chance(40) {
-        rows = grammar.push(POSITION, rows, 0, rng.below(4) as u16);
+        let mode = grammar.relation(rng);
+        rows = grammar.push(POSITION, rows, 0, mode);
     }
     grammar.rules[1] = rows;
     grammar
@@ -274,10 +321,10 @@ fn blocks(rng: &mut Rng, alphabet: &[u16]) -> Grammar {
 /// A rule that reads one token a round, or a repeat of one token, with layout around
 /// each round: deep or long runs.
 fn chain(rng: &mut Rng, alphabet: &[u16]) -> Grammar {
-    let mut grammar = Grammar {
-        nodes: Vec::new(),
-        rules: vec![0],
-    };
+    let mut grammar = Grammar::new(rng, vec![0]);
+    if grammar.steps && rng.chance(15) {
+        return steep(rng, grammar, alphabet);
+    }
     let letter = grammar.push(TERMINAL, *rng.pick(alphabet), 0, 0);
     let again = grammar.push(RULE, 0, 0, 0);
     let layers = match rng.below(20) {
@@ -301,6 +348,35 @@ fn chain(rng: &mut Rng, alphabet: &[u16]) -> Grammar {
     grammar
 }
 
+/// A chain whose rounds are steps alone, mostly by the largest amount, so that a row of
+/// tokens takes both ends past every column. Tokens are read in mode any there, and the
+/// last round reads nothing.
+fn steep(rng: &mut Rng, mut grammar: Grammar, alphabet: &[u16]) -> Grammar {
+    grammar.steep = true;
+    let letter = grammar.push(TERMINAL, *rng.pick(alphabet), 0, 0);
+    let read = grammar.push(POSITION, letter, 0, ANY);
+    let mut rest = grammar.push(RULE, 0, 0, 0);
+    let by = if rng.chance(70) { LAST } else { step(rng) };
+    // The odd one among them takes the upper end away.
+    let endless = rng.chance(30);
+    for _ in 0..rng.between(100, 500) {
+        let relation = if endless && rng.chance(1) {
+            *rng.pick(&[GREATER, AT_LEAST])
+        } else {
+            by
+        };
+        rest = grammar.push(INDENT, rest, 0, relation);
+    }
+    let both = grammar.push(SEQUENCE, read, rest, 0);
+    let other = if rng.chance(50) {
+        grammar.push(EMPTY, 0, 0, 0)
+    } else {
+        grammar.push(NOT, letter, 0, 0)
+    };
+    grammar.rules[0] = grammar.push(CHOICE, both, other, 0);
+    grammar
+}
+
 /// A table that keeps to checks 3 to 5 and to nothing else, often not well formed.
 pub(super) fn wild(rng: &mut Rng, alphabet: &[u16]) -> Grammar {
     let size = match rng.below(10) {
@@ -309,10 +385,8 @@ pub(super) fn wild(rng: &mut Rng, alphabet: &[u16]) -> Grammar {
         _ => rng.between(41, 512),
     };
     let rules = if rng.chance(30) { 0 } else { rng.between(1, 4) };
-    let mut grammar = Grammar {
-        nodes: Vec::new(),
-        rules: (0..rules).map(|_| rng.below(size) as u16).collect(),
-    };
+    let nodes_of_rules = (0..rules).map(|_| rng.below(size) as u16).collect();
+    let mut grammar = Grammar::new(rng, nodes_of_rules);
     for number in 0..size {
         let over = |weight| if number == 0 { 0 } else { weight };
         let rule_weight = if rules == 0 { 0 } else { 8 };
@@ -330,7 +404,7 @@ pub(super) fn wild(rng: &mut Rng, alphabet: &[u16]) -> Grammar {
         ]) as u16;
         let mut below = || rng.below(number.max(1)) as u16;
         let (a, b) = (below(), below());
-        let relation = rng.below(4) as u16;
+        let relation = grammar.relation(rng);
         match kind {
             EMPTY => grammar.push(EMPTY, 0, 0, 0),
             TERMINAL => grammar.push(TERMINAL, *rng.pick(alphabet), 0, 0),

@@ -36,7 +36,7 @@ pub fn report_input(rng: &mut Rng) -> ReportInput {
         let refused = *rng.pick(&[0, 1, 8, 11, 12, 14, 31, 127]);
         report.insert(rng.between(0, report.len()), refused);
     }
-    let file = if rng.chance(6) {
+    let file = if rng.chance(10) {
         file_input(rng).file
     } else {
         bytes(&fields(&source))

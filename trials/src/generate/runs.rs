@@ -1,8 +1,9 @@
 //! Inputs for the check and the interpreter.
 
-use super::grammars::{self, Grammar, Walk};
+use super::grammars::{self, Grammar, Walk, LAST};
 use super::Rng;
 use crate::second::kind::*;
+use crate::second::relation::{ANY, COUNT};
 use crate::second::run::{Interval, State};
 use crate::second::{run_within, Ran, Start};
 
@@ -96,7 +97,9 @@ fn start(rng: &mut Rng, grammar: &Grammar) -> Start {
         5..=7 if !grammar.rules.is_empty() => usize::from(*rng.pick(&grammar.rules)),
         _ => rng.below(count),
     };
-    let (lower, upper) = match rng.below(20) {
+    // With steps, more of the starts from which an end passes the last column.
+    let kinds = if grammar.steps { 24 } else { 20 };
+    let (lower, upper) = match rng.below(kinds) {
         0..=9 => (0, None),
         10..=12 => (0, Some(rng.below(12) as u32)),
         13..=15 => (rng.below(12) as u32, None),
@@ -104,7 +107,7 @@ fn start(rng: &mut Rng, grammar: &Grammar) -> Start {
             let lower = rng.below(10) as u32;
             (lower, Some(lower + rng.below(6) as u32))
         }
-        18 => (65_530 + rng.below(6) as u32, None),
+        18 | 20 => (65_530 + rng.below(6) as u32, None),
         _ => {
             let lower = 65_500 + rng.below(36) as u32;
             (lower, Some(rng.between(lower as usize, 65_535) as u32))
@@ -116,13 +119,17 @@ fn start(rng: &mut Rng, grammar: &Grammar) -> Start {
         lower,
         upper,
         flag: rng.chance(25),
-        mode: rng.below(4) as u16,
+        mode: grammar.relation(rng),
     }
 }
 
 /// Tokens for a start, which they may move to a later place.
 fn tokens(rng: &mut Rng, grammar: &Grammar, start: &mut Start, alphabet: &[u16]) -> Vec<u32> {
     let mut list: Vec<[u32; 2]> = match rng.below(20) {
+        5..=15 if grammar.steep => {
+            let count = rng.between(5, 250);
+            row(rng, alphabet, count)
+        }
         0..=15 => {
             let most = match rng.below(40) {
                 0 => 4_096,
@@ -147,7 +154,10 @@ fn tokens(rng: &mut Rng, grammar: &Grammar, start: &mut Start, alphabet: &[u16])
             walk.expression(start.node, start.mode, begin, 0);
             walk.tokens
         }
-        16 => long_row(rng, alphabet),
+        16 => {
+            let count = *rng.pick(&[20, 40, 200, 1_000, 4_095, 4_096]);
+            row(rng, alphabet, count)
+        }
         _ => {
             let count = rng.below(12);
             (0..count).map(|_| any_token(rng, alphabet)).collect()
@@ -189,12 +199,11 @@ fn tokens(rng: &mut Rng, grammar: &Grammar, start: &mut Start, alphabet: &[u16])
 }
 
 /// Many tokens of one terminal, at one column or at rising ones.
-fn long_row(rng: &mut Rng, alphabet: &[u16]) -> Vec<[u32; 2]> {
-    let count = *rng.pick(&[20, 40, 200, 1_000, 4_095, 4_096]);
+fn row(rng: &mut Rng, alphabet: &[u16], count: usize) -> Vec<[u32; 2]> {
     let terminal = u32::from(*rng.pick(alphabet));
     let first = *rng.pick(&[0, 1, 3, 60_000]);
     let step = *rng.pick(&[0, 0, 1]);
-    (0..count)
+    (0..count as u32)
         .map(|number| [terminal, first + step * number])
         .collect()
 }
@@ -278,7 +287,7 @@ fn break_table(rng: &mut Rng, input: &mut RunInput) {
 /// Breaks check 4 for one node.
 fn break_node(rng: &mut Rng, number: usize, rules: usize, node: &mut [u16]) {
     let high = [number as u16, number as u16 + 1, 512, 65_535];
-    match rng.below(6) {
+    match rng.below(7) {
         0 => node[0] = *rng.pick(&[10, 11, 255, 256, 65_535]),
         1 => {
             // A child that is not lower, a rule that is not there, a terminal over 255.
@@ -290,9 +299,9 @@ fn break_node(rng: &mut Rng, number: usize, rules: usize, node: &mut [u16]) {
                 _ => node[1] = *rng.pick(&high),
             }
         }
-        2 => node[3] = *rng.pick(&[1, 3, 4, 5, 255, 65_535]),
-        3 => node[2] = *rng.pick(&[1, number as u16, 65_535]),
-        4 => {
+        2 | 3 => node[3] = *rng.pick(&[1, ANY, LAST, COUNT, COUNT + 1, 255, 65_535]),
+        4 => node[2] = *rng.pick(&[1, number as u16, 65_535]),
+        5 => {
             // Every kind on the words of another.
             node[0] = rng.below(10) as u16;
         }
@@ -352,6 +361,6 @@ fn break_start(rng: &mut Rng, input: &mut RunInput) {
             start.upper = *rng.pick(&[None, Some(start.lower), Some(u32::MAX)]);
         }
         4 | 5 => start.upper = Some(*rng.pick(&[65_535, 65_536, u32::MAX])),
-        _ => start.mode = *rng.pick(&[3, 4, 5, 65_535]),
+        _ => start.mode = *rng.pick(&[ANY, LAST, COUNT, COUNT + 1, 65_535]),
     }
 }

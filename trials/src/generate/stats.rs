@@ -2,8 +2,9 @@
 
 use super::RunInput;
 use crate::second::kind::*;
+use crate::second::relation::{ANY, COUNT};
 use crate::second::run::{Interval, State};
-use crate::second::{FileRead, Ran};
+use crate::second::{FileRead, Ran, MOST_COLUMN};
 use std::collections::BTreeMap;
 use std::fmt;
 
@@ -23,20 +24,40 @@ impl Stats {
     /// for a run.
     pub fn note_run(&mut self, input: &RunInput, ran: Option<&Ran>) {
         *self.totals.entry("run").or_default() += 1;
+        let mut also = |class: &str| self.note("run", class.to_string());
+        let with_steps = with_steps(input);
+        if with_steps {
+            also("with steps");
+        }
         let class = match ran {
             None => "out of steps".to_string(),
-            Some(Ran::Failure) => "failure".to_string(),
+            Some(Ran::Failure) => {
+                if with_steps && traced(input).1 {
+                    also("failure, an end past 65,535");
+                }
+                "failure".to_string()
+            }
             Some(Ran::IllFormed(_)) => "refused 7".to_string(),
             Some(Ran::Refused(number)) => format!("refused {number}"),
             Some(Ran::Success { read, .. }) => {
+                let (way, past) = traced(input);
                 if *read >= 2 {
-                    self.note("run", "success, 2 or more read".to_string());
-                    if read_in_layout(input) >= 2 {
-                        self.note("run", "success, 2 or more read in layout".to_string());
+                    also("success, 2 or more read");
+                    if way.in_layout >= 2 {
+                        also("success, 2 or more read in layout");
                     }
                 }
                 if *read >= 100 {
-                    self.note("run", "success, 100 or more read".to_string());
+                    also("success, 100 or more read");
+                }
+                if way.steps {
+                    also("success, through a step");
+                    if way.by_steps >= 1 {
+                        also("success, a token read by a step");
+                    }
+                }
+                if with_steps && past {
+                    also("success, an end past 65,535");
                 }
                 "success".to_string()
             }
@@ -97,8 +118,41 @@ impl fmt::Display for Stats {
     }
 }
 
-/// The number of tokens that a success reads inside an indent, a position or an align.
-fn read_in_layout(input: &RunInput) -> usize {
+/// Whether a number is a step's.
+fn is_step(relation: u16) -> bool {
+    ANY < relation && relation < COUNT
+}
+
+/// Whether a table has a step, or the start's mode is one.
+fn with_steps(input: &RunInput) -> bool {
+    let (nodes, _) = input.nodes.as_chunks::<4>();
+    let mut layout = nodes
+        .iter()
+        .filter(|node| matches!(node[0], INDENT | POSITION));
+    is_step(input.start.mode) || layout.any(|node| is_step(node[3]))
+}
+
+/// What lies on the way to a success.
+#[derive(Clone, Copy, Default)]
+struct Way {
+    /// The tokens read inside an indent, a position or an align.
+    in_layout: usize,
+    /// The tokens read inside an indent by a step, or with a step as their mode.
+    by_steps: usize,
+    /// Whether an indent by a step succeeded, or a token with a step as its mode.
+    steps: bool,
+}
+
+/// What lies around an expression.
+#[derive(Clone, Copy, Default)]
+struct Around {
+    layout: bool,
+    step: bool,
+}
+
+/// The way to a run's success, none after a failure, and whether an end was past 65,535
+/// somewhere in the run.
+fn traced(input: &RunInput) -> (Way, bool) {
     let start = &input.start;
     let state = State {
         interval: Interval {
@@ -108,64 +162,91 @@ fn read_in_layout(input: &RunInput) -> usize {
         place: start.place as u16,
         flag: start.flag,
     };
-    let end = trace(input, start.node, start.mode, (state, 0), false);
-    end.map_or(0, |(_, count)| count)
+    let mut trace = Trace { input, past: false };
+    let begin = (state, Way::default());
+    let end = trace.expression(start.node, start.mode, begin, Around::default());
+    (end.unwrap_or(begin).1, trace.past)
 }
 
-/// The clauses once more, with a count of the tokens read in layout.
-fn trace(
-    input: &RunInput,
-    node: u16,
-    mode: u16,
-    at: (State, usize),
-    within: bool,
-) -> Option<(State, usize)> {
-    let words = &input.nodes[4 * usize::from(node)..][..4];
-    let (a, b, relation) = (words[1], words[2], words[3]);
-    let (state, count) = at;
-    match words[0] {
-        EMPTY => Some(at),
-        TERMINAL => {
-            let token = input.tokens.get(4 * usize::from(state.place)..)?;
-            if token.first() != Some(&u32::from(a)) {
-                return None;
+/// The clauses once more, to see what lies on the way.
+struct Trace<'i> {
+    input: &'i RunInput,
+    past: bool,
+}
+
+impl Trace<'_> {
+    fn expression(
+        &mut self,
+        node: u16,
+        mode: u16,
+        at: (State, Way),
+        around: Around,
+    ) -> Option<(State, Way)> {
+        let input = self.input;
+        let words = &input.nodes[4 * usize::from(node)..][..4];
+        let (a, b, relation) = (words[1], words[2], words[3]);
+        let (state, mut way) = at;
+        let in_layout = Around {
+            layout: true,
+            ..around
+        };
+        match words[0] {
+            EMPTY => Some(at),
+            TERMINAL => {
+                let token = input.tokens.get(4 * usize::from(state.place)..)?;
+                if token.first() != Some(&u32::from(a)) {
+                    return None;
+                }
+                let end = state.read(token[1], mode)?;
+                let by_mode = is_step(mode) && !state.flag;
+                way.in_layout += usize::from(around.layout);
+                way.by_steps += usize::from(around.step || by_mode);
+                way.steps |= by_mode;
+                Some((end, way))
             }
-            let end = state.read(token[1], mode)?;
-            Some((end, count + usize::from(within)))
-        }
-        RULE => trace(input, input.rules[usize::from(a)], mode, at, within),
-        SEQUENCE => {
-            let between = trace(input, a, mode, at, within)?;
-            trace(input, b, mode, between, within)
-        }
-        CHOICE => trace(input, a, mode, at, within).or_else(|| trace(input, b, mode, at, within)),
-        NOT => match trace(input, a, mode, at, within) {
-            Some(_) => None,
-            None => Some(at),
-        },
-        REPEAT => {
-            let mut at = at;
-            while let Some(end) = trace(input, a, mode, at, within) {
-                at = end;
+            RULE => self.expression(input.rules[usize::from(a)], mode, at, around),
+            SEQUENCE => {
+                let between = self.expression(a, mode, at, around)?;
+                self.expression(b, mode, between, around)
             }
-            Some(at)
-        }
-        INDENT => {
-            let interval = state.interval.inner(relation);
-            let inside = State { interval, ..state };
-            let (end, count) = trace(input, a, mode, (inside, count), true)?;
-            let interval = state.interval.meet(end.interval.outer(relation));
-            Some((State { interval, ..end }, count))
-        }
-        POSITION => trace(input, a, relation, at, true),
-        _ => {
-            let inside = State {
-                flag: true,
-                ..state
-            };
-            let (end, count) = trace(input, a, mode, (inside, count), true)?;
-            let flag = state.flag && end.flag;
-            Some((State { flag, ..end }, count))
+            CHOICE => match self.expression(a, mode, at, around) {
+                None => self.expression(b, mode, at, around),
+                end => end,
+            },
+            NOT => match self.expression(a, mode, at, around) {
+                Some(_) => None,
+                None => Some(at),
+            },
+            REPEAT => {
+                let mut at = at;
+                while let Some(end) = self.expression(a, mode, at, around) {
+                    at = end;
+                }
+                Some(at)
+            }
+            INDENT => {
+                let interval = state.interval.inner(relation);
+                self.past |= interval.upper.unwrap_or(interval.lower) > MOST_COLUMN;
+                let inside = State { interval, ..state };
+                let by_step = Around {
+                    layout: true,
+                    step: around.step || is_step(relation),
+                };
+                let (end, mut way) = self.expression(a, mode, (inside, way), by_step)?;
+                way.steps |= is_step(relation);
+                let interval = state.interval.meet(end.interval.outer(relation));
+                Some((State { interval, ..end }, way))
+            }
+            POSITION => self.expression(a, relation, at, in_layout),
+            _ => {
+                let inside = State {
+                    flag: true,
+                    ..state
+                };
+                let (end, way) = self.expression(a, mode, (inside, way), in_layout)?;
+                let flag = state.flag && end.flag;
+                Some((State { flag, ..end }, way))
+            }
         }
     }
 }
