@@ -6,9 +6,8 @@ use mathlib.Core.List.{List}
 use lib.ListN.{length, getD}
 use native.Mathlib.Omega.{arith}
 use borrow.Author.Tests.{le-ltb, lt-ltb, eq-eqb, ne-eqb}
-use Rattle.columns.specs.Relations.{amount}
 use Rattle.columns.specs.Intervals.{to, innerEnds}
-use Rattle.columns.specs.InternalHighest.{finite, highest}
+use Rattle.columns.specs.InternalHighest.{finite}
 use Rattle.columns.specs.declared.Upper.{Upper}
 use Rattle.columns.specs.declared.Upper.the-variants.{At}
 use Rattle.columns.specs.declared.Interval.{Interval}
@@ -40,15 +39,9 @@ child-same (suc (suc (suc (suc (suc (suc (suc (suc zero)))))))) r s a b = refl
 child-same (suc (suc (suc (suc (suc (suc (suc (suc (suc zero))))))))) r s a b = absurd (b refl)
 child-same (suc (suc (suc (suc (suc (suc (suc (suc (suc (suc q)))))))))) r s a b = refl
 
--- Room for a finite upper end to rise, and for the ends of an interval to rise by an amount.
+-- Room for a finite upper end to rise.
 pub room-at : {h : Upper} {x : ℕ} (d : ℕ) → h ≡ At x → finite h + d < 2 ^ 32 → x + d < 2 ^ 32
 room-at d e l = rw e at l
-
-pub lower-room : (c : Interval) (r d : ℕ) → d ≡ amount r → highest c + r < 2 ^ 32 → c .lower + d < 2 ^ 32
-lower-room c r d e l = omega arith
-
-pub upper-room : (c : Interval) (r d : ℕ) → d ≡ amount r → highest c + r < 2 ^ 32 → finite (c .upper) + d < 2 ^ 32
-upper-room c r d e l = omega arith
 
 -- A state with its upper end written anew.
 pub same-state : (s : State) (u : Upper) → s .interval .upper ≡ u → withInterval s (to (s .interval .lower) u) ≡ s
