@@ -14,12 +14,12 @@ HEAD = """\
 -- from the handbook by trials/handbook.py: nodes as tools/build.py numbers them, tokens as the scanner gives them, the answers
 -- as the handbook has them, where they follow from 01, "Columns and states", 02, note 1, and 001, section 2.1, by hand.
 -- `HandbookHold`, in proofs, computes them all.
-use Prim.Native.Nat.{ℕ, _+_}
+use Prim.Native.Nat.{ℕ}
 use mathlib.Core.Bool.{Bool, true, false}
 use mathlib.Core.List.{List, [], _∷_}
 use Rattle.table.specs.Answer.{given, refusedAt}
 use Rattle.table.specs.Form.{Form, empty, terminal, rule, sequence, choice, not, repeat, indent, position, align}
-use Rattle.columns.specs.Relations.{equal, greater, atLeast, any}
+use Rattle.columns.specs.Relations.{equal, greater, atLeast, any, step}
 use Rattle.columns.specs.Intervals.{to}
 use Rattle.columns.specs.declared.Upper.the-variants.{At, Endless}
 use Rattle.columns.specs.declared.Interval.{Interval}
@@ -29,10 +29,6 @@ use Rattle.clauses.specs.Cases.{TokenAt, _at_, reads, fails, Case, run, 
 -- A start at the first token: node, mode, interval, flag.
 abbrev pub within : ℕ → ℕ → Interval → Bool → Start
 within node mode interval flag = record { node = node; place = 0; interval = interval; flag = flag; mode = mode }
-
--- The step of an amount: "the value less 3" is the amount.
-abbrev pub step : ℕ → ℕ
-step amount = any + amount
 
 -- Terminals: 0 a number, 1 another word, 2 a line end, 3 + k keyword k of the grammar. A report's tokens stand below its
 -- lines, a grammar's nodes below the rule that first has them.

@@ -34,7 +34,7 @@ use Rattle.theorems.proofs.Narrows.{onward, within}
 use Rattle.theorems.proofs.ShownFacts.{shown, at-once}
 use Rattle.theorems.proofs.LimitLaws.{in-limits}
 use Rattle.after_child.specs.AfterChild.{leftState, alignedState}
-use Rattle.interpreter.specs.InternalWalk.{stateOf, outcomeOf, childState, tokenOutcome, ReadyToken, weight, mostWeight, mostEnd, Checked}
+use Rattle.interpreter.specs.InternalWalk.{stateOf, outcomeOf, childState, tokenOutcome, ReadyToken, weight, mostWeight, mostAmount, mostEnd, Checked}
 use Rattle.interpreter.specs.InternalWalk.{Ready, firstNode, ReadyFirst, ReadyRule, Gives}
 use Rattle.interpreter.proofs.HighLaws.{ends-under}
 
@@ -43,7 +43,7 @@ formed : (nodes : List ℕ) (n q : ℕ) → kindOf nodes n ≡ q → form nodes 
 unfolding form
 formed nodes n q e = rw e refl
 
--- A first child's state is at the same place, with the ends at most 31 higher.
+-- A first child's state is at the same place, with the ends higher by at most the largest amount.
 child-place : (q r : ℕ) (s : State) → childState q r s .place ≡ s .place
 unfolding childState
 child-place zero r s = refl
@@ -58,7 +58,7 @@ child-place (suc (suc (suc (suc (suc (suc (suc (suc zero)))))))) r s = refl
 child-place (suc (suc (suc (suc (suc (suc (suc (suc (suc zero))))))))) r s = refl
 child-place (suc (suc (suc (suc (suc (suc (suc (suc (suc (suc q)))))))))) r s = refl
 
-child-high : (q r : ℕ) (s : State) → r < relationCount → highest (childState q r s .interval) ≤ highest (s .interval) + 31
+child-high : (q r : ℕ) (s : State) → r < relationCount → highest (childState q r s .interval) ≤ highest (s .interval) + mostAmount
 unfolding childState
 child-high zero r s l = omega arith
 child-high (suc zero) r s l = omega arith
@@ -201,7 +201,7 @@ module _ (nodes rules words : List ℕ) where
         → Enters nodes rules (form nodes n) c
         → (u : State)
         → u .place ≡ s .place
-        → highest (u .interval) ≤ highest (s .interval) + 31
+        → highest (u .interval) ≤ highest (s .interval) + mostAmount
         → Lighter (weight nodes rules words n s) c u
     unfolding weight
     entered c i enter u p l =

@@ -5,10 +5,11 @@ use mathlib.Core.Bool.{true, false, cond}
 use mathlib.Core.List.{List}
 use lib.ListN.{length}
 use lib.Dec.{eqb}
-use Rattle.table.specs.Limits.{mostNodes, mostTokens, mostColumn}
+use Rattle.table.specs.Limits.{mostNodes, relationCount, mostTokens, mostColumn}
 use Rattle.table.specs.Answer.{given}
 use Rattle.table.specs.Checks.{tableAnswer}
 use Rattle.table.specs.Form.{Form, rule, kindOf, nodeCount, standsFor}
+use Rattle.columns.specs.Relations.{amount}
 use Rattle.columns.specs.Intervals.{ends, innerEnds, fits, afterToken}
 use Rattle.columns.specs.InternalHighest.{highest}
 use Rattle.columns.specs.declared.Interval.{Interval}
@@ -69,12 +70,17 @@ pub record ReadyToken (words : List ℕ) : Type 0 where
 unfoldable pub weight : List ℕ → List ℕ → List ℕ → ℕ → State → ℕ
 weight nodes rules words n s = (tokensOf words .count - s .place) * nodeCount nodes + rank nodes rules n
 
--- The largest weight, and the highest end: at every place each node is entered once, and raises both ends by at most 31.
+-- The largest weight: each place may be that of every node once.
 abbrev pub mostWeight : ℕ
 mostWeight = (mostTokens + 1) * mostNodes
 
+-- The largest amount of a step.
+abbrev pub mostAmount : ℕ
+mostAmount = amount (relationCount - 1)
+
+-- The highest end: the last column, raised by the largest amount for all that weighs.
 abbrev pub mostEnd : ℕ
-mostEnd = mostColumn + 31 * mostWeight
+mostEnd = mostColumn + mostAmount * mostWeight
 
 -- The checks that a call of the walk has behind it: 3, 4, 5, 7 and 11.
 pub record Checked (nodes rules words : List ℕ) : Type 0 where
@@ -87,7 +93,7 @@ pub record Ready (nodes rules words : List ℕ) (n : ℕ) (s : State) : Type 0 w
   pub checked : Checked nodes rules words
   pub node : n < nodeCount nodes
   pub place : s .place ≤ tokensOf words .count
-  pub room : highest (s .interval) + 31 * weight nodes rules words n s ≤ mostEnd
+  pub room : highest (s .interval) + mostAmount * weight nodes rules words n s ≤ mostEnd
 
 -- The node that is walked first in a node n of a kind: a terminal's own, else its first child a.
 abbrev pub firstNode : ℕ → ℕ → ℕ → ℕ
