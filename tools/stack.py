@@ -27,7 +27,7 @@ sys.path.insert(0, str(ROOT / "cases"))
 import depth  # noqa: E402
 import grammar_fields  # noqa: E402
 from depth import LIST, TOKENS  # noqa: E402
-from table_nodes import ANY, AT_LEAST, EMPTY  # noqa: E402
+from table_nodes import ANY, AT_LEAST, EMPTY, step  # noqa: E402
 
 PROGRAM = ROOT / "target" / "bin" / "depth"
 READER = ROOT / "target" / "bin" / "reader"
@@ -88,6 +88,7 @@ def shapes():
         Shape("indents, at least", chain(7, free, relation=2)),
         Shape("indents, any", chain(7, free, relation=3), ALL_READ_ENDLESS),
         Shape("indents, greater", chain(7, free, relation=1), ALL_READ_ENDLESS, mode=ANY),
+        Shape("indents by 31", chain(7, free, relation=step(31)), ALL_READ_ENDLESS, mode=ANY),
         # An even number of nots over the list looks ahead to the last token and reads none.
         Shape("nots", chain(5, free // 2 * 2), NONE_READ),
         Shape("choices", chain(4, free, b=EMPTY_NODE)),
