@@ -1185,9 +1185,11 @@ given("X", "any", "a0 " * 100 + "b65535", "failure", rules=FAR, start="65535 inf
 for amount in (1, 2, 31):
     for column, answer in ((4 + amount, "failure"), (5 + amount, "2 5 5 clear"), (6 + amount, "failure")):
         given(f"a indent +{amount} b", "equal", f"a5 b{column}", answer)
-# The same as the token's mode.
-for column, answer in ((35, "failure"), (36, "1 5 5 clear"), (37, "failure")):
-    given("a", "+31", f"a{column}", answer, start="5 5")
+# The same as the token's mode, and by a position.
+for amount in (1, 2, 31):
+    for column, answer in ((4 + amount, "failure"), (5 + amount, "1 5 5 clear"), (6 + amount, "failure")):
+        given("a", f"+{amount}", f"a{column}", answer, start="5 5")
+        given(f"position +{amount} a", "equal", f"a{column}", answer, start="5 5")
 # "On the way in both ends rise": 3 to 4 is 5 to 6 inside; i to i falls to i-2 to i-2. At least: 5 to 6 met with
 # 0 to i, and "on the way out both fall".
 row("a", "+2", "3 4", "- 3-3 4-4 -", first=4)
@@ -1201,8 +1203,8 @@ given("indent +2 a", "greater", "a6", "failure", start="3 3", flag="set")
 given("a", "+2", "a1", "failure")
 given("a", "+2", "a2", "1 0 0 clear")
 
-# "both fall, stopping at 0". 0 to 5 is 2 to 7 inside. Equal leaves 2 to 2, and both ends fall to 0. At least
-# leaves 2 to 4, and only the lower one does.
+# "both fall": to 0 and, in a run, from no end below the amount, so none has to stop there. 0 to 5 is 2 to 7 inside.
+# Equal leaves 2 to 2, and both ends fall to 0. At least leaves 2 to 4, and only the lower one does.
 given("indent +2 a", "equal", "a2", "1 0 0 clear", start="0 5")
 given("indent +2 a", "at-least", "a4", "1 0 2 clear", start="0 5")
 # Without end stays so: 4 on is 35 on inside. Any leaves 35 on; equal 35 to 35; at least 35 to 40.

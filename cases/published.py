@@ -760,8 +760,20 @@ run("001 4.1 expression failing", "001 section 4.1", "c at the outer baseline", 
 # a1 1..1; in 2.., b4 4..4, out 1..1 with 0..3 = 1..1.
 run("001 4.1 second expression", "001 section 4.1", "a indent greater b in mode equal", "success 2 1 1 clear",
     "position equal (a indent greater b)", "a1 b4")
-# The table of outer sets: a5 under each relation from N, mode equal: 5..5 on the way out.
-for relation, ends in (("equal", "5 5"), ("greater", "0 4"), ("at-least", "0 5"), ("any", "0 inf")):
+# Both with {(i+2, i)}, which the section names. a2 2..2; in 2.., b5 2..5; in 4..7, c4 >= 4, 4..4, out 2..5
+# with 2..2; out 2..2 with 0..2. c3 is not in 4...
+EXACT = "position at-least (align (a indent at-least (b indent +2 c)))"
+run("001 4.1 expression with a step", "001 section 4", "its first expression with the relation {(i+2, i)}",
+    "success 3 2 2 clear", EXACT, "a2 b5 c4")
+run("001 4.1 expression with a step failing", "001 section 4", "c one column right of the outer baseline", "failure",
+    EXACT, "a2 b5 c3")
+# a1 1..1; in 3..3: b3 is in it, out 1..1; b4 is not.
+run("001 4.1 second expression with a step", "001 section 4", "a indent +2 b in mode equal", "success 2 1 1 clear",
+    "position equal (a indent +2 b)", "a1 b3")
+run("001 4.1 second expression with a step failing", "001 section 4", "b one column too far", "failure",
+    "position equal (a indent +2 b)", "a1 b4")
+# The table of outer sets, and {(i+2, i)}: a5 under each relation from N, mode equal: 5..5 on the way out.
+for relation, ends in (("equal", "5 5"), ("greater", "0 4"), ("at-least", "0 5"), ("any", "0 inf"), ("+2", "3 3")):
     run(f"001 4.2 outer set of {relation}", "001 section 4.2, table of l and h", f"column 5 under {relation}",
         f"success 1 {ends} clear", f"indent {relation} a", "a5")
 
@@ -916,6 +928,17 @@ report("000 3.2 while on one line", "000 section 3.2.2, suite", "the second form
 # 0 is a column here. 6 + 3 + 3 + 4 read.
 report("000 3.2 list over lines", "000 section 3.2.2, atom", "brackets free the columns of their contents",
        "success 16 0 0 clear", PYTHON_KEYS, PROGRAM, "x = [1,\n2,\n  3]\ny = 4\n", PYTHON)
+
+# The footnote of section 3.1: occam's forms indent by exactly 2. Here a SEQ of processes, each two columns right of it;
+# the footnote has no grammar. Keywords SEQ = 3, SKIP = 4.
+OCCAM = {"process": '"SEQ" (position any eol) (indent +2 (align process)+) / "SKIP" position any eol'}
+# flag: SEQ0 0..0, end; in 2..2, flag: SKIP2, end; SEQ2 2..2, end; in 4..4, flag: SKIP4, end; out 2..2 with 2..2; out
+# 0..0 with 0..0. 8 read.
+report("000 3.1 processes indented by two", "000 section 3.1, footnote on occam", "each level exactly two columns further",
+       "success 8 0 0 clear", "SEQ SKIP", "align process", "SEQ\n  SKIP\n  SEQ\n    SKIP\n", OCCAM)
+# SKIP3 is not in 2..2, and a SEQ needs one process.
+report("000 3.1 process indented by three", "000 section 3.1, footnote on occam", "a process one column too far", "failure",
+       "SEQ SKIP", "align process", "SEQ\n   SKIP\n", OCCAM)
 
 
 # ---- 002 (Burreau 2023) ----

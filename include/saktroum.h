@@ -83,7 +83,7 @@ enum {
  * baseline plus an amount of 1 to 31, which is the number less 3. From 35 on they are refused (by 4, 5 and 12). */
 enum { SAKTROUM_EQUAL = 0, SAKTROUM_GREATER = 1, SAKTROUM_AT_LEAST = 2, SAKTROUM_ANY = 3 };
 
-/* The step of an amount: SAKTROUM_STEP(2) is 5, two columns right of the baseline. */
+/* The step of an amount from 1 to 31 (0 would give SAKTROUM_ANY): SAKTROUM_STEP(2) is 5, two columns right of the baseline. */
 #define SAKTROUM_STEP(amount) (SAKTROUM_ANY + (amount))
 
 /* The number in an answer, 0 if the call passed every check, and the node in one with 7. */

@@ -390,7 +390,7 @@ class Parser:
             apart = word.text in ("=", ":", "(") and after in RELATIONS
             hint = f"write {after} without {word.text}" if apart else like and f"is it {like}?"
             what = f"a relation ({', '.join(NAMED)}, or {STEPS[0]} to {STEPS[-1]})"
-            raise self.expected(what, hint or step_meant(word.text))
+            raise self.expected(what, hint or step_meant(word.text, self.before().text))
         return RELATIONS.index(self.take().text)
 
     def too_deep(self):
@@ -484,15 +484,18 @@ def near(name, names, least=0.6):
     return next((others[found] for found in difflib.get_close_matches(name.lower(), others, 1, least)), None)
 
 
-def step_meant(text):
-    """What is told of a word that is no relation, if a step could be meant by it."""
+def step_meant(text, before):
+    """What is told of a word that is no relation, if a step could be meant by it; before it stands indent, position or mode."""
     text = text.strip(QUOTES + '"')
     number = re.fullmatch(r"\+?0*([0-9]+)", text)
     if number and number[1] == "0":
         return "for no step write equal"
     if number:
-        over = f"no step is over {STEPS[-1]}; those of indents one in the other add up"
+        add_up = "; those of indents one in the other add up" if before == "indent" else ""
+        over = f"no step is over {STEPS[-1]}{add_up}"
         return f"is it +{number[1]}?" if f"+{number[1]}" in STEPS else over
+    if re.match(r"\+[0-9]", text):
+        return "a step is + and a number from 1 to 31, with a blank behind it"
     if text.startswith("+"):
         return "a step is written like +2, without a blank"
     return "a step goes to the right, as +2" if re.fullmatch("-[0-9]*", text) else None

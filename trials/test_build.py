@@ -173,7 +173,7 @@ class Messages(unittest.TestCase):
     def test_no_steps(self):
         """What is no step: told with its place, and how a step is written."""
         relation, written = f"{RELATION} expected, not", "a step is written like +2, without a blank"
-        over = "no step is over +31; those of indents one in the other add up"
+        over, apart = "no step is over +31", "a step is + and a number from 1 to 31, with a blank behind it"
         for word, told, hint in (
             *((zero, f"'{zero}'", "for no step write equal") for zero in ("+0", "+00", "0")),
             *((far, f"'{far}'", over) for far in ("+32", "+310", "+032", "32", "+" + "9" * 5000)),
@@ -181,13 +181,14 @@ class Messages(unittest.TestCase):
             ('"+2"', 'the keyword "+2"', "is it +2?"),
             ("'+2'", "'+2'", "is it +2?"),
             *((plus, "'+'", written) for plus in ("+", "+ 2", "++2", "+-2", "+\u0662")),
-            *((other, f"'{other}'", written) for other in ("+2x", "+2.5", "+2-3")),
+            *((other, f"'{other}'", apart) for other in ("+2x", "+2.5", "+2-3", "+2eol")),
             *((left, f"'{left}'", "a step goes to the right, as +2") for left in ("-2", "-0", "-")),
             ("--2", "'--'", "a comment begins with #"),
             ("=+2", "'='", "write +2 without ="),
             ("(+31)", "'('", "write +31 without ("),
         ):
-            self.says(HEAD + f"report = word indent {word} eol", f"x:4:22: {relation} {told}; {hint}")
+            add_up = "; those of indents one in the other add up" if hint == over else ""
+            self.says(HEAD + f"report = word indent {word} eol", f"x:4:22: {relation} {told}; {hint}{add_up}")
             self.says(HEAD + f"report = position\n {word} eol", f"x:5:2: {relation} {told}; {hint}")
             if word != "=+2":  # this is told as any other = behind mode
                 self.says(f"mode {word}", f"x:1:6: {relation} {told}; {hint}")
