@@ -13,6 +13,7 @@ import grammar_fields
 from grammar_fields import EMPTY, EVERY_KIND, NINE, START, TAIL, VERSION
 from grammar_fields import field, keyword, node, rule, start, with_keywords, with_names
 from records import Cases, Pairs, spaced, wide
+from table_nodes import ANY, RELATION_COUNT
 
 CASES = Cases("scanner_cases")
 PAIRS = Pairs(60, (1, 2, 4, 9))
@@ -892,7 +893,7 @@ for way in ("byte", "offset", "column"):
         file = field(1, b"\x02" if 1 in chosen else b"\x01")
         file += keyword(b"a:" if 2 in chosen else b"a")
         file += rule(0 if 5 not in chosen else 600 if 3 in chosen else 2, b"r")
-        file += EMPTY * (513 if 3 in chosen else 1) + node(8, 0, 0, 4 if 4 in chosen else 3) + START
+        file += EMPTY * (513 if 3 in chosen else 1) + node(8, 0, 0, RELATION_COUNT if 4 in chosen else ANY) + START
         report = b"x b"
         before = (1, 65535 if 9 in chosen else 65534, True)
         if 8 in chosen:

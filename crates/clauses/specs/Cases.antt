@@ -7,7 +7,7 @@ use mathlib.Core.List.{List, [], _∷_}
 use Rattle.table.specs.Answer.{Answer, given, refused, refusedAt}
 use Rattle.table.specs.Words.{eachWords}
 use Rattle.table.specs.Form.{Form, empty, terminal, rule, sequence, choice, not, repeat, indent, position, align, other}
-use Rattle.columns.specs.Relations.{equal, greater, atLeast, any}
+use Rattle.columns.specs.Relations.{equal, greater, atLeast, any, step}
 use Rattle.columns.specs.Intervals.{to}
 use Rattle.columns.specs.declared.Upper.{Upper}
 use Rattle.columns.specs.declared.Upper.the-variants.{At, Endless}
@@ -150,6 +150,9 @@ slipCases =
     (record { node = 1; place = 0; interval = to 65535 Endless; flag = false; mode = any }) (reads 1 65535 Endless false)
     ∷ run (terminal a ∷ align 0 ∷ indent 1 greater ∷ []) [] (a at 65535 ∷ [])
     (record { node = 2; place = 0; interval = to 65535 Endless; flag = false; mode = any }) fails
+    -- The same of a finite upper end ("may now pass 65,535", 02, note 1): under a step by 2 it is 65,537, and back.
+    ∷ run (terminal a ∷ indent 0 (step 2) ∷ []) [] (a at 7 ∷ [])
+    (record { node = 1; place = 0; interval = to 65535 (At 65535); flag = false; mode = any }) (reads 1 65535 (At 65535) false)
     -- "Not and failure hand the old state on": not of a b in mode equal, then a in mode greater.
     ∷ run (terminal b ∷ position 0 equal ∷ not 1 ∷ terminal a ∷ sequence 2 3 ∷ []) [] (a at 5 ∷ [])
     (from 4 greater) (reads 1 0 (At 4) false)
@@ -170,6 +173,10 @@ answerCases =
     ∷ run (rule 0 ∷ []) (0 ∷ []) [] (from 0 equal) (refusedAt 7 0)
     ∷ run (empty ∷ []) [] (256 at 0 ∷ []) (from 0 equal) (refused 11)
     ∷ run (empty ∷ []) [] [] (record { node = 0; place = 0; interval = to 5 (At 4); flag = false; mode = equal }) (refused 12)
+    -- "Numbers 4, 5 and 12 begin at relation or mode 35" (02, note 1).
+    ∷ run (empty ∷ indent 0 34 ∷ []) [] [] (from 1 34) (reads 0 0 Endless false)
+    ∷ run (empty ∷ indent 0 35 ∷ []) [] [] (from 1 34) (refused 4)
+    ∷ run (empty ∷ []) [] [] (from 0 35) (refused 12)
     -- "Checks run in rising number": 7 before 11, 11 before 12.
     ∷ run (rule 0 ∷ []) (0 ∷ []) (256 at 0 ∷ []) (from 0 equal) (refusedAt 7 0)
     ∷ run (empty ∷ []) [] (256 at 0 ∷ []) (from 1 equal) (refused 11)

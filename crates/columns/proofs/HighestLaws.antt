@@ -4,20 +4,27 @@ use mathlib.Core.Path.{_≡_, refl}
 use mathlib.Core.Bool.{Bool, true, false, cond}
 use native.Mathlib.Omega.{arith}
 use lib.Dec.{leb}
-use Rattle.columns.specs.Relations.{amount}
+use Rattle.columns.specs.Relations.{any, amount}
 use Rattle.columns.specs.Intervals.{less, plus, innerEnds, outerEnds, lowerEnd, meetEnds}
 use Rattle.columns.specs.InternalHighest.{finite, highest, rise}
 use Rattle.columns.specs.declared.Upper.{Upper}
 use Rattle.columns.specs.declared.Upper.the-variants.{At, Endless}
 use Rattle.columns.specs.declared.Interval.{Interval}
 
--- No end rises by more than the amount, or 1.
+-- No end rises by more than the amount, or 1; by a step it rises by the amount.
 pub rise-most : (r : ℕ) → rise r ≤ max 1 (amount r)
 rise-most zero = omega arith
 rise-most (suc zero) = omega arith
 rise-most (suc (suc zero)) = omega arith
 rise-most (suc (suc (suc zero))) = omega arith
 rise-most (suc (suc (suc (suc d)))) = omega arith
+
+pub rise-step : (r : ℕ) → any < r → rise r ≡ amount r
+rise-step zero h = absurd (omega arith)
+rise-step (suc zero) h = absurd (omega arith)
+rise-step (suc (suc zero)) h = absurd (omega arith)
+rise-step (suc (suc (suc zero))) h = absurd (omega arith)
+rise-step (suc (suc (suc (suc d)))) h = omega arith
 
 -- A finite end that is raised, and one that is lowered.
 plus-finite : (h : Upper) (d : ℕ) → finite (plus h d) ≤ finite h + d

@@ -7,9 +7,8 @@ use lib.ListN.{length, getD, drop}
 use lib.Dec.{ltb, eqb}
 use Rattle.table.specs.Answer.{Answer, given, refuseIf}
 use Rattle.table.specs.Every.{every}
-use Rattle.table.specs.Limits.{relationCount}
 use Rattle.table.specs.Form.{nodeCount}
-use Rattle.table.specs.Checks.{fails3, fails4, fails5}
+use Rattle.table.specs.Checks.{fails3, fails4, fails5, isRelation}
 use Rattle.file_fields.specs.Fields.{Field, twoBytes, fields, inOrder, tagged, rightLength}
 use Rattle.spellings.specs.Spellings.{singleAlone, rightSpellings}
 use Rattle.file_tables.specs.Tables.{ruleNode, wordsOf}
@@ -84,7 +83,7 @@ unfoldable pub fails5ByFile : List Field → Bool
 fails5ByFile fs =
     fails5 (nodeTable fs) (ruleList fs)
     || not (ltb (startNode fs) (nodeCount (nodeTable fs)))
-    || not (ltb (startMode fs) relationCount)
+    || not (isRelation (startMode fs))
 
 -- "A read answers the counts of nodes, rules and keywords and the start."
 pub record Contents : Type 0 where

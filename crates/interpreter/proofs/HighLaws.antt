@@ -11,7 +11,7 @@ use Rattle.clauses.specs.Clauses.{Tokens, State, success, Run, empty, terminal-
 use Rattle.clauses.specs.Clauses.{sequence, choice-first, choice-second, not, repeat-ends, repeat-again, indent}
 use Rattle.clauses.specs.Clauses.{position, align}
 
--- Past the last column once is past it twice.
+-- A bound that was raised to m is not raised by m again.
 twice : {k : ℕ} (b m : ℕ) → k ≤ max (max b m) m → k ≤ max b m
 twice b m h = omega arith
 

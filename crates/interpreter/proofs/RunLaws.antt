@@ -20,7 +20,7 @@ use Rattle.columns.specs.declared.Start.{Start}
 use Rattle.columns.specs.declared.Outcome.{Outcome}
 use Rattle.columns.specs.declared.Outcome.the-variants.{Success, Failure}
 use Rattle.table.specs.Answer.{Answer, given, refused, refusedAt}
-use Rattle.table.proofs.AnswerLaws.{first-refuses, first-names, first-passes}
+use Rattle.table.proofs.AnswerLaws.{first-refuses, first-names}
 use Rattle.well_formed.specs.Check.{checkAnswer}
 use Rattle.well_formed.proofs.VerdictLaws.{check-means}
 use Rattle.clauses.specs.Clauses as clauses

@@ -1,12 +1,12 @@
 -- The walk, step by step, over plain values: what each call is asked, and what each way out has shown.
-use Prim.Native.Nat.{ℕ, zero, suc, _+_, _-_, _*_, _≤_, _<_, _^_}
-use mathlib.Core.Path.{_≡_, refl, sym, ap, subst, _∙_}
+use Prim.Native.Nat.{ℕ, zero, suc, _+_, _-_, _*_, _≤_, _<_}
+use mathlib.Core.Path.{_≡_, refl, sym, subst}
 use mathlib.Core.Bool.{Bool, true, false, cond}
 use mathlib.Core.List.{List}
 use mathlib.Core.Logic.{⊎-elim}
 use lib.ListN.{length}
 use lib.Dec.{eqb}
-use native.Mathlib.Nat.{eq-or-lt-of-le, mul-le-mul, mul-le-mul-right, suc-mul}
+use native.Mathlib.Nat.{eq-or-lt-of-le, mul-le-mul}
 use native.Mathlib.Omega.{arith}
 use borrow.Author.Tests.{eqb-true, eqb-false}
 use Rattle.table.specs.Limits.{relationCount, mostColumn}
@@ -32,9 +32,10 @@ use Rattle.clauses.specs.Limits.{tokensOf}
 use Rattle.clauses.proofs.Sound.{terminal-read, terminal-unread}
 use Rattle.theorems.proofs.Narrows.{onward, within}
 use Rattle.theorems.proofs.ShownFacts.{shown, at-once}
+use Rattle.theorems.proofs.Existence.{outweighs}
 use Rattle.theorems.proofs.LimitLaws.{in-limits}
 use Rattle.after_child.specs.AfterChild.{leftState, alignedState}
-use Rattle.interpreter.specs.InternalWalk.{stateOf, outcomeOf, childState, tokenOutcome, ReadyToken, weight, mostWeight, mostAmount, mostEnd, Checked}
+use Rattle.interpreter.specs.InternalWalk.{stateOf, outcomeOf, childState, tokenOutcome, ReadyToken, weight, mostWeight, mostAmount, Checked}
 use Rattle.interpreter.specs.InternalWalk.{Ready, firstNode, ReadyFirst, ReadyRule, Gives}
 use Rattle.interpreter.proofs.HighLaws.{ends-under}
 
@@ -118,13 +119,6 @@ is-nine rules count (suc (suc (suc (suc (suc (suc (suc zero))))))) a b r i h0 h1
 is-nine rules count (suc (suc (suc (suc (suc (suc (suc (suc zero)))))))) a b r i h0 h1 h2 h3 h4 h5 h6 h7 h8 = absurd (h8 refl)
 is-nine rules count (suc (suc (suc (suc (suc (suc (suc (suc (suc zero))))))))) a b r i h0 h1 h2 h3 h4 h5 h6 h7 h8 = refl
 is-nine rules count (suc (suc (suc (suc (suc (suc (suc (suc (suc (suc q)))))))))) a b r i h0 h1 h2 h3 h4 h5 h6 h7 h8 = absurd i
-
--- A token less weighs more than any rank.
-token-lighter : (left left' most r r' : ℕ) → left' < left → r' ≤ most → 1 ≤ r → left' * most + r' < left * most + r
-token-lighter left left' most r r' h k l =
-    let x : suc left' * most ≤ left * most = mul-le-mul-right most h in
-    let y = suc-mul left' most in
-    omega arith
 
 module _ (nodes rules words : List ℕ) where
   made : {τ : ℕ} {f : Form} {s : State} {o : Outcome} → Run ends nodes rules (tokensOf words) τ f (stateOf s) (outcomeOf o) → Gives nodes rules words τ f s o
@@ -231,7 +225,7 @@ module _ (nodes rules words : List ℕ) where
         (λ (e : s .place ≡ u .place).
         let k = q (shown ends nodes rules (tokensOf words) d nothing (at-once (sym e))) in rw (← e) (omega arith))
         (λ (l : s .place < u .place).
-        token-lighter (tokensOf words .count - s .place) (tokensOf words .count - u .place) (nodeCount nodes)
+        outweighs (tokensOf words .count - s .place) (tokensOf words .count - u .place) (nodeCount nodes)
         (rank nodes rules n) (rank nodes rules c) (omega arith)
         (rank-most nodes rules (h .checked .table) (h .checked .well) c i) (rank-some nodes rules (h .checked .table) (h .checked .well) n))
         (eq-or-lt-of-le (onward ends nodes rules (tokensOf words) d))
@@ -373,7 +367,7 @@ module _ {nodes rules words : List ℕ} {τ₀ n₀ : ℕ} {s₀ : State} {τ n 
         record {
           ready = by-kind (λ (m : ℕ). Ready nodes rules words m (childState kind r s)) (λ p. rw (own p) (h .ready)) (λ h1. call h1 .ready);
           terminal = λ p. by-kind (λ (m : ℕ). kindOf nodes m ≡ 1) (λ q. q) (λ h1. absurd (h1 p));
-          room = let m = h .ready .room in let l = relation-in in omega arith;
+          room = let m = h .ready .room in let l = relation-in in let n = rise-most r in omega arith;
         }
 
   -- After it: the outcome x that it gave.

@@ -11,7 +11,7 @@ use Rattle.table.specs.Checks.{tableAnswer}
 use Rattle.table.specs.Form.{Form, rule, kindOf, nodeCount, standsFor}
 use Rattle.columns.specs.Relations.{amount}
 use Rattle.columns.specs.Intervals.{ends, innerEnds, fits, afterToken}
-use Rattle.columns.specs.InternalHighest.{highest}
+use Rattle.columns.specs.InternalHighest.{highest, rise}
 use Rattle.columns.specs.declared.Interval.{Interval}
 use Rattle.columns.specs.declared.State.{State}
 use Rattle.columns.specs.declared.Outcome.{Outcome}
@@ -70,7 +70,7 @@ pub record ReadyToken (words : List ℕ) : Type 0 where
 unfoldable pub weight : List ℕ → List ℕ → List ℕ → ℕ → State → ℕ
 weight nodes rules words n s = (tokensOf words .count - s .place) * nodeCount nodes + rank nodes rules n
 
--- The largest weight: each place may be that of every node once.
+-- The largest weight: 4,096 tokens left and rank 512.
 abbrev pub mostWeight : ℕ
 mostWeight = (mostTokens + 1) * mostNodes
 
@@ -78,7 +78,7 @@ mostWeight = (mostTokens + 1) * mostNodes
 abbrev pub mostAmount : ℕ
 mostAmount = amount (relationCount - 1)
 
--- The highest end: the last column, raised by the largest amount for all that weighs.
+-- No end passes this: 65,535 + 31 × 512 × 4,097 = 65,093,119.
 abbrev pub mostEnd : ℕ
 mostEnd = mostColumn + mostAmount * mostWeight
 
@@ -99,11 +99,11 @@ pub record Ready (nodes rules words : List ℕ) (n : ℕ) (s : State) : Type 0 w
 abbrev pub firstNode : ℕ → ℕ → ℕ → ℕ
 firstNode q n a = cond (eqb q 1) n a
 
--- What its walk asks: in a terminal it is one itself.
+-- What the walk of that node asks. For a terminal it is the node itself.
 pub record ReadyFirst (nodes rules words : List ℕ) (n q r : ℕ) (s : State) : Type 0 where
   pub ready : Ready nodes rules words n (childState q r s)
   pub terminal : q ≡ 1 → kindOf nodes n ≡ 1
-  pub room : highest (s .interval) + r < 2 ^ 32
+  pub room : highest (s .interval) + rise r < 2 ^ 32
 
 -- What the rule walk asks.
 pub record ReadyRule (nodes rules words : List ℕ) (x : ℕ) (s : State) : Type 0 where

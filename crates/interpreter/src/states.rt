@@ -1,4 +1,4 @@
-// States: where the first child of a form begins, and one token.
+// States: where the first child of a form begins, states and outcomes written anew, and one token.
 use columns::Interval;
 use columns::Outcome;
 use columns::State;
@@ -10,13 +10,13 @@ use table::kinds;
 use table::relations;
 ghost use mathlib.Core.Path.{_≡_};
 ghost use Prim.Native.Nat.{_+_, _<_, _^_};
-ghost use Rattle.columns.specs.Intervals.{plus, innerEnds};
-ghost use Rattle.columns.specs.InternalHighest.{finite, highest};
+ghost use Rattle.columns.specs.Intervals.{plus as plusEnd, innerEnds};
+ghost use Rattle.columns.specs.InternalHighest.{finite, highest, rise};
 ghost use Rattle.interpreter.specs.InternalWalk.{childState, ReadyToken, tokenOutcome, columnOutcome};
 
 // The state in which the first child of a node is walked: an indent's in its inner set, an align's with the flag set.
 pub(crate) fn entered(kind: u16, r: u16, s: State) -> State
-    requires { ⌜ highest (s .interval) + r < 2 ^ 32 ⌝ }
+    requires { ⌜ highest (s .interval) + rise r < 2 ^ 32 ⌝ }
     ensures { λ x. ⌜ x ≡ childState kind r s ⌝ }
 {
     let c = s.interval;
@@ -40,7 +40,7 @@ pub(crate) fn entered(kind: u16, r: u16, s: State) -> State
 
 // The inner set on the way in.
 fn inner(r: u16, c: Interval) -> Interval
-    requires { ⌜ highest c + r < 2 ^ 32 ⌝ }
+    requires { ⌜ highest c + rise r < 2 ^ 32 ⌝ }
     ensures { λ x. ⌜ x ≡ innerEnds r c ⌝ }
 {
     let l = c.lower;
@@ -62,16 +62,16 @@ fn inner(r: u16, c: Interval) -> Interval
         _ => {
             let d = amount(r);
             let lower = raised(l, d);
-            let upper = more(h, d);
+            let upper = plus(h, d);
             Interval { lower, upper }
         }
     }
 }
 
 // An upper end plus an amount; without end stays.
-fn more(h: Upper, d: u32) -> Upper
+fn plus(h: Upper, d: u32) -> Upper
     requires { ⌜ finite h + d < 2 ^ 32 ⌝ }
-    ensures { λ x. ⌜ x ≡ plus h d ⌝ }
+    ensures { λ x. ⌜ x ≡ plusEnd h d ⌝ }
 {
     match h {
         Upper::Endless => h,

@@ -1,5 +1,5 @@
 -- What the functions on intervals show, over plain values.
-use Prim.Native.Nat.{ℕ, zero, suc, _+_, _-_, _≤_, _<_, max}
+use Prim.Native.Nat.{ℕ, suc, _+_, _-_, _≤_, _<_, max}
 use mathlib.Core.Path.{_≡_, refl, sym, ap₂, _∙_}
 use mathlib.Core.Bool.{Bool, true, false, _&&_, and-true}
 use mathlib.Core.Logic.{_⊎_, inl, inr, ⊎-elim}
@@ -45,37 +45,26 @@ raised-upto : (h : Upper) (d i : ℕ) → d ≤ i → isUpTo (i - d) h ≡ isUpT
 raised-upto (At x) d i l = leb-same (i - d) x i (x + d) (λ k. omega arith) (λ k. omega arith)
 raised-upto Endless d i l = refl
 
--- A column lies in the inner set of a step where it does less the amount, and never below the amount.
+-- A step's number has four behind it.
+is-step : (r : ℕ) → any < r → (d : ℕ) × (r ≡ suc (suc (suc (suc d))))
+is-step r h = (r - 4, omega arith)
+
+-- A column lies in the inner set of a step exactly where, less the amount, it lies in the interval; none below the amount does.
 pub step-lies : (r : ℕ) (c : Interval) (i d : ℕ) → any < r → d ≡ amount r → d ≤ i → lies (i - d) c ≡ lies i (innerEnds r c)
-step-lies zero c i d h e l = absurd (omega arith)
-step-lies (suc zero) c i d h e l = absurd (omega arith)
-step-lies (suc (suc zero)) c i d h e l = absurd (omega arith)
-step-lies (suc (suc (suc zero))) c i d h e l = absurd (omega arith)
-step-lies (suc (suc (suc (suc k)))) c i d h e l =
-    let q : d ≡ suc k = omega arith in
-    rw q (ap₂ _&&_ (leb-same (c .lower) (i - suc k) (c .lower + suc k) i (λ k. omega arith) (λ k. omega arith)) (raised-upto (c .upper) (suc k) i (omega arith)))
+step-lies r c i d h e l =
+    let x = is-step r h in
+    let q : d ≡ suc (x .0) = omega arith in
+    rw (x .1) (rw q (ap₂ _&&_ (leb-same (c .lower) (i - suc (x .0)) (c .lower + suc (x .0)) i (λ k. omega arith) (λ k. omega arith)) (raised-upto (c .upper) (suc (x .0)) i (omega arith))))
 
 pub step-below : (r : ℕ) (c : Interval) (i d : ℕ) → any < r → d ≡ amount r → i < d → false ≡ lies i (innerEnds r c)
-step-below zero c i d h e l = absurd (omega arith)
-step-below (suc zero) c i d h e l = absurd (omega arith)
-step-below (suc (suc zero)) c i d h e l = absurd (omega arith)
-step-below (suc (suc (suc zero))) c i d h e l = absurd (omega arith)
-step-below (suc (suc (suc (suc k)))) c i d h e l = rw (lt-leb (c .lower + suc k) i (omega arith)) refl
+step-below r c i d h e l = let x = is-step r h in rw (x .1) (rw (lt-leb (c .lower + suc (x .0)) i (omega arith)) refl)
 
 -- What a step makes on the way in, and what it leaves on the way out.
 pub step-inner : (r : ℕ) (c : Interval) (d : ℕ) → any < r → d ≡ amount r → to (c .lower + d) (plus (c .upper) d) ≡ innerEnds r c
-step-inner zero c d h e = absurd (omega arith)
-step-inner (suc zero) c d h e = absurd (omega arith)
-step-inner (suc (suc zero)) c d h e = absurd (omega arith)
-step-inner (suc (suc (suc zero))) c d h e = absurd (omega arith)
-step-inner (suc (suc (suc (suc k)))) c d h e = let q : d ≡ suc k = omega arith in rw q refl
+step-inner r c d h e = let x = is-step r h in let q : d ≡ suc (x .0) = omega arith in rw (x .1) (rw q refl)
 
 pub step-outer : (r : ℕ) (c : Interval) (d : ℕ) → any < r → d ≡ amount r → to (c .lower - d) (less (c .upper) d) ≡ outerEnds r c
-step-outer zero c d h e = absurd (omega arith)
-step-outer (suc zero) c d h e = absurd (omega arith)
-step-outer (suc (suc zero)) c d h e = absurd (omega arith)
-step-outer (suc (suc (suc zero))) c d h e = absurd (omega arith)
-step-outer (suc (suc (suc (suc k)))) c d h e = let q : d ≡ suc k = omega arith in rw q refl
+step-outer r c d h e = let x = is-step r h in let q : d ≡ suc (x .0) = omega arith in rw (x .1) (rw q refl)
 
 -- The higher lower end, where either is.
 pub meet-second : (a b : Interval) (u : Upper) → a .lower ≤ b .lower → u ≡ lowerEnd (a .upper) (b .upper) → to (b .lower) u ≡ meetEnds a b

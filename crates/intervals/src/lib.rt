@@ -19,12 +19,12 @@ pub fn fits(flag: bool, mode: u16, c: Interval, i: u32) -> bool
         relations::GREATER => l < i,
         relations::AT_LEAST => l <= i,
         relations::ANY => true,
-        _ => stepped(r, c, i),
+        _ => lies_in_step(r, c, i),
     }
 }
 
-// Whether a column lies in the inner set of a step: less the amount it lies in the interval.
-fn stepped(r: u16, c: Interval, i: u32) -> bool
+// Whether a column lies in the inner set of a step: exactly where the column less the amount lies in the interval.
+fn lies_in_step(r: u16, c: Interval, i: u32) -> bool
     requires { ⌜ any < r ⌝ }
     ensures { λ x. ⌜ x ≡ liesIn i (innerEnds r c) ⌝ }
 {

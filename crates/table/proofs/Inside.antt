@@ -1,4 +1,4 @@
--- A table that passes 3, 4 and 5 has its children and rules inside.
+-- A table that passes 3, 4 and 5 has its children and rules inside, and its relations among those there are.
 use Prim.Native.Nat.{ℕ, zero, suc, _<_, _≤_, _%_}
 use mathlib.Core.Path.{_≡_, refl}
 use mathlib.Core.Bool.{Bool, true, false, not, _&&_, _||_, true≢false, false≢true}
@@ -14,12 +14,15 @@ use Rattle.table.specs.Checks.{fails3, fails4, fails5, unused, lower, is
 use Rattle.table.specs.InternalInside.{Inside}
 use Rattle.table.proofs.Every.{every-at, and-left, and-right, both-false}
 
--- Of three tests that hold, the first and the second.
+-- Of three tests that hold, each.
 first : (a b c : Bool) → (a && b && c) ≡ true → a ≡ true
 first a b c e = and-left a b (and-left (a && b) c e)
 
 second : (a b c : Bool) → (a && b && c) ≡ true → b ≡ true
 second a b c e = and-right a b (and-left (a && b) c e)
+
+third : (a b c : Bool) → (a && b && c) ≡ true → c ≡ true
+third a b c e = and-right (a && b) c e
 
 module _ (rules : List ℕ) (count n : ℕ) (h : n < count) (there : (k : ℕ) → k < length rules → standsFor rules k < count) where
   below : {a : ℕ} → lower a n ≡ true → a < count
@@ -38,9 +41,6 @@ module _ (rules : List ℕ) (count n : ℕ) (h : n < count) (there : (k : ℕ) �
   words-inside (suc (suc (suc (suc (suc (suc (suc (suc zero)))))))) a b r e = below (first (lower a n) (unused b) (isRelation r) e)
   words-inside (suc (suc (suc (suc (suc (suc (suc (suc (suc zero))))))))) a b r e = below (first (lower a n) (unused b) (unused r) e)
   words-inside (suc (suc (suc (suc (suc (suc (suc (suc (suc (suc k)))))))))) a b r e = absurd (false≢true e)
-
-third : (a b c : Bool) → (a && b && c) ≡ true → c ≡ true
-third a b c e = and-right (a && b) c e
 
 -- An unused relation is 0, and a used one is one of those there are.
 relation-unused : (r : ℕ) → unused r ≡ true → r < relationCount

@@ -26,7 +26,7 @@ unused word = eqb word 0
 abbrev pub lower : ℕ → ℕ → Bool
 lower child n = ltb child n
 
--- Whether a relation is one of those there are.
+-- Whether a relation, or a mode, is one of those there are: "Numbers 4, 5 and 12 begin at relation or mode 35" (02, note 1).
 abbrev pub isRelation : ℕ → Bool
 isRelation r = ltb r relationCount
 

@@ -50,12 +50,15 @@ after-ended (ended (success s)) next otherwise e k l = k s refl
 after-ended (ended failure) next otherwise e k l = l refl
 after-ended unfinished next otherwise e k l = absurd (let q = e .is in let z : _≡_ {A = ℕ} 0 1 = cc in omega arith)
 
--- Fewer tokens weigh more than any rank.
-pub weighs-less : (left left' most r r' : ℕ) → left' < left → r' ≤ most → left' * (most + 1) + r' < left * (most + 1) + r
-weighs-less left left' most r r' h k =
-    let x : suc left' * (most + 1) ≤ left * (most + 1) = mul-le-mul-right (most + 1) h in
-    let y = suc-mul left' (most + 1) in
+-- One token fewer outweighs any rank, where no rank is 0 or where one more than the most counts.
+pub outweighs : (left left' most r r' : ℕ) → left' < left → r' ≤ most → 1 ≤ r → left' * most + r' < left * most + r
+outweighs left left' most r r' h k l =
+    let x : suc left' * most ≤ left * most = mul-le-mul-right most h in
+    let y = suc-mul left' most in
     omega arith
+
+pub weighs-less : (left left' most r r' : ℕ) → left' < left → r' ≤ most → left' * (most + 1) + r' < left * (most + 1) + r
+weighs-less left left' most r r' h k = let x = outweighs left left' (most + 1) (r + 1) (r' + 1) h (omega arith) (omega arith) in omega arith
 
 module _ (nodes rules : List ℕ) (tokens : Tokens) (passing : tableAnswer nodes rules ≡ given tt) (every-well : Passes nodes rules) where
   -- Tokens left, then rank.

@@ -1,5 +1,5 @@
--- 02, note 1: on the way out the upper end is not below the amount. Agreement with sets is claimed for such intervals
--- (`columns: Lawful`, outside), and these two laws show that a run has no others.
+-- 02, note 1: on the way out the upper end is not below the amount. Agreement with sets holds for such intervals (`columns`,
+-- `step-outside`), and these two laws show that a run has no others.
 use Prim.Native.Nat.{ℕ}
 use mathlib.Core.Bool.{Bool}
 use mathlib.Core.List.{List}

@@ -35,15 +35,15 @@ returns-4 c =
     fits-by (start .args .flag) (start .args .mode) (joined .r) (start .args .c) (start .args .i) (joined .came)
     (λ a. (a .0 .taken, a .1)) (λ b. (b .0 .left, b .1)) (rw (c .match .keys4, leb·zero (start .args .i)) refl)
 
-stepped-requires : tie.Need-stepped-requires
-stepped-requires c κs = over-three _ (c .match .rest .0 .0 .0 .1) (c .match .rest .0 .0 .1) (c .match .rest .0 .1) (c .match .rest .1)
+lies-in-step-requires : tie.Need-lies-in-step-requires
+lies-in-step-requires c κs = over-three _ (c .match .rest .0 .0 .0 .1) (c .match .rest .0 .0 .1) (c .match .rest .0 .1) (c .match .rest .1)
 
 returns-5 : tie.Need-returns-5
 returns-5 c =
     let joined = c .before .before .if1 in
     let start = c .before .before .before in
     fits-by (start .args .flag) (start .args .mode) (joined .r) (start .args .c) (start .args .i) (joined .came)
-    (λ a. (a .0 .taken, a .1)) (λ b. (b .0 .left, b .1)) (c .stepped .ensures)
+    (λ a. (a .0 .taken, a .1)) (λ b. (b .0 .left, b .1)) (c .lies-in-step .ensures)
 
 pub fits-spec : {M : Type 1} → statement M
-fits-spec = tie.close (tie.spec (λ c κs. search needs) stepped-requires returns returns-2 returns-3 returns-4 returns-5)
+fits-spec = tie.close (tie.spec (λ c κs. search needs) lies-in-step-requires returns returns-2 returns-3 returns-4 returns-5)

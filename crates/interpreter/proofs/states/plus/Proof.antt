@@ -1,7 +1,7 @@
--- `interpreter::states::more` meets its contract.
+-- `interpreter::states::plus` meets its contract.
 use borrow.Author.Needs.{needs}
-use Rattle.interpreter.proofs.states.more.Statement.{statement}
-use Rattle.interpreter.proofs.states.more.Tie as tie
+use Rattle.interpreter.proofs.states.plus.Statement.{statement}
+use Rattle.interpreter.proofs.states.plus.Tie as tie
 use mathlib.Core.Path.{refl, ap}
 use Rattle.columns.specs.declared.Upper.the-variants.{At}
 use Rattle.interpreter.proofs.LeafLaws.{room-at}
@@ -15,5 +15,5 @@ returns c = rw (c .enum-told .given .1) refl
 returns-2 : tie.Need-returns-2
 returns-2 c = rw (c .before .before .h .given .1) (ap At (c .raised .ensures))
 
-pub more-spec : {M : Type 1} → statement M
-more-spec = tie.close (tie.spec (λ c. search needs) (λ c. search needs) raised-requires returns returns-2)
+pub plus-spec : {M : Type 1} → statement M
+plus-spec = tie.close (tie.spec (λ c. search needs) (λ c. search needs) raised-requires returns returns-2)

@@ -1,7 +1,7 @@
--- `intervals::stepped` meets its contract.
+-- `intervals::lies_in_step` meets its contract.
 use borrow.Author.Needs.{needs}
-use Rattle.intervals.proofs.stepped.Statement.{statement}
-use Rattle.intervals.proofs.stepped.Tie as tie
+use Rattle.intervals.proofs.lies_in_step.Statement.{statement}
+use Rattle.intervals.proofs.lies_in_step.Tie as tie
 use mathlib.Core.Path.{_∙_}
 use Rattle.intervals.proofs.IntervalLaws.{step-lies, step-below}
 
@@ -21,5 +21,5 @@ returns-2 c =
     let start = c .before .before .before in
     c .lies .ensures ∙ step-lies (start .args .r) (start .args .c) (start .args .i) _ (start .pre) (c .before .before .amount .ensures) (c .before .if1 .left)
 
-pub stepped-spec : {M : Type 1} → statement M
-stepped-spec = tie.close (tie.spec amount-requires lies-requires returns returns-2)
+pub lies-in-step-spec : {M : Type 1} → statement M
+lies-in-step-spec = tie.close (tie.spec amount-requires lies-requires returns returns-2)
