@@ -21,7 +21,7 @@ pub fn deep() -> Result<(), String> {
     for (name, form, b, relation) in FORMS {
         deepest(name, [form, b, relation], Start::from_first(0, AT_LEAST))?;
     }
-    // Both ends as high as they come. In mode any the tokens are read, though all of them lie left of the ends.
+    // Both ends nearly as high as they come. In mode any the tokens are read, though all of them lie left of the ends.
     let highest = Start {
         lower: 65_535,
         upper: Some(65_535),

@@ -82,8 +82,8 @@ fn sets_and_two_ends_agree() {
         assert!((45.0..55.0).contains(&stats.share("run", "with steps")));
         let success = stats.share("run", "success");
         assert!(stats.share("run", "success, a token read by a step") > success / 5.0);
-        assert!(stats.share("run", "success, an end past 65,535") > 0.5);
-        assert!(stats.share("run", "failure, an end past 65,535") > 0.3);
+        assert!(stats.share("run", "success, an upper end past 65,535") > 0.5);
+        assert!(stats.share("run", "failure, an upper end past 65,535") > 0.2);
         for number in [3, 4, 5, 7, 11, 12] {
             assert!(
                 stats.share("run", &format!("refused {number}")) > 0.3,

@@ -304,7 +304,7 @@ fn limits(rng: &mut Rng) -> Vec<u8> {
         4 => {
             let count = source.grammar.nodes.len() as u16;
             source.start = *rng.pick(&[count - 1, count, 65_535]);
-            source.mode = *rng.pick(&[EQUAL, ANY, LAST, COUNT, 255]) as u8;
+            source.mode = *rng.pick(&[EQUAL, ANY, LAST, COUNT, COUNT + 1, 255]) as u8;
         }
         // The relations around the last, over node 0 as the last node.
         _ => {

@@ -25,44 +25,42 @@ impl Stats {
     pub fn note_run(&mut self, input: &RunInput, ran: Option<&Ran>) {
         *self.totals.entry("run").or_default() += 1;
         let mut also = |class: &str| self.note("run", class.to_string());
-        let with_steps = with_steps(input);
-        if with_steps {
+        if with_steps(input) {
             also("with steps");
         }
         let class = match ran {
             None => "out of steps".to_string(),
             Some(Ran::Failure) => {
-                if with_steps && traced(input).1 {
-                    also("failure, an end past 65,535");
+                if traced(input).1 {
+                    also("failure, an upper end past 65,535");
                 }
                 "failure".to_string()
             }
             Some(Ran::IllFormed(_)) => "refused 7".to_string(),
             Some(Ran::Refused(number)) => format!("refused {number}"),
             Some(Ran::Success { read, .. }) => {
-                let (way, past) = traced(input);
-                if *read >= 2 {
-                    also("success, 2 or more read");
-                    if way.in_layout >= 2 {
-                        also("success, 2 or more read in layout");
-                    }
-                }
-                if *read >= 100 {
-                    also("success, 100 or more read");
-                }
-                if way.steps {
-                    also("success, through a step");
-                    if way.by_steps >= 1 {
-                        also("success, a token read by a step");
-                    }
-                }
-                if with_steps && past {
-                    also("success, an end past 65,535");
-                }
+                self.note_success(input, *read);
                 "success".to_string()
             }
         };
         self.note("run", class);
+    }
+
+    /// Notes how a run with so many tokens read succeeded.
+    fn note_success(&mut self, input: &RunInput, read: u32) {
+        let (way, past) = traced(input);
+        for (holds, class) in [
+            (read >= 2, "2 or more read"),
+            (read >= 2 && way.in_layout >= 2, "2 or more read in layout"),
+            (read >= 100, "100 or more read"),
+            (way.steps, "through a step"),
+            (way.steps && way.by_steps >= 1, "a token read by a step"),
+            (past, "an upper end past 65,535"),
+        ] {
+            if holds {
+                self.note("run", format!("success, {class}"));
+            }
+        }
     }
 
     /// Notes a file reader's answer.
@@ -150,8 +148,8 @@ struct Around {
     step: bool,
 }
 
-/// The way to a run's success, none after a failure, and whether an end was past 65,535
-/// somewhere in the run.
+/// The way to a run's success, none after a failure, and whether a finite upper end was
+/// past 65,535 somewhere in the run.
 fn traced(input: &RunInput) -> (Way, bool) {
     let start = &input.start;
     let state = State {
@@ -182,29 +180,16 @@ impl Trace<'_> {
         at: (State, Way),
         around: Around,
     ) -> Option<(State, Way)> {
-        let input = self.input;
-        let words = &input.nodes[4 * usize::from(node)..][..4];
+        let words = &self.input.nodes[4 * usize::from(node)..][..4];
         let (a, b, relation) = (words[1], words[2], words[3]);
-        let (state, mut way) = at;
         let in_layout = Around {
             layout: true,
             ..around
         };
         match words[0] {
             EMPTY => Some(at),
-            TERMINAL => {
-                let token = input.tokens.get(4 * usize::from(state.place)..)?;
-                if token.first() != Some(&u32::from(a)) {
-                    return None;
-                }
-                let end = state.read(token[1], mode)?;
-                let by_mode = is_step(mode) && !state.flag;
-                way.in_layout += usize::from(around.layout);
-                way.by_steps += usize::from(around.step || by_mode);
-                way.steps |= by_mode;
-                Some((end, way))
-            }
-            RULE => self.expression(input.rules[usize::from(a)], mode, at, around),
+            TERMINAL => self.terminal(a, mode, at, around),
+            RULE => self.expression(self.input.rules[usize::from(a)], mode, at, around),
             SEQUENCE => {
                 let between = self.expression(a, mode, at, around)?;
                 self.expression(b, mode, between, around)
@@ -224,29 +209,53 @@ impl Trace<'_> {
                 }
                 Some(at)
             }
-            INDENT => {
-                let interval = state.interval.inner(relation);
-                self.past |= interval.upper.unwrap_or(interval.lower) > MOST_COLUMN;
-                let inside = State { interval, ..state };
-                let by_step = Around {
-                    layout: true,
-                    step: around.step || is_step(relation),
-                };
-                let (end, mut way) = self.expression(a, mode, (inside, way), by_step)?;
-                way.steps |= is_step(relation);
-                let interval = state.interval.meet(end.interval.outer(relation));
-                Some((State { interval, ..end }, way))
-            }
+            INDENT => self.indent((a, relation), mode, at, around),
             POSITION => self.expression(a, relation, at, in_layout),
             _ => {
-                let inside = State {
-                    flag: true,
-                    ..state
-                };
-                let (end, way) = self.expression(a, mode, (inside, way), in_layout)?;
-                let flag = state.flag && end.flag;
+                let inside = State { flag: true, ..at.0 };
+                let (end, way) = self.expression(a, mode, (inside, at.1), in_layout)?;
+                let flag = at.0.flag && end.flag;
                 Some((State { flag, ..end }, way))
             }
         }
+    }
+
+    fn terminal(
+        &self,
+        a: u16,
+        mode: u16,
+        (state, mut way): (State, Way),
+        around: Around,
+    ) -> Option<(State, Way)> {
+        let token = self.input.tokens.get(4 * usize::from(state.place)..)?;
+        if token.first() != Some(&u32::from(a)) {
+            return None;
+        }
+        let end = state.read(token[1], mode)?;
+        let by_mode = is_step(mode) && !state.flag;
+        way.in_layout += usize::from(around.layout);
+        way.by_steps += usize::from(around.step || by_mode);
+        way.steps |= by_mode;
+        Some((end, way))
+    }
+
+    fn indent(
+        &mut self,
+        (a, relation): (u16, u16),
+        mode: u16,
+        (state, way): (State, Way),
+        around: Around,
+    ) -> Option<(State, Way)> {
+        let interval = state.interval.inner(relation);
+        self.past |= interval.upper.is_some_and(|upper| upper > MOST_COLUMN);
+        let inside = State { interval, ..state };
+        let by_step = Around {
+            layout: true,
+            step: around.step || is_step(relation),
+        };
+        let (end, mut way) = self.expression(a, mode, (inside, way), by_step)?;
+        way.steps |= is_step(relation);
+        let interval = state.interval.meet(end.interval.outer(relation));
+        Some((State { interval, ..end }, way))
     }
 }
