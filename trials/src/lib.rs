@@ -1,4 +1,4 @@
-//! Trials of the proved reader against a second one that was written from document 01 and the papers alone: generated
+//! Trials of the proved reader against a second one that was written from documents 01 and 02 and the papers alone: generated
 //! inputs, published examples and benchmarks.
 
 pub mod generate;

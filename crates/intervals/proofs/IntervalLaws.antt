@@ -53,8 +53,10 @@ is-step r h = (r - 4, omega arith)
 pub step-lies : (r : ℕ) (c : Interval) (i d : ℕ) → any < r → d ≡ amount r → d ≤ i → lies (i - d) c ≡ lies i (innerEnds r c)
 step-lies r c i d h e l =
     let x = is-step r h in
-    let q : d ≡ suc (x .0) = omega arith in
-    rw (x .1) (rw q (ap₂ _&&_ (leb-same (c .lower) (i - suc (x .0)) (c .lower + suc (x .0)) i (λ k. omega arith) (λ k. omega arith)) (raised-upto (c .upper) (suc (x .0)) i (omega arith))))
+    let a = suc (x .0) in
+    let q : d ≡ a = omega arith in
+    let low = leb-same (c .lower) (i - a) (c .lower + a) i (λ k. omega arith) (λ k. omega arith) in
+    rw (x .1) (rw q (ap₂ _&&_ low (raised-upto (c .upper) a i (omega arith))))
 
 pub step-below : (r : ℕ) (c : Interval) (i d : ℕ) → any < r → d ≡ amount r → i < d → false ≡ lies i (innerEnds r c)
 step-below r c i d h e l = let x = is-step r h in rw (x .1) (rw (lt-leb (c .lower + suc (x .0)) i (omega arith)) refl)

@@ -32,7 +32,7 @@ fn lies_in_step(r: u16, c: Interval, i: u32) -> bool
     if i < d { false } else { lies(c, i - d) }
 }
 
-// The amount of a step: its number less 3.
+// The amount of a step: its number less 3; 0 for the relations that have a name.
 pub fn amount(r: u16) -> u32
     ensures { λ d. ⌜ d ≡ amountOf r ⌝ }
 {
