@@ -5,6 +5,7 @@ use mathlib.Core.Bool.{Bool, true, false, cond}
 use native.Mathlib.Omega.{arith}
 use lib.Dec.{leb}
 use Rattle.columns.specs.Relations.{any, amount}
+use Rattle.columns.proofs.RelationLaws.{is-step}
 use Rattle.columns.specs.Intervals.{less, plus, innerEnds, outerEnds, lowerEnd, meetEnds}
 use Rattle.columns.specs.InternalHighest.{finite, highest, rise}
 use Rattle.columns.specs.declared.Upper.{Upper}
@@ -20,11 +21,10 @@ rise-most (suc (suc (suc zero))) = omega arith
 rise-most (suc (suc (suc (suc d)))) = omega arith
 
 pub rise-step : (r : ℕ) → any < r → rise r ≡ amount r
-rise-step zero h = absurd (omega arith)
-rise-step (suc zero) h = absurd (omega arith)
-rise-step (suc (suc zero)) h = absurd (omega arith)
-rise-step (suc (suc (suc zero))) h = absurd (omega arith)
-rise-step (suc (suc (suc (suc d)))) h = omega arith
+rise-step r h = let x = is-step r h in by-step (x .0) (x .1)
+  where
+    by-step : (d : ℕ) → r ≡ suc (suc (suc (suc d))) → rise r ≡ amount r
+    by-step d q = let a : amount r ≡ suc d = omega arith in rw (a, q) refl
 
 -- A finite end that is raised, and one that is lowered.
 plus-finite : (h : Upper) (d : ℕ) → finite (plus h d) ≤ finite h + d

@@ -507,7 +507,11 @@ module _ {nodes rules words : List ℕ} {n q r : ℕ} {s : State} (h : ReadyFirs
   -- The state i that the form makes.
   module _ {i : State} (y : i ≡ childState q r s) where
     -- To the expression walk of a node that is no terminal.
-    pub first-less : (kindOf nodes n ≡ 1 → ⊥) → {T : ℕ} → cond (eqb q 1) 0 (2 * weight nodes rules words n (childState q r s) + 2) ≡ T → 2 * weight nodes rules words n i + 1 < T
+    pub first-less :
+        (kindOf nodes n ≡ 1 → ⊥)
+        → {T : ℕ}
+        → cond (eqb q 1) 0 (2 * weight nodes rules words n (childState q r s) + 2) ≡ T
+        → 2 * weight nodes rules words n i + 1 < T
     first-less f {T} e = rw y (by-test (eqb q 1) refl e)
       where
         by-test :

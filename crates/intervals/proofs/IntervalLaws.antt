@@ -7,6 +7,7 @@ use lib.Dec.{leb, ltb}
 use native.Mathlib.Omega.{arith}
 use borrow.Author.Tests.{lt-leb, le-leb}
 use Rattle.table.proofs.Orders.{le-or-lt}
+use Rattle.columns.proofs.RelationLaws.{is-step}
 use Rattle.columns.specs.Relations.{any, amount}
 use Rattle.columns.specs.Intervals.{to, less, plus, innerEnds, outerEnds, lowerEnd, meetEnds, isUpTo, lies, fits}
 use Rattle.columns.specs.declared.Upper.{Upper}
@@ -44,10 +45,6 @@ leb-same a b c d f g = ⊎-elim (λ p. le-leb a b p ∙ sym (le-leb c d (f p))) 
 raised-upto : (h : Upper) (d i : ℕ) → d ≤ i → isUpTo (i - d) h ≡ isUpTo i (plus h d)
 raised-upto (At x) d i l = leb-same (i - d) x i (x + d) (λ k. omega arith) (λ k. omega arith)
 raised-upto Endless d i l = refl
-
--- A step's number has four behind it.
-is-step : (r : ℕ) → any < r → (d : ℕ) × (r ≡ suc (suc (suc (suc d))))
-is-step r h = (r - 4, omega arith)
 
 -- A column lies in the inner set of a step exactly where, less the amount, it lies in the interval; none below the amount does.
 pub step-lies : (r : ℕ) (c : Interval) (i d : ℕ) → any < r → d ≡ amount r → d ≤ i → lies (i - d) c ≡ lies i (innerEnds r c)
