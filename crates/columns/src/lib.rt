@@ -1,5 +1,5 @@
-// Columns and states: the types. An upper end is a column or without end; it stands inside the interval, the interval inside
-// the state, the state inside the outcome's Success case.
+// Columns, states and captures: the types. An upper end is a column or without end; it stands inside the interval, the
+// interval inside the state, the state inside the outcome's Success case.
 
 // An upper end.
 pub enum Upper {
@@ -33,4 +33,12 @@ pub struct Start {
     pub interval: Interval,
     pub flag: bool,
     pub mode: u16,
+}
+
+// What a rule read (02, Note 2): the rule, its first token, the token after its last, and the number of captures around it.
+pub struct Capture {
+    pub rule: u32,
+    pub first: u32,
+    pub after: u32,
+    pub around: u32,
 }

@@ -1,4 +1,4 @@
-// The numbers of the checks that turn a call down (01, "Turned-down calls").
+// The numbers of the checks that turn a call down (01, "Turned-down calls"; 13 and 14: 02, Note 2).
 
 // The grammar file: its length, fields, tags and number of keywords.
 pub const FIELDS: u8 = 1;
@@ -35,3 +35,9 @@ pub const TOKENS: u8 = 11;
 
 // The start of a run.
 pub const START: u8 = 12;
+
+// Fewer capture places than the list needs.
+pub const CAPTURE_ROOM: u8 = 13;
+
+// The capture that a text is shown for.
+pub const CAPTURE: u8 = 14;
