@@ -1,3 +1,4 @@
+pub mod GiveLaws
 pub mod Sound
 pub mod CasesHold
 pub mod HandbookHold

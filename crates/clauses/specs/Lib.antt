@@ -1,8 +1,10 @@
 pub mod Clauses
+pub mod Trace
 pub mod AlikeOutcomes
 pub mod Evaluation
 pub mod Limits
 pub mod RunAnswer
+pub mod ListAnswer
 pub mod ThirdDemand
 pub mod Cases
 pub mod HandbookCases

@@ -11,7 +11,8 @@ use Rattle.columns.specs.declared.Start.{Start}
 use Rattle.well_formed.specs.Check.{checkAnswer}
 use Rattle.clauses.specs.Clauses.{Outcome, Run}
 use Rattle.clauses.specs.Limits.{tokensOf, fails11, fails12}
-use Rattle.clauses.specs.Evaluation.{outcomeFor}
+use Rattle.clauses.specs.Trace.{Trace}
+use Rattle.clauses.specs.Evaluation.{outcomeFor, traceFor}
 
 -- A run of the clauses over sets: at the start's node, in its mode, from its place and flag and "every natural number in its
 -- interval".
@@ -29,6 +30,12 @@ EndsRun nodes rules words start o =
 abbrev pub ourOutcome : List ℕ → List ℕ → List ℕ → Start → Outcome Interval
 ourOutcome nodes rules words start =
     outcomeFor nodes rules (tokensOf words) (start .mode) (start .node)
+    (start .place, start .interval, start .flag)
+
+-- Its trace.
+abbrev pub ourTrace : List ℕ → List ℕ → List ℕ → Start → Trace
+ourTrace nodes rules words start =
+    traceFor nodes rules (tokensOf words) (start .mode) (start .node)
     (start .place, start .interval, start .flag)
 
 -- "the interpreter 3, 4, 5, 7, 11, 12": 3, 4, 5 and 7, then 11, then 12, then the outcome.

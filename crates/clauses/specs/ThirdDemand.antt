@@ -1,8 +1,9 @@
 -- Demand 3: for every well-formed grammar, token list and start within the limits the clauses over sets give exactly one
--- outcome, and what a run answers is alike.
+-- outcome, and what a run answers is alike; their captures are those that a run lists (02, Note 2).
 use Prim.Native.Nat.{ℕ}
 use mathlib.Core.Path.{_≡_}
 use mathlib.Core.List.{List}
+use lib.ListN.{length}
 use Rattle.table.specs.Answer.{given}
 use Rattle.columns.specs.Sets.{ColumnSet, sets}
 use Rattle.columns.specs.Intervals.{ends}
@@ -11,6 +12,7 @@ use Rattle.columns.specs.declared.Start.{Start}
 use Rattle.clauses.specs.Clauses.{State, Outcome, success}
 use Rattle.clauses.specs.AlikeOutcomes.{AlikeOutcome}
 use Rattle.clauses.specs.RunAnswer.{SetRun, runAnswer, Reads}
+use Rattle.clauses.specs.ListAnswer.{setCaptures, ourCaptures, listAnswer}
 
 pub record ThirdDemand (nodes rules words : List ℕ) (start : Start) : Type 1 where
   -- a run answers an outcome,
@@ -23,5 +25,17 @@ pub record ThirdDemand (nodes rules words : List ℕ) (start : Start) : Type 1 w
   pub only : (o : Outcome ColumnSet) → SetRun nodes rules words start o → o ≡ theirs
   -- and the two are alike;
   pub alike : AlikeOutcome ends sets ours theirs
-  -- a success has read so many tokens from the start's place on
+  -- a success has read so many tokens from the start's place on,
   pub read : (s : State Interval) → ours ≡ success s → (n : ℕ) × Reads (start .place) n (s .0)
+  -- and every derivation over sets has our captures
+  pub captures :
+      (o : Outcome ColumnSet) (d : SetRun nodes rules words start o)
+      → setCaptures nodes rules words start o d ≡ ourCaptures nodes rules words start
+
+-- The same for a run that lists, into so many lent words: where 13 does not apply either, it answers that outcome and the
+-- number of those captures. `listAfter` has the words.
+pub record ListDemand (nodes rules words : List ℕ) (start : Start) (lent : ℕ) : Type 1 where
+  pub demand : ThirdDemand nodes rules words start
+  pub listed :
+      listAnswer nodes rules words start lent
+      ≡ given (record { outcome = demand .ours; count = length (ourCaptures nodes rules words start) })
