@@ -41,7 +41,7 @@ reads tokens τ a s =
     && fits (s .2) τ (s .1) (tokens .column (s .0))
 
 -- The outcome in a result. One that met the bound may be anything, as no grammar that passes the check meets it
--- (`outcome-derived`, in `Existence`); failure is the value that needs no state.
+-- (`outcome-given`, in `Existence`); failure is the value that needs no state.
 abbrev pub outcomeIn : Result → Outcome Interval
 outcomeIn (ended o t) = o
 outcomeIn unfinished = failure

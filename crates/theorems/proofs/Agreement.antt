@@ -1,13 +1,13 @@
--- Demand 3, in its words, and the likeness of two ends and sets for every grammar.
+-- Demand 3, in its words, with the captures; and the likeness of two ends and sets for every grammar.
 use Prim.Native.Nat.{ℕ, _-_}
-use mathlib.Core.Path.{_≡_, refl}
+use mathlib.Core.Path.{_≡_, refl, ap₂, _∙_}
 use mathlib.Core.Bool.{Bool, true, false}
 use mathlib.Core.List.{List}
 use native.Mathlib.Omega.{arith}
 use Rattle.table.specs.Answer.{Answer, given, refused, refusedAt, refuseIf, andThen}
-use Rattle.table.specs.Form.{Form}
+use Rattle.table.specs.Form.{Form, form}
 use Rattle.columns.specs.Sets.{ColumnSet, sets}
-use Rattle.columns.specs.Intervals.{ends}
+use Rattle.columns.specs.Intervals.{Lies, ends}
 use Rattle.columns.specs.Alike.{Alike}
 use Rattle.columns.proofs.SetLaws.{sets-lawful}
 use Rattle.columns.proofs.EndLaws.{ends-lawful}
@@ -16,32 +16,40 @@ use Rattle.columns.specs.declared.Start.{Start}
 use Rattle.well_formed.specs.WellFormed.{Passes}
 use Rattle.well_formed.specs.Check.{checkAnswer}
 use Rattle.well_formed.proofs.VerdictLaws.{check-means}
-use Rattle.clauses.specs.Clauses.{Tokens, State, Outcome, success, Run}
+use Rattle.clauses.specs.Clauses.{Tokens, State, Outcome, success}
 use Rattle.clauses.specs.Limits.{tokensOf, fails11, fails12, WithinLimits}
-use Rattle.clauses.specs.RunAnswer.{EndsRun, ourOutcome, runAnswer, Reads}
-use Rattle.clauses.specs.ThirdDemand.{ThirdDemand}
-use Rattle.theorems.proofs.OneOutcome.{one-outcome}
+use Rattle.clauses.specs.AlikeOutcomes.{AlikeOutcome, alike-success, alike-failure}
+use Rattle.clauses.specs.Trace.{Trace, Gives, trace, listed}
+use Rattle.clauses.specs.RunAnswer.{SetRun, EndsRun, ourOutcome, ourTrace, runAnswer, Reads}
+use Rattle.clauses.specs.ListAnswer.{endsCaptures, setCaptures, ourCaptures, fails13, listAnswer}
+use Rattle.clauses.specs.ThirdDemand.{ThirdDemand, ListDemand}
+use Rattle.theorems.proofs.OneOutcome.{one-outcome, one-run}
 use Rattle.theorems.proofs.Narrows.{onward}
-use Rattle.theorems.proofs.Likeness.{Follows, alike-run}
-use Rattle.theorems.proofs.Existence.{outcome-derived}
+use Rattle.theorems.proofs.Likeness.{Follows, alike-given}
+use Rattle.theorems.proofs.Existence.{outcome-given}
 use Rattle.theorems.proofs.LimitLaws.{begins}
 
 module _ (nodes rules : List ℕ) (tokens : Tokens) {τ : ℕ} {f : Form} where
-  -- From alike columns, an outcome over two ends has an alike outcome over sets,
+  -- From alike columns, an outcome over two ends has an alike outcome over sets, with the same trace,
   pub ends-to-sets :
-      {s : State Interval} {S : ColumnSet} {o : Outcome Interval}
-      → Run ends nodes rules tokens τ f s o
+      {s : State Interval} {S : ColumnSet} {o : Outcome Interval} {t : Trace}
+      → Gives ends nodes rules tokens τ f s o t
       → Alike ends sets (s .1) S
-      → Follows ends sets ends-lawful sets-lawful nodes rules tokens τ f (s .0, S, s .2) o
-  ends-to-sets d h = alike-run ends sets ends-lawful sets-lawful nodes rules tokens d h
+      → Follows ends sets ends-lawful sets-lawful nodes rules tokens τ f (s .0, S, s .2) o t
+  ends-to-sets d h = alike-given ends sets ends-lawful sets-lawful nodes rules tokens d h
 
   -- and an outcome over sets has an alike one over two ends.
   pub sets-to-ends :
-      {s : State ColumnSet} {I : Interval} {o : Outcome ColumnSet}
-      → Run sets nodes rules tokens τ f s o
+      {s : State ColumnSet} {I : Interval} {o : Outcome ColumnSet} {t : Trace}
+      → Gives sets nodes rules tokens τ f s o t
       → Alike sets ends (s .1) I
-      → Follows sets ends sets-lawful ends-lawful nodes rules tokens τ f (s .0, I, s .2) o
-  sets-to-ends d h = alike-run sets ends sets-lawful ends-lawful nodes rules tokens d h
+      → Follows sets ends sets-lawful ends-lawful nodes rules tokens τ f (s .0, I, s .2) o t
+  sets-to-ends d h = alike-given sets ends sets-lawful ends-lawful nodes rules tokens d h
+
+-- Alike outcomes list the same captures of one trace.
+same-list : {o : Outcome Interval} {o' : Outcome ColumnSet} (t : Trace) → AlikeOutcome ends sets o o' → listed o' t ≡ listed o t
+same-list t (alike-success h) = refl
+same-list t alike-failure = refl
 
 module _ (nodes rules words : List ℕ) (start : Start) where
   -- A run over two ends has read tokens from its start's place on.
@@ -49,36 +57,59 @@ module _ (nodes rules words : List ℕ) (start : Start) where
   has-read {s} d = let h = onward ends nodes rules (tokensOf words) d in (s .0 - start .place, omega arith)
 
   module _ (limits : WithinLimits nodes rules words start) (well : Passes nodes rules) where
-    -- The clauses over two ends give the outcome that is computed,
-    pub outcome-exists : EndsRun nodes rules words start (ourOutcome nodes rules words start)
-    outcome-exists =
+    -- The clauses over two ends give the outcome that is computed, with its trace,
+    pub run-given :
+        Gives ends nodes rules (tokensOf words) (start .mode) (form nodes (start .node)) (start .place, start .interval, start .flag)
+        (ourOutcome nodes rules words start) (ourTrace nodes rules words start)
+    run-given =
         let b = begins nodes words start (limits .start-right) in
-        outcome-derived nodes rules (tokensOf words) (limits .table) well (start .mode) (start .node) (start .place, start .interval, start .flag) (b .node) (b .place)
+        outcome-given nodes rules (tokensOf words) (limits .table) well (start .mode) (start .node) (start .place, start .interval, start .flag) (b .node) (b .place)
 
-    -- and no other.
+    -- and no other,
     pub outcome-only : (o : Outcome Interval) → EndsRun nodes rules words start o → o ≡ ourOutcome nodes rules words start
-    outcome-only o d = one-outcome ends nodes rules (tokensOf words) d outcome-exists
+    outcome-only o d = one-outcome ends nodes rules (tokensOf words) d (run-given .run)
 
-    -- It is what a run answers.
+    -- whatever its derivation, the captures are those that are computed.
+    pub captures-only : (o : Outcome Interval) (d : EndsRun nodes rules words start o) → endsCaptures nodes rules words start o d ≡ ourCaptures nodes rules words start
+    captures-only o d = let q = one-run ends nodes rules (tokensOf words) d (run-given .run) in ap₂ listed (q .outcome) (q .shown ∙ run-given .shows)
+
+    -- It is what a run answers,
     pub outcome-answered : runAnswer nodes rules words start ≡ given (ourOutcome nodes rules words start)
     unfolding runAnswer
     outcome-answered = rw (check-means nodes rules .passes .1 (limits .table, well), limits .tokens, limits .start-right) refl
 
+    -- From every number in the start's interval the clauses over sets give an alike outcome with the same trace.
+    set-run :
+        Follows ends sets ends-lawful sets-lawful nodes rules (tokensOf words) (start .mode) (form nodes (start .node))
+        (start .place, (λ k. Lies k (start .interval)), start .flag) (ourOutcome nodes rules words start) (ourTrace nodes rules words start)
+    set-run =
+        let b = begins nodes words start (limits .start-right) in
+        ends-to-sets nodes rules (tokensOf words) run-given (record { some = b .some; members = λ k. (λ m. m, λ m. m) })
+
+    set-captures : (o : Outcome ColumnSet) (d : SetRun nodes rules words start o) → setCaptures nodes rules words start o d ≡ ourCaptures nodes rules words start
+    set-captures o d =
+        let q = one-run sets nodes rules (tokensOf words) d (set-run .gives .run) in
+        ap₂ listed (q .outcome) (q .shown ∙ set-run .gives .shows) ∙ same-list (ourTrace nodes rules words start) (set-run .alike)
+
     -- For every table that passes 3 to 5 and is well formed, every token list and start within the limits: a run answers an
-    -- outcome, the clauses over sets give exactly one, and the two are alike.
+    -- outcome, the clauses over sets give exactly one, the two are alike, and their captures are the same.
     pub third-demand : ThirdDemand nodes rules words start
     third-demand =
-        let b = begins nodes words start (limits .start-right) in
-        let a = ends-to-sets nodes rules (tokensOf words) outcome-exists (record { some = b .some; members = λ k. (λ m. m, λ m. m) }) in
         record {
           ours = ourOutcome nodes rules words start;
           answered = outcome-answered;
-          theirs = a .outcome;
-          derived = a .run;
-          only = λ o e. one-outcome sets nodes rules (tokensOf words) e (a .run);
-          alike = a .alike;
-          read = λ s e. has-read (rw e at outcome-exists);
+          theirs = set-run .outcome;
+          derived = set-run .gives .run;
+          only = λ o e. one-outcome sets nodes rules (tokensOf words) e (set-run .gives .run);
+          alike = set-run .alike;
+          read = λ s e. has-read (rw e at (run-given .run));
+          captures = set-captures;
         }
+
+    -- And where 13 does not apply to so many lent words, a run that lists answers the same with the number of captures.
+    pub list-demand : (lent : ℕ) → fails13 nodes rules words start lent ≡ false → ListDemand nodes rules words start lent
+    unfolding listAnswer third-demand
+    list-demand lent e = record { demand = third-demand; listed = rw (outcome-answered, e) refl }
 
   unrefused : (c : Answer Unit) (t b : Bool) (o ours : Outcome Interval) → checkAnswer nodes rules ≡ c → fails11 words ≡ t → fails12 nodes words start ≡ b
       → andThen c (refuseIf t 11 (refuseIf b 12 (given o))) ≡ given ours → WithinLimits nodes rules words start × Passes nodes rules

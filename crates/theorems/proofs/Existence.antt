@@ -2,7 +2,7 @@
 -- depth. By tokens left, then by rank.
 use Prim.Native.Nat.{ℕ, zero, suc, _+_, _*_, _-_, _≤_, _<_}
 use mathlib.Core.Path.{_≡_, refl, sym}
-use mathlib.Core.Bool.{Bool, true, false, cond}
+use mathlib.Core.Bool.{true}
 use mathlib.Core.List.{List}
 use mathlib.Core.Logic.{⊎-elim}
 use native.Mathlib.Nat.{eq-or-lt-of-le, mul-le-mul-right, suc-mul}
@@ -22,7 +22,9 @@ use Rattle.well_formed.specs.InternalRank.{enters-other, enters-not, enters-rep
 use Rattle.well_formed.specs.InternalRank.{enters-align, rank}
 use Rattle.well_formed.proofs.RankLaws.{rank-falls, rank-most, repeat-reads}
 use Rattle.clauses.specs.Clauses.{Tokens, State, Outcome, success, failure, Run}
-use Rattle.clauses.specs.Evaluation.{Result, ended, unfinished, after, reads, step, evaluate, enough, outcomeFor}
+use Rattle.clauses.specs.Trace.{Trace, silent, _then_, dropped, captured, Gives}
+use Rattle.clauses.specs.Evaluation.{Result, ended, unfinished, after, behind, ruled, step, evaluate, enough}
+use Rattle.clauses.specs.Evaluation.{outcomeFor, traceFor}
 use Rattle.theorems.proofs.Narrows.{onward, within}
 use Rattle.theorems.proofs.ShownFacts.{shown, at-once}
 use Rattle.clauses.proofs.Sound.{evaluate-sound}
@@ -30,25 +32,33 @@ use Rattle.clauses.proofs.Sound.{evaluate-sound}
 -- A result that is an outcome.
 record Ended (r : Result) : Type 0 where
   pub outcome : Outcome Interval
-  pub is : r ≡ ended outcome
+  pub shows : Trace
+  pub is : r ≡ ended outcome shows
 
-this : (o : Outcome Interval) → Ended (ended o)
-this o = record { outcome = o; is = refl }
+this : (o : Outcome Interval) (t : Trace) → Ended (ended o t)
+this o t = record { outcome = o; shows = t; is = refl }
 
-one-of : (t : Bool) (o p : Outcome Interval) → Ended (cond t (ended o) (ended p))
-one-of true o p = this o
-one-of false o p = this p
+not-unfinished : {A : Type 0} → Ended unfinished → A
+not-unfinished e = absurd (let q = e .is in let z : _≡_ {A = ℕ} 0 1 = cc in omega arith)
 
 -- After a result that is an outcome.
 after-ended :
-    (r : Result) (next : State Interval → Result) (otherwise : Result)
+    (r : Result) (next : State Interval → Trace → Result) (otherwise : Trace → Result)
     → Ended r
-    → ((s : State Interval) → r ≡ ended (success s) → Ended (next s))
-    → (r ≡ ended failure → Ended otherwise)
+    → ((s : State Interval) (t : Trace) → r ≡ ended (success s) t → Ended (next s t))
+    → ((t : Trace) → Ended (otherwise t))
     → Ended (after r next otherwise)
-after-ended (ended (success s)) next otherwise e k l = k s refl
-after-ended (ended failure) next otherwise e k l = l refl
-after-ended unfinished next otherwise e k l = absurd (let q = e .is in let z : _≡_ {A = ℕ} 0 1 = cc in omega arith)
+after-ended (ended (success s) t) next otherwise e k l = k s t refl
+after-ended (ended failure t) next otherwise e k l = l t
+after-ended unfinished next otherwise e k l = not-unfinished e
+
+behind-ended : (t : Trace) (r : Result) → Ended r → Ended (behind t r)
+behind-ended t (ended o u) e = this o (t then u)
+behind-ended t unfinished e = not-unfinished e
+
+ruled-ended : (x w : ℕ) (r : Result) → Ended r → Ended (ruled x w r)
+ruled-ended x w (ended o t) e = this o (captured x w o t)
+ruled-ended x w unfinished e = not-unfinished e
 
 -- One token fewer outweighs any rank, where no rank is 0 or where one more than the most counts.
 pub outweighs : (left left' most r r' : ℕ) → left' < left → r' ≤ most → 1 ≤ r → left' * most + r' < left * most + r
@@ -94,42 +104,50 @@ module _ (nodes rules : List ℕ) (tokens : Tokens) (passing : tableAnswer nodes
         (rank nodes rules c) (omega arith) (rank-most nodes rules passing every-well c l) in omega arith)
 
     -- What a first child derived.
-    derived : (σ : ℕ) (f : Form) (t t' : State Interval) → call k σ f t ≡ ended (success t') → Run ends nodes rules tokens σ f t (success t')
-    derived σ f t t' e = evaluate-sound nodes rules tokens k σ f t (success t') e
+    derived :
+        (σ : ℕ) (f : Form) (t t' : State Interval) (u : Trace)
+        → call k σ f t ≡ ended (success t') u
+        → Run ends nodes rules tokens σ f t (success t')
+    derived σ f t t' u e = evaluate-sound nodes rules tokens k σ f t (success t') u e .run
 
     by-form : (f : Form) → form nodes n ≡ f → Ended (step nodes rules tokens (λ τ' f' s'. call k τ' f' s') τ f s)
-    by-form table.empty e = this (success s)
-    by-form (table.terminal a) e = one-of (reads tokens τ a s) _ failure
-    by-form (table.rule x) e = child _ e (standsFor rules x) τ s refl (inside _ e) enters-rule
+    by-form table.empty e = this (success s) silent
+    by-form (table.terminal a) e = this _ silent
+    by-form (table.rule x) e = ruled-ended x (s .0) _ (child _ e (standsFor rules x) τ s refl (inside _ e) enters-rule)
     by-form (table.sequence p q) e =
         after-ended (call k τ (form nodes p) s) _ _ (child _ e p τ s refl (inside _ e .0) enters-first)
-        (λ t r.
-        let d = derived τ (form nodes p) s t r in
-        ⊎-elim
+        (λ t u r.
+        let d = derived τ (form nodes p) s t u r in
+        behind-ended u _
+        (⊎-elim
         (λ i. child _ e q τ t (sym i) (inside _ e .1) (enters-second (shown ends nodes rules tokens d nothing (at-once (sym i)))))
         (λ l. later q t (inside _ e .1) (within ends nodes rules tokens b d) l)
-        (eq-or-lt-of-le (onward ends nodes rules tokens d)))
-        (λ r. this failure)
+        (eq-or-lt-of-le (onward ends nodes rules tokens d))))
+        (λ u. this failure u)
     by-form (table.choice p q) e =
         after-ended (call k τ (form nodes p) s) _ _ (child _ e p τ s refl (inside _ e .0) enters-choice)
-        (λ t r. this (success t)) (λ r. child _ e q τ s refl (inside _ e .1) enters-other)
-    by-form (table.not p) e = after-ended (call k τ (form nodes p) s) _ _ (child _ e p τ s refl (inside _ e) enters-not) (λ t r. this failure) (λ r. this (success s))
+        (λ t u r. this (success t) u) (λ u. behind-ended (dropped u) _ (child _ e q τ s refl (inside _ e .1) enters-other))
+    by-form (table.not p) e =
+        after-ended (call k τ (form nodes p) s) _ _ (child _ e p τ s refl (inside _ e) enters-not)
+        (λ t u r. this failure (dropped u)) (λ u. this (success s) (dropped u))
     by-form (table.repeat p) e =
         after-ended (call k τ (form nodes p) s) _ _ (child _ e p τ s refl (inside _ e) enters-repeat)
-        (λ t r.
-        let d = derived τ (form nodes p) s t r in
-        ⊎-elim
+        (λ t u r.
+        let d = derived τ (form nodes p) s t u r in
+        behind-ended u (call k τ (table.repeat p) t)
+        (⊎-elim
         (λ i. absurd (repeat-reads nodes rules passing every-well n p h e (shown ends nodes rules tokens d nothing (at-once (sym i)))))
         (λ l. rw (← e) (later n t h (within ends nodes rules tokens b d) l))
-        (eq-or-lt-of-le (onward ends nodes rules tokens d)))
-        (λ r. this (success s))
+        (eq-or-lt-of-le (onward ends nodes rules tokens d))))
+        (λ u. this (success s) (dropped u))
     by-form (table.indent p ρ) e =
         after-ended (call k τ (form nodes p) (s .0, innerEnds ρ (s .1), s .2)) _ _
-        (child _ e p τ (s .0, innerEnds ρ (s .1), s .2) refl (inside _ e) enters-indent) (λ t r. this _)
-        (λ r. this failure)
+        (child _ e p τ (s .0, innerEnds ρ (s .1), s .2) refl (inside _ e) enters-indent)
+        (λ t u r. this _ u) (λ u. this failure u)
     by-form (table.position p σ) e = child _ e p σ s refl (inside _ e) enters-position
     by-form (table.align p) e =
-        after-ended (call k τ (form nodes p) (s .0, s .1, true)) _ _ (child _ e p τ (s .0, s .1, true) refl (inside _ e) enters-align) (λ t r. this _) (λ r. this failure)
+        after-ended (call k τ (form nodes p) (s .0, s .1, true)) _ _ (child _ e p τ (s .0, s .1, true) refl (inside _ e) enters-align)
+        (λ t u r. this _ u) (λ u. this failure u)
     by-form table.other e = absurd (inside _ e)
 
   evaluates : (k n τ : ℕ) (s : State Interval) → n < nodeCount nodes → s .0 ≤ tokens .count → weight (s .0) n < k → Ended (call k τ (form nodes n) s)
@@ -143,13 +161,14 @@ module _ (nodes rules : List ℕ) (tokens : Tokens) (passing : tableAnswer nodes
       let x = weighs-less (tokens .count + 1) (tokens .count - w) (nodeCount nodes) 0 (rank nodes rules n) (omega arith) (rank-most nodes rules passing every-well n h) in
       omega arith
 
-  -- The outcome that is computed is one that the clauses give: an outcome exists.
-  pub outcome-derived :
+  -- The outcome and the trace that are computed are what the clauses give: an outcome exists.
+  pub outcome-given :
       (τ n : ℕ) (s : State Interval)
       → n < nodeCount nodes
       → s .0 ≤ tokens .count
-      → Run ends nodes rules tokens τ (form nodes n) s (outcomeFor nodes rules tokens τ n s)
-  unfolding outcomeFor
-  outcome-derived τ n s h b =
+      → Gives ends nodes rules tokens τ (form nodes n) s (outcomeFor nodes rules tokens τ n s) (traceFor nodes rules tokens τ n s)
+  unfolding outcomeFor traceFor
+  outcome-given τ n s h b =
       let r = evaluates (enough nodes rules tokens) n τ s h b (light n (s .0) h) in
-      evaluate-sound nodes rules tokens (enough nodes rules tokens) τ (form nodes n) s (outcomeFor nodes rules tokens τ n s) (rw (r .is) refl)
+      evaluate-sound nodes rules tokens (enough nodes rules tokens) τ (form nodes n) s (outcomeFor nodes rules tokens τ n s)
+      (traceFor nodes rules tokens τ n s) (rw (r .is) refl)

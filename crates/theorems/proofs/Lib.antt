@@ -5,5 +5,6 @@ pub mod Likeness
 pub mod Existence
 pub mod LimitLaws
 pub mod Agreement
+pub mod Nested
 pub mod OffsetsUnread
 pub mod StepLaws
