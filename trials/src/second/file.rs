@@ -1,6 +1,7 @@
 //! The grammar file reader: checks 1 to 6.
 
 use super::{check, relation, MOST_BYTES, MOST_KEYWORDS};
+use std::ops::Range;
 
 /// What a read gives: the two tables as written, and "the counts of nodes, rules
 /// and keywords and the start".
@@ -37,16 +38,20 @@ pub(super) struct Grammar<'f> {
     pub keywords: Vec<&'f [u8]>,
     pub nodes: Vec<u16>,
     pub rules: Vec<u16>,
+    /// For each rule where its name stands in the file.
+    pub names: Vec<Range<usize>>,
     pub start: u16,
     pub mode: u16,
 }
 
-/// Checks 1 to 5, in rising number over the whole file; the scanner uses them too.
+/// Checks 1 to 5, in rising number over the whole file; the scanner and the shown text
+/// use them too.
 pub(super) fn parse(file: &[u8]) -> Result<Grammar<'_>, u8> {
     // Check 1 is done once every field has been taken apart.
-    let (grammar, names) = fields(file)?;
+    let grammar = fields(file)?;
 
     // Check 2: "keyword or name breaks its rules, length too".
+    let names: Vec<_> = grammar.names.iter().map(|at| &file[at.clone()]).collect();
     let single_alone = |word: &&[u8]| word.len() == 1 || !word.iter().copied().any(is_single);
     if !spelled_and_distinct(&grammar.keywords)
         || !spelled_and_distinct(&names)
@@ -63,8 +68,8 @@ pub(super) fn parse(file: &[u8]) -> Result<Grammar<'_>, u8> {
     Ok(grammar)
 }
 
-/// Check 1: takes the fields apart and gives them with the rules' names.
-fn fields(file: &[u8]) -> Result<(Grammar<'_>, Vec<&[u8]>), u8> {
+/// Check 1: takes the fields apart.
+fn fields(file: &[u8]) -> Result<Grammar<'_>, u8> {
     if file.len() > MOST_BYTES {
         return Err(1);
     }
@@ -72,10 +77,10 @@ fn fields(file: &[u8]) -> Result<(Grammar<'_>, Vec<&[u8]>), u8> {
         keywords: Vec::new(),
         nodes: Vec::new(),
         rules: Vec::new(),
+        names: Vec::new(),
         start: 0,
         mode: 0,
     };
-    let mut names = Vec::new();
     let mut last = 0;
     let mut rest = file;
     while !rest.is_empty() {
@@ -106,7 +111,9 @@ fn fields(file: &[u8]) -> Result<(Grammar<'_>, Vec<&[u8]>), u8> {
             (2, word) => grammar.keywords.push(word),
             (3, [high, low, name @ ..]) => {
                 grammar.rules.push(u16::from_be_bytes([*high, *low]));
-                names.push(name);
+                // The name ends where its field does.
+                let end = file.len() - rest.len();
+                grammar.names.push(end - name.len()..end);
             }
             (4, [kind, a, a_low, b, b_low, relation]) => grammar.nodes.extend_from_slice(&[
                 u16::from(*kind),
@@ -126,7 +133,7 @@ fn fields(file: &[u8]) -> Result<(Grammar<'_>, Vec<&[u8]>), u8> {
     if last != 5 || grammar.keywords.len() > MOST_KEYWORDS {
         return Err(1);
     }
-    Ok((grammar, names))
+    Ok(grammar)
 }
 
 /// "1 to 32 bytes, none of them .. distinct within their tag".

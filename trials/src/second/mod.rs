@@ -1,22 +1,27 @@
 //! The indentation grammar reader, written from document 01, which orders the work,
-//! Note 1 of 02, and the papers alone. 001 below is Nestra 2017.
+//! Notes 1 and 2 of 02, and the papers alone. 001 below is Nestra 2017.
 //!
 //! Four parts: the file reader (`read`), the scanner (`scan`, `next_token`), the
 //! check (`check`) and the interpreter (`run`); `line` is the program over them.
-//! `sets` holds the same clauses over sets of natural numbers.
+//! `list` is the run that also lists its captures, `shown` and `text` give the text
+//! shown for a capture. `sets` holds the same clauses over sets of natural numbers.
 
 mod check;
 mod file;
 mod line;
+mod list;
 pub(crate) mod run;
 mod scan;
 pub mod sets;
+mod shown;
 
 pub use check::{check, Verdict};
 pub use file::{read, FileRead};
 pub use line::{line, line_of, line_within};
+pub use list::{list, list_within, Listed};
 pub use run::{run, run_within, Ran, Start};
 pub use scan::{next_token, scan, Handed, Value};
+pub use shown::{shown, text, Shown};
 
 /// The kinds of nodes, 01 "The grammar table".
 pub mod kind {

@@ -1,5 +1,6 @@
 //! The interpreter, with two ends for the column interval: 01 "Columns and states",
-//! the steps of 02 Note 1, and the ten clauses of 001.
+//! the steps of 02 Note 1, and the ten clauses of 001. A run may list its captures,
+//! which is `list`'s; the walk is the same.
 
 use super::{check, kind, relation, Verdict, MOST_COLUMN, MOST_TOKENS};
 use std::convert::Infallible;
@@ -50,7 +51,7 @@ pub enum Ran {
 /// Runs the start on the tokens. The recursion may be some millions of calls deep:
 /// the caller lends the stack.
 pub fn run(nodes: &[u16], rules: &[u16], tokens: &[u32], start: &Start) -> Ran {
-    match run_metered(nodes, rules, tokens, start, Unmetered) {
+    match run_metered(nodes, rules, tokens, start, Unmetered, Unlisted) {
         Ok(ran) => ran,
         Err(never) => match never {},
     }
@@ -64,7 +65,7 @@ pub fn run_within(
     start: &Start,
     steps: u64,
 ) -> Option<Ran> {
-    run_metered(nodes, rules, tokens, start, Steps(steps)).ok()
+    run_metered(nodes, rules, tokens, start, Steps(steps), Unlisted).ok()
 }
 
 /// Checks 3, 4, 5, 7, 11 and 12, in this order.
@@ -79,16 +80,7 @@ pub(super) fn refusal(
         Verdict::Refused(number) => return Err(Ran::Refused(number)),
         Verdict::IllFormed(node) => return Err(Ran::IllFormed(node)),
     }
-    // Check 11: "token words no multiple of 4, over 4,096 tokens ..".
-    let (list, over) = tokens.as_chunks::<4>();
-    if !over.is_empty()
-        || list.len() > MOST_TOKENS
-        || list
-            .iter()
-            .any(|token| token[0] > 255 || token[1] > MOST_COLUMN)
-    {
-        return Err(Ran::Refused(11));
-    }
+    let list = token_list(tokens).map_err(Ran::Refused)?;
     // Check 12: the start.
     if usize::from(start.node) >= nodes.len() / 4
         || start.place as usize > list.len()
@@ -102,12 +94,27 @@ pub(super) fn refusal(
     Ok(())
 }
 
-fn run_metered<M: Meter>(
+/// Check 11: "token words no multiple of 4, over 4,096 tokens ..". Gives the tokens.
+pub(super) fn token_list(tokens: &[u32]) -> Result<&[[u32; 4]], u8> {
+    let (list, over) = tokens.as_chunks::<4>();
+    if !over.is_empty()
+        || list.len() > MOST_TOKENS
+        || list
+            .iter()
+            .any(|token| token[0] > 255 || token[1] > MOST_COLUMN)
+    {
+        return Err(11);
+    }
+    Ok(list)
+}
+
+pub(super) fn run_metered<M: Meter, L: Lister>(
     nodes: &[u16],
     rules: &[u16],
     tokens: &[u32],
     start: &Start,
     meter: M,
+    lister: L,
 ) -> Result<Ran, M::Stop> {
     if let Err(refused) = refusal(nodes, rules, tokens, start) {
         return Ok(refused);
@@ -127,6 +134,7 @@ fn run_metered<M: Meter>(
         tokens: tokens.as_chunks().0,
         state: begin,
         meter,
+        lister,
     };
     if !reader.expression(start.node, start.mode)? {
         return Ok(Ran::Failure);
@@ -141,12 +149,12 @@ fn run_metered<M: Meter>(
 }
 
 /// Counts the expressions entered.
-trait Meter {
+pub(super) trait Meter {
     type Stop;
     fn enter(&mut self) -> Result<(), Self::Stop>;
 }
 
-struct Unmetered;
+pub(super) struct Unmetered;
 
 impl Meter for Unmetered {
     type Stop = Infallible;
@@ -157,7 +165,7 @@ impl Meter for Unmetered {
 }
 
 /// The steps left.
-struct Steps(u64);
+pub(super) struct Steps(pub u64);
 
 impl Meter for Steps {
     type Stop = ();
@@ -166,6 +174,34 @@ impl Meter for Steps {
         self.0 = self.0.checked_sub(1).ok_or(())?;
         Ok(())
     }
+}
+
+/// Lists the captures, 02 Note 2: "every rule that succeeded on the way ..".
+pub(super) trait Lister {
+    /// Where the list stands as an expression is entered.
+    type Mark: Copy;
+    fn mark(&self) -> Self::Mark;
+    /// A rule begins at a place, inside all those that have begun and not ended.
+    fn rule(&mut self, rule: u16, place: u16);
+    /// The expression entered at the mark has succeeded up to a place, and with it the
+    /// rules begun since that have not ended: their outcome is the expression's.
+    fn succeeded(&mut self, mark: Self::Mark, place: u16);
+    /// The expression entered at the mark has failed: nothing since is listed.
+    fn failed(&mut self, mark: Self::Mark);
+}
+
+pub(super) struct Unlisted;
+
+impl Lister for Unlisted {
+    type Mark = ();
+    #[inline]
+    fn mark(&self) {}
+    #[inline]
+    fn rule(&mut self, _: u16, _: u16) {}
+    #[inline]
+    fn succeeded(&mut self, (): (), _: u16) {}
+    #[inline]
+    fn failed(&mut self, (): ()) {}
 }
 
 /// "a lower column and an upper end ..", `None` if without end. It is never empty
@@ -270,20 +306,36 @@ impl State {
 
 /// The tables, and the state reached. The state is held here and not handed from call
 /// to call, which keeps the calls small on the stack.
-struct Reader<'t, M> {
+struct Reader<'t, M, L> {
     nodes: &'t [[u16; 4]],
     rules: &'t [u16],
     tokens: &'t [[u32; 4]],
     state: State,
     meter: M,
+    lister: L,
 }
 
-impl<M: Meter> Reader<'_, M> {
+impl<M: Meter, L: Lister> Reader<'_, M, L> {
     /// One expression in a mode from the state reached: whether it succeeds, and then
     /// the state is where it ended. After a failure the state may be anything, and
-    /// whoever goes on puts its own copy back. Where the last part's outcome is the
-    /// whole's, the loop goes on with that part instead of a call.
-    fn expression(&mut self, mut node: u16, mut mode: u16) -> Result<bool, M::Stop> {
+    /// whoever goes on puts its own copy back. The list needs no such copy, since a
+    /// failure takes back what it listed: so an alternative, a round or a not's child
+    /// that fails leaves none, and a not whose child succeeds fails itself.
+    fn expression(&mut self, node: u16, mode: u16) -> Result<bool, M::Stop> {
+        let mark = self.lister.mark();
+        let succeeds = self.parts(node, mode)?;
+        if succeeds {
+            self.lister.succeeded(mark, self.state.place);
+        } else {
+            self.lister.failed(mark);
+        }
+        Ok(succeeds)
+    }
+
+    /// The expression by its clause. Where the last part's outcome is the whole's, the
+    /// loop goes on with that part instead of a call.
+    #[inline(always)]
+    fn parts(&mut self, mut node: u16, mut mode: u16) -> Result<bool, M::Stop> {
         loop {
             self.meter.enter()?;
             let [kind, a, b, relation] = self.nodes[usize::from(node)];
@@ -305,7 +357,10 @@ impl<M: Meter> Reader<'_, M> {
                     return Ok(end.is_some());
                 }
                 // Clause 3.
-                kind::RULE => node = self.rules[usize::from(a)],
+                kind::RULE => {
+                    self.lister.rule(a, self.state.place);
+                    node = self.rules[usize::from(a)];
+                }
                 // Clause 4: b from where a ended.
                 kind::SEQUENCE => {
                     if !self.expression(a, mode)? {

@@ -63,11 +63,7 @@ pub fn next_token(file: &[u8], report: &[u8], v: Value) -> (Handed, Value) {
         Ok(grammar) => grammar,
         Err(number) => return (Handed::Refused(number), v),
     };
-    if report.len() > MOST_BYTES
-        || report.iter().any(|&byte| class(byte) == Class::Refused)
-        || v.offset > report.len()
-        || v.column > FARTHEST_COLUMN
-    {
+    if text(report).is_err() || v.offset > report.len() || v.column > FARTHEST_COLUMN {
         return (Handed::Refused(8), v);
     }
     let keywords = Keywords::new(&grammar.keywords);
@@ -78,6 +74,14 @@ pub fn next_token(file: &[u8], report: &[u8], v: Value) -> (Handed, Value) {
         Ok(None) => (Handed::Nothing, at),
         Err(number) => (Handed::Refused(number), v),
     }
+}
+
+/// Check 8 of a whole text: "report over length or refused byte".
+pub(super) fn text(report: &[u8]) -> Result<(), u8> {
+    if report.len() > MOST_BYTES || report.iter().any(|&byte| class(byte) == Class::Refused) {
+        return Err(8);
+    }
+    Ok(())
 }
 
 /// Goes on to the next token and gives it, or `None` at the end of the text; a

@@ -1,5 +1,6 @@
 //! 01 "The clauses over sets": the ten clauses with a set of natural numbers in the
-//! state, and nothing of the two ends.
+//! state, and nothing of the two ends; and the captures that "the clauses' own
+//! derivation gives", 02 Note 2.
 
 use super::{kind, relation, run::refusal, Ran, Start};
 
@@ -137,12 +138,15 @@ fn reach(relation: u16) -> u64 {
     }
 }
 
-/// The clauses' state: "a place, a set S of natural numbers and the flag".
+/// The clauses' state: "a place, a set S of natural numbers and the flag". With it goes
+/// the count of captures listed on the way to it, so that whoever hands an old state on
+/// hands on the list as it was then.
 #[derive(Clone)]
 struct State {
     place: usize,
     set: ColumnSet,
     flag: bool,
+    listed: usize,
 }
 
 /// More expressions were entered than allowed.
@@ -155,6 +159,11 @@ struct Clauses<'t> {
     rules: &'t [u16],
     tokens: &'t [u32],
     steps_left: u64,
+    /// Those listed on the way to a state are its first `listed`; what stands behind is
+    /// of a derivation given up. `None` if the run lists none.
+    captures: Option<Vec<[u32; 4]>>,
+    /// The rules begun and not ended.
+    around: u32,
 }
 
 /// Runs the clauses over sets; the caller lends the stack.
@@ -171,9 +180,33 @@ pub fn run_within(
     start: &Start,
     steps: u64,
 ) -> Option<SetRan> {
+    let (ran, _) = listed_within(nodes, rules, tokens, start, steps, None)?;
+    Some(ran)
+}
+
+/// As `run_within`, with all the captures, of which only a success has any. Here the
+/// room for them is without end, so there is no 13.
+pub fn list_within(
+    nodes: &[u16],
+    rules: &[u16],
+    tokens: &[u32],
+    start: &Start,
+    steps: u64,
+) -> Option<(SetRan, Vec<[u32; 4]>)> {
+    listed_within(nodes, rules, tokens, start, steps, Some(Vec::new()))
+}
+
+fn listed_within(
+    nodes: &[u16],
+    rules: &[u16],
+    tokens: &[u32],
+    start: &Start,
+    steps: u64,
+    captures: Option<Vec<[u32; 4]>>,
+) -> Option<(SetRan, Vec<[u32; 4]>)> {
     match refusal(nodes, rules, tokens, start) {
-        Err(Ran::IllFormed(node)) => return Some(SetRan::IllFormed(node)),
-        Err(Ran::Refused(number)) => return Some(SetRan::Refused(number)),
+        Err(Ran::IllFormed(node)) => return Some((SetRan::IllFormed(node), Vec::new())),
+        Err(Ran::Refused(number)) => return Some((SetRan::Refused(number), Vec::new())),
         _ => {}
     }
     let mut clauses = Clauses {
@@ -181,6 +214,8 @@ pub fn run_within(
         rules,
         tokens,
         steps_left: steps,
+        captures,
+        around: 0,
     };
     // "at first the start's place and flag, and every natural number .."
     let mut changes = vec![u64::from(start.lower)];
@@ -189,16 +224,23 @@ pub fn run_within(
         place: start.place as usize,
         set: ColumnSet { changes },
         flag: start.flag,
+        listed: 0,
     };
     let place = begin.place;
     match clauses.expression(start.node, start.mode, begin) {
         Err(OutOfSteps) => None,
-        Ok(None) => Some(SetRan::Failure),
-        Ok(Some(end)) => Some(SetRan::Success {
-            read: (end.place - place) as u32,
-            set: end.set,
-            flag: end.flag,
-        }),
+        // "a failure lists none"
+        Ok(None) => Some((SetRan::Failure, Vec::new())),
+        Ok(Some(end)) => {
+            let mut captures = clauses.captures.unwrap_or_default();
+            captures.truncate(end.listed);
+            let ran = SetRan::Success {
+                read: (end.place - place) as u32,
+                set: end.set,
+                flag: end.flag,
+            };
+            Some((ran, captures))
+        }
     }
 }
 
@@ -213,8 +255,7 @@ impl Clauses<'_> {
             // "Empty changes nothing."
             kind::EMPTY => Ok(Some(state)),
             kind::TERMINAL => Ok(self.terminal(a, mode, state)),
-            // "A rule is its node."
-            kind::RULE => self.expression(self.rules[usize::from(a)], mode, state),
+            kind::RULE => self.rule(a, mode, state),
             // "a, then b from where a ended"
             kind::SEQUENCE => match self.expression(a, mode, state)? {
                 Some(between) => self.expression(b, mode, between),
@@ -266,7 +307,30 @@ impl Clauses<'_> {
             place: state.place + 1,
             set,
             flag: false,
+            listed: state.listed,
         })
+    }
+
+    /// "A rule is its node." Its capture stands behind those on the way to the state
+    /// and before those inside it; the token after the last is known at its end.
+    fn rule(&mut self, rule: u16, mode: u16, mut state: State) -> Outcome {
+        let node = self.rules[usize::from(rule)];
+        let own = state.listed;
+        match &mut self.captures {
+            Some(captures) => {
+                captures.truncate(own);
+                captures.push([u32::from(rule), state.place as u32, 0, self.around]);
+            }
+            None => return self.expression(node, mode, state),
+        }
+        state.listed += 1;
+        self.around += 1;
+        let end = self.expression(node, mode, state)?;
+        self.around -= 1;
+        if let (Some(captures), Some(end)) = (&mut self.captures, &end) {
+            captures[own][2] = end.place as u32;
+        }
+        Ok(end)
     }
 
     /// "the child gets the inner set of S; after its success .."
