@@ -1,10 +1,11 @@
--- What a run answers, over plain values: by the walk's outcome, or by the first number that applies.
-use Prim.Native.Nat.{ℕ, _+_, _-_, _≤_}
-use mathlib.Core.Path.{_≡_, refl, ap, _∙_}
+-- What a run answers and lists, over plain values: by the walk's outcome, or by the first number that applies.
+use Prim.Native.Nat.{ℕ, _+_, _-_, _*_, _/_, _≤_, _<_, _^_, min}
+use mathlib.Core.Path.{_≡_, refl, sym, ap, subst, _∙_}
 use mathlib.Core.Bool.{true, false, not as isFalse, _||_}
-use mathlib.Core.List.{List}
+use mathlib.Core.List.{List, [], _∷_, _++_, append-nil}
+use lib.ListN.{length, getD, drop, drop-of-length-le}
 use native.Mathlib.Omega.{arith}
-use borrow.Author.Tests.{ltb-false}
+use borrow.Author.Tests.{ltb-false, lt-ltb, le-ltb}
 use Rattle.table.specs.Limits.{mostColumn}
 use Rattle.table.specs.Checks.{isRelation}
 use Rattle.table.proofs.Every.{both-false}
@@ -23,13 +24,22 @@ use Rattle.table.specs.Answer.{Answer, given, refused, refusedAt}
 use Rattle.table.proofs.AnswerLaws.{first-refuses, first-names}
 use Rattle.well_formed.specs.Check.{checkAnswer}
 use Rattle.well_formed.proofs.VerdictLaws.{check-means}
+use Rattle.table.specs.Words.{eachWords}
 use Rattle.clauses.specs.Clauses as clauses
+use Rattle.clauses.specs.Trace.{Trace, trace, listed}
 use Rattle.clauses.specs.Limits.{tokensOf, finiteOver, fails11, fails12, WithinLimits}
 use Rattle.clauses.specs.RunAnswer.{EndsRun, ourOutcome, runAnswer, Reads}
+use Rattle.clauses.specs.ListAnswer.{endsCaptures, ourCaptures, fails13, Listing, listAnswer, captureWords, listWords, listAfter}
 use Rattle.theorems.proofs.Narrows.{onward}
-use Rattle.theorems.proofs.Agreement.{outcome-only}
+use Rattle.theorems.proofs.Agreement.{outcome-only, captures-only, outcome-answered}
 use Rattle.theorems.proofs.LimitLaws.{begins}
-use Rattle.interpreter.specs.InternalWalk.{outcomeOf, Checked, Ready, Gives}
+use Rattle.capture_list.specs.Put.{mostCount, clearedFrom}
+use Rattle.capture_list.specs.InternalList.{soFar, Room, Leaves, lists, keeps}
+use Rattle.capture_list.proofs.ClearLaws.{list-is, length-list}
+use Rattle.interpreter.specs.declared.Whole.{Whole}
+use Rattle.interpreter.specs.InternalWalk.{stateOf, outcomeOf, weight, Checked, Ready, Walked}
+use Rattle.interpreter.specs.InternalRun.{Admitted, WholeWalk}
+use Rattle.interpreter.specs.Numbers.{CapturesStand}
 use Rattle.interpreter.proofs.WalkLaws.{weight-most}
 
 -- A finite upper end of a start within the limits is at most the last column.
@@ -47,6 +57,27 @@ upper-in : (h : Upper) → finiteOver h ≡ false → finite h ≤ mostColumn
 upper-in (At x) e = ltb-false mostColumn x e
 upper-in Endless e = omega arith
 
+-- From an empty list: the count and the words of what is listed.
+count-left :
+    {t : Trace} {l c' l' : List ℕ} {u : State}
+    → Leaves t (0 ∷ 0 ∷ []) l c' l' (Success u)
+    → soFar c' ≡ min (length (t .captures 0)) mostCount
+count-left (lists x) = omega (arith, x .count)
+
+long-left : {t : Trace} {l c' l' : List ℕ} {o : Outcome} → Leaves t (0 ∷ 0 ∷ []) l c' l' o → length l' ≡ length l
+long-left (lists x) = x .keeps .long
+long-left (keeps x) = x .long
+
+words-left :
+    {t : Trace} {l c' l' : List ℕ} {o : Outcome}
+    → Leaves t (0 ∷ 0 ∷ []) l c' l' o
+    → length (listed (outcomeOf o) t) * 4 ≤ length l
+    → (i : ℕ)
+    → i < length (listed (outcomeOf o) t) * 4
+    → getD l' i 0 ≡ getD (eachWords captureWords (listed (outcomeOf o) t)) i 0
+words-left {l' = l'} (lists x) f i b = ap (λ (k : ℕ). getD l' k 0) (omega arith) ∙ x .there (omega arith) i b
+words-left (keeps x) f i b = absurd (omega arith)
+
 module _ (nodes rules words : List ℕ) (start : Start) where
   abbrev Answered : Answer (clauses.Outcome Interval) → Type 0
   Answered v = v ≡ runAnswer nodes rules words start
@@ -60,64 +91,172 @@ module _ (nodes rules words : List ℕ) (start : Start) where
   unfolding runAnswer
   check-names e = first-names _ e
 
-  module _ (passed : checkAnswer nodes rules ≡ given tt) where
-    -- 11 and 12.
-    pub refused-11 : fails11 words ≡ true → Answered (refused 11)
-    unfolding runAnswer
-    refused-11 e = rw (passed, e) refl
+  -- 11 and 12.
+  pub refused-11 : checkAnswer nodes rules ≡ given tt → fails11 words ≡ true → Answered (refused 11)
+  unfolding runAnswer
+  refused-11 passed e = rw (passed, e) refl
 
-    pub refused-12 : fails11 words ≡ false → fails12 nodes words start ≡ true → Answered (refused 12)
-    unfolding runAnswer
-    refused-12 e d = rw (passed, e, d) refl
+  pub refused-12 : checkAnswer nodes rules ≡ given tt → fails11 words ≡ false → fails12 nodes words start ≡ true → Answered (refused 12)
+  unfolding runAnswer
+  refused-12 passed e d = rw (passed, e, d) refl
 
-    module _ (tokens : fails11 words ≡ false) (begin : fails12 nodes words start ≡ false) where
-      limits : WithinLimits nodes rules words start
-      limits = record { table = check-means nodes rules .passes .0 passed .0; tokens = tokens; start-right = begin }
+  -- What refuses a run refuses one that lists, and the lent words are as they were.
+  module _ (lent : List ℕ) where
+    pub list-refused :
+        {number : ℕ}
+        → Answered (refused number)
+        → (refused number ≡ listAnswer nodes rules words start (length lent)) × (lent ≡ listAfter nodes rules words start lent)
+    unfolding listAnswer listAfter
+    list-refused e = (rw (← e) refl, rw (← e) refl)
 
-      checked : Checked nodes rules words
-      checked = record { table = limits .table; well = check-means nodes rules .passes .0 passed .1; tokens = tokens }
+    pub list-named :
+        {number node : ℕ}
+        → Answered (refusedAt number node)
+        → (refusedAt number node ≡ listAnswer nodes rules words start (length lent)) × (lent ≡ listAfter nodes rules words start lent)
+    unfolding listAnswer listAfter
+    list-named e = (rw (← e) refl, rw (← e) refl)
 
-      -- The walk may begin.
-      abbrev from : State
-      from = record { place = start .place; interval = start .interval; flag = start .flag }
+  module _ (admitted : Admitted nodes rules words start) where
+    limits : WithinLimits nodes rules words start
+    limits =
+        record {
+          table = check-means nodes rules .passes .0 (admitted .table) .0;
+          tokens = admitted .tokens;
+          start-right = admitted .start-right;
+        }
 
-      pub begin-ready : Ready nodes rules words (start .node) from
-      begin-ready =
-          let b = begins nodes words start begin in
-          let l = b .lower in
-          let u = upper-in (start .interval .upper) (upper-right nodes words start begin) in
-          let w = weight-most nodes rules words (start .node) from checked (b .node) in
-          record { checked = checked; node = b .node; place = b .place; room = omega arith }
+    checked : Checked nodes rules words
+    checked = record { table = limits .table; well = check-means nodes rules .passes .0 (admitted .table) .1; tokens = admitted .tokens }
 
-      -- Its outcome is the one that is defined.
-      module _ (o : Outcome) (d : Gives nodes rules words (start .mode) (form nodes (start .node)) from o) where
-        settled : outcomeOf o ≡ ourOutcome nodes rules words start
-        settled = outcome-only nodes rules words start limits (checked .well) (outcomeOf o) (d .derived)
+    -- The walk may begin.
+    abbrev from : State
+    from = record { place = start .place; interval = start .interval; flag = start .flag }
 
-        answered : Answered (given (outcomeOf o))
-        unfolding runAnswer
-        answered = rw (passed, tokens, begin) (ap given settled)
+    pub begin-ready : Ready nodes rules words (start .node) from
+    begin-ready =
+        let b = begins nodes words start (admitted .start-right) in
+        let l = b .lower in
+        let u = upper-in (start .interval .upper) (upper-right nodes words start (admitted .start-right)) in
+        let w = weight-most nodes rules words (start .node) from checked (b .node) in
+        record { checked = checked; node = b .node; place = b .place; room = omega arith }
 
-      pub answer-failure :
-          {o : Outcome}
-          → o ≡ Failure
-          → Gives nodes rules words (start .mode) (form nodes (start .node)) from o
-          → Answered (given clauses.failure) × EndsRun nodes rules words start clauses.failure
-      answer-failure {o} e d = let f : Gives nodes rules words (start .mode) (form nodes (start .node)) from Failure = rw e at d in (answered Failure f, f .derived)
+    pub begin-room : {l : List ℕ} → length l < 2 ^ 64 → Room (weight nodes rules words (start .node) from) (0 ∷ 0 ∷ []) l
+    begin-room h =
+        let b = begins nodes words start (admitted .start-right) in
+        let w = weight-most nodes rules words (start .node) from checked (b .node) in
+        record { deep = omega arith; count = omega arith; long = h }
 
-      module _ (u : State) {o : Outcome} (e : o ≡ Success u) (d : Gives nodes rules words (start .mode) (form nodes (start .node)) from o) where
-        moved : Gives nodes rules words (start .mode) (form nodes (start .node)) from (Success u)
-        moved = rw e at d
+    -- The walk's outcome is the one that is defined.
+    settled : (o : clauses.Outcome Interval) → EndsRun nodes rules words start o → o ≡ ourOutcome nodes rules words start
+    settled o d = outcome-only nodes rules words start limits (checked .well) o d
 
+    answered : Answered (given (ourOutcome nodes rules words start))
+    answered = sym (outcome-answered nodes rules words start limits (checked .well))
+
+    -- What a whole walk shows, from what the expression walk shows.
+    module _ {l : List ℕ} {o : Outcome} {c' l' : List ℕ}
+        (d : Walked nodes rules words (start .mode) (form nodes (start .node)) from (0 ∷ 0 ∷ []) l o c' l') where
+      same : listed (outcomeOf o) (d .shown) ≡ ourCaptures nodes rules words start
+      same =
+          ap (listed (outcomeOf o)) (sym (d .gives .derived .shows))
+          ∙ captures-only nodes rules words start limits (checked .well) (outcomeOf o) (d .gives .derived .run)
+
+      whole : (n : ℕ) → n ≡ min (length (listed (outcomeOf o) (d .shown))) mostCount
+          → WholeWalk nodes rules words start l (record { outcome = o; count = n }) l'
+      whole n e =
+          record {
+            run = d .gives .derived .run;
+            count = rw (← same) e;
+            long = long-left (d .left);
+            there = rw (← same) (words-left (d .left));
+          }
+
+    pub whole-failed :
+        {l : List ℕ} {o : Outcome} {c' l' : List ℕ}
+        → Walked nodes rules words (start .mode) (form nodes (start .node)) from (0 ∷ 0 ∷ []) l o c' l'
+        → o ≡ Failure
+        → WholeWalk nodes rules words start l (record { outcome = Failure; count = 0 }) l'
+    whole-failed {l} {o} {c'} {l'} d e =
+        let f : Walked nodes rules words (start .mode) (form nodes (start .node)) from (0 ∷ 0 ∷ []) l Failure c' l' = rw e at d in
+        whole f 0 (omega arith)
+
+    pub whole-read :
+        {l : List ℕ} {o : Outcome} {c' l' : List ℕ} (u : State)
+        → Walked nodes rules words (start .mode) (form nodes (start .node)) from (0 ∷ 0 ∷ []) l o c' l'
+        → o ≡ Success u
+        → WholeWalk nodes rules words start l (record { outcome = Success u; count = soFar c' }) l'
+    whole-read {l} {o} {c'} {l'} u d e =
+        let f : Walked nodes rules words (start .mode) (form nodes (start .node)) from (0 ∷ 0 ∷ []) l (Success u) c' l' = rw e at d in
+        whole f (soFar c') (count-left (f .left))
+
+    -- What a run answers by a walk w.
+    module _ {l : List ℕ} {w : Whole} {l' : List ℕ} (d : WholeWalk nodes rules words start l w l') where
+      derived : (o : Outcome) → w .outcome ≡ o → EndsRun nodes rules words start (outcomeOf o)
+      derived o e = subst (λ (v : Outcome). EndsRun nodes rules words start (outcomeOf v)) e (d .run)
+
+      pub answer-failure : w .outcome ≡ Failure → Answered (given clauses.failure) × EndsRun nodes rules words start clauses.failure
+      answer-failure e = let f = derived Failure e in (ap given (settled clauses.failure f) ∙ answered, f)
+
+      module _ (u : State) (e : w .outcome ≡ Success u) where
         pub success-onward : start .place ≤ u .place
-        success-onward = onward ends nodes rules (tokensOf words) (moved .derived)
+        success-onward = onward ends nodes rules (tokensOf words) (derived (Success u) e)
 
         -- The tokens read end at the walk's place.
-        read : Reads (start .place) (u .place - start .place) (u .place)
+        pub read : Reads (start .place) (u .place - start .place) (u .place)
         read = let h = success-onward in omega arith
 
         pub answer-success :
             Answered (given (clauses.success (start .place + (u .place - start .place), u .interval, u .flag)))
             × (EndsRun nodes rules words start (clauses.success (u .place, u .interval, u .flag))
             × Reads (start .place) (u .place - start .place) (u .place))
-        answer-success = (ap (λ (w : ℕ). given (clauses.success (w, u .interval, u .flag))) read ∙ answered (Success u) moved, (moved .derived, read))
+        answer-success =
+            let f = derived (Success u) e in
+            (ap (λ (w : ℕ). given (clauses.success (w, u .interval, u .flag))) read ∙ (ap given (settled _ f) ∙ answered), (f, read))
+
+    -- A run that lists: a first walk counts n captures, of a slice of so many words.
+    module _ (lent : List ℕ) (short : length lent < 2 ^ 64) {n : ℕ} (e : n ≡ min (length (ourCaptures nodes rules words start)) mostCount) where
+      pub list-13 :
+          length lent / 4 < n
+          → (refused 13 ≡ listAnswer nodes rules words start (length lent)) × (lent ≡ listAfter nodes rules words start lent)
+      unfolding listAnswer listAfter fails13
+      list-13 h =
+          let k : length lent / 4 < length (ourCaptures nodes rules words start) = omega arith in
+          let f = lt-ltb (length lent / 4) (length (ourCaptures nodes rules words start)) k in
+          (rw (← answered, f) refl, rw (← answered, f) refl)
+
+      module _ (h : n ≤ length lent / 4) where
+        exact : n ≡ length (ourCaptures nodes rules words start)
+        exact = omega arith
+
+        fits : length (ourCaptures nodes rules words start) * 4 ≤ length lent
+        fits = let k = exact in omega arith
+
+        passes : fails13 nodes rules words start (length lent) ≡ false
+        unfolding fails13
+        passes = le-ltb (length lent / 4) (length (ourCaptures nodes rules words start)) (let k = exact in omega arith)
+
+        -- The answer, and the words that a second walk and the clearing left.
+        given-list :
+            given (record { outcome = ourOutcome nodes rules words start; count = n })
+            ≡ listAnswer nodes rules words start (length lent)
+        unfolding listAnswer
+        given-list = rw (← answered, passes, exact) refl
+
+        module _ {w : Whole} {l' : List ℕ} (d : WholeWalk nodes rules words start lent w l') where
+          slice : clearedFrom (n * 4) l' ≡ listWords (ourCaptures nodes rules words start) (length lent)
+          slice =
+              rw exact
+              (list-is (ourCaptures nodes rules words start) (length lent) l' (d .long) fits (d .there fits))
+
+          after : clearedFrom (n * 4) l' ≡ listAfter nodes rules words start lent
+          unfolding listAfter
+          after = rw (← given-list) (slice ∙ sym (rw past append-nil))
+            where
+              past : drop (length (listWords (ourCaptures nodes rules words start) (length lent))) lent ≡ []
+              past = drop-of-length-le lent {i = length (listWords (ourCaptures nodes rules words start) (length lent))} (omega (arith, length-list (ourCaptures nodes rules words start) (length lent) fits))
+
+          stands : (o : clauses.Outcome Interval) → EndsRun nodes rules words start o → CapturesStand nodes rules words start o n (clearedFrom (n * 4) l')
+          stands o f =
+              let c = captures-only nodes rules words start limits (checked .well) o f in
+              let m = ap length slice ∙ length-list (ourCaptures nodes rules words start) (length lent) fits in
+              record { run = f; counted = exact ∙ ap length (sym c); stands = rw (c, m) slice }

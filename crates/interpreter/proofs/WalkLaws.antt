@@ -1,8 +1,8 @@
 -- The walk, step by step, over plain values: what each call is asked, and what each way out has shown.
 use Prim.Native.Nat.{ℕ, zero, suc, _+_, _-_, _*_, _≤_, _<_}
-use mathlib.Core.Path.{_≡_, refl, sym, subst}
-use mathlib.Core.Bool.{Bool, true, false, cond}
-use mathlib.Core.List.{List}
+use mathlib.Core.Path.{_≡_, refl, sym, subst, _∙_}
+use mathlib.Core.Bool.{Bool, true, false, cond, true≢false}
+use mathlib.Core.List.{List, [], _∷_}
 use mathlib.Core.Logic.{⊎-elim}
 use lib.ListN.{length}
 use lib.Dec.{eqb}
@@ -25,8 +25,9 @@ use Rattle.well_formed.specs.InternalRank.{Enters, enters-rule, enters-first, e
 use Rattle.well_formed.specs.InternalRank.{enters-other, enters-not, enters-repeat, enters-indent, enters-position}
 use Rattle.well_formed.specs.InternalRank.{enters-align, rank}
 use Rattle.well_formed.proofs.RankLaws.{rank-falls, rank-some, rank-most, repeat-reads}
-use Rattle.clauses.specs.Clauses as clauses
-use Rattle.clauses.specs.Clauses.{Run}
+use Rattle.clauses.specs.Trace as trace
+use Rattle.clauses.specs.Trace.{Trace, silent, _then_, dropped, captured}
+use Rattle.clauses.proofs.GiveLaws as give
 use Rattle.clauses.specs.Evaluation.{reads}
 use Rattle.clauses.specs.Limits.{tokensOf}
 use Rattle.clauses.proofs.Sound.{terminal-read, terminal-unread}
@@ -35,8 +36,12 @@ use Rattle.theorems.proofs.ShownFacts.{shown, at-once}
 use Rattle.theorems.proofs.Existence.{outweighs}
 use Rattle.theorems.proofs.LimitLaws.{in-limits}
 use Rattle.after_child.specs.AfterChild.{leftState, alignedState}
+use Rattle.capture_list.specs.Put.{oneMore, capturePut}
+use Rattle.capture_list.specs.InternalList.{aroundOf, soFar, Room, Lists, Leaves, lists, keeps}
+use Rattle.capture_list.proofs.ListLaws.{left-lists, left-keeps, lists-none, left-none, then-left, lists-back, room-less}
+use Rattle.capture_list.proofs.ListLaws.{room-then, keeps-rule, noted, lists-rule}
 use Rattle.interpreter.specs.InternalWalk.{stateOf, outcomeOf, childState, tokenOutcome, ReadyToken, weight, mostWeight, mostAmount, Checked}
-use Rattle.interpreter.specs.InternalWalk.{Ready, firstNode, ReadyFirst, ReadyRule, Gives}
+use Rattle.interpreter.specs.InternalWalk.{Ready, firstNode, ReadyFirst, ReadyRule, Gives, Walked, putsBack, WalkedFirst}
 use Rattle.interpreter.proofs.HighLaws.{ends-under}
 
 -- The form of a node, by its kind.
@@ -121,44 +126,47 @@ is-nine rules count (suc (suc (suc (suc (suc (suc (suc (suc (suc zero))))))))) a
 is-nine rules count (suc (suc (suc (suc (suc (suc (suc (suc (suc (suc q)))))))))) a b r i h0 h1 h2 h3 h4 h5 h6 h7 h8 = absurd i
 
 module _ (nodes rules words : List ℕ) where
-  made : {τ : ℕ} {f : Form} {s : State} {o : Outcome} → Run ends nodes rules (tokensOf words) τ f (stateOf s) (outcomeOf o) → Gives nodes rules words τ f s o
+  made :
+      {τ : ℕ} {f : Form} {s : State} {o : Outcome} {t : Trace}
+      → trace.Gives ends nodes rules (tokensOf words) τ f (stateOf s) (outcomeOf o) t
+      → Gives nodes rules words τ f s o t
   made d = record { derived = d }
 
   -- Where what is walked first failed, so do a terminal, a sequence, an indent and an align.
   failed :
-      (count τ n a b r : ℕ) (s : State) (q : ℕ)
+      {t : Trace} (count τ n a b r : ℕ) (s : State) (q : ℕ)
       → Inside rules count (decode q a b r)
       → form nodes n ≡ decode q a b r
-      → Gives nodes rules words τ (form nodes (firstNode q n a)) (childState q r s) Failure
+      → Gives nodes rules words τ (form nodes (firstNode q n a)) (childState q r s) Failure t
       → (q ≡ 0 → ⊥)
       → (q ≡ 2 → ⊥)
       → (q ≡ 8 → ⊥)
       → (q ≡ 4 → ⊥)
       → (q ≡ 5 → ⊥)
       → (q ≡ 6 → ⊥)
-      → Gives nodes rules words τ (decode q a b r) s Failure
+      → Gives nodes rules words τ (decode q a b r) s Failure t
   unfolding childState
   failed count τ n a b r s zero i f d h0 h2 h8 h4 h5 h6 = absurd (h0 refl)
   failed count τ n a b r s (suc zero) i f d h0 h2 h8 h4 h5 h6 = rw f at d
   failed count τ n a b r s (suc (suc zero)) i f d h0 h2 h8 h4 h5 h6 = absurd (h2 refl)
-  failed count τ n a b r s (suc (suc (suc zero))) i f d h0 h2 h8 h4 h5 h6 = made (clauses.sequence-fails (d .derived))
+  failed count τ n a b r s (suc (suc (suc zero))) i f d h0 h2 h8 h4 h5 h6 = made (give.sequence-fails (d .derived))
   failed count τ n a b r s (suc (suc (suc (suc zero)))) i f d h0 h2 h8 h4 h5 h6 = absurd (h4 refl)
   failed count τ n a b r s (suc (suc (suc (suc (suc zero))))) i f d h0 h2 h8 h4 h5 h6 = absurd (h5 refl)
   failed count τ n a b r s (suc (suc (suc (suc (suc (suc zero)))))) i f d h0 h2 h8 h4 h5 h6 = absurd (h6 refl)
-  failed count τ n a b r s (suc (suc (suc (suc (suc (suc (suc zero))))))) i f d h0 h2 h8 h4 h5 h6 = made (clauses.indent-fails (d .derived))
+  failed count τ n a b r s (suc (suc (suc (suc (suc (suc (suc zero))))))) i f d h0 h2 h8 h4 h5 h6 = made (give.indent-fails (d .derived))
   failed count τ n a b r s (suc (suc (suc (suc (suc (suc (suc (suc zero)))))))) i f d h0 h2 h8 h4 h5 h6 = absurd (h8 refl)
-  failed count τ n a b r s (suc (suc (suc (suc (suc (suc (suc (suc (suc zero))))))))) i f d h0 h2 h8 h4 h5 h6 = made (clauses.align-fails (d .derived))
+  failed count τ n a b r s (suc (suc (suc (suc (suc (suc (suc (suc (suc zero))))))))) i f d h0 h2 h8 h4 h5 h6 = made (give.align-fails (d .derived))
   failed count τ n a b r s (suc (suc (suc (suc (suc (suc (suc (suc (suc (suc q)))))))))) i f d h0 h2 h8 h4 h5 h6 = absurd i
 
   -- One token.
-  token-gives : (τ a : ℕ) (s : State) → Gives nodes rules words τ (table.terminal a) s (tokenOutcome words τ a s)
+  token-gives : (τ a : ℕ) (s : State) → Gives nodes rules words τ (table.terminal a) s (tokenOutcome words τ a s) silent
   unfolding tokenOutcome
   token-gives τ a s = made (by-test (reads (tokensOf words) τ a (stateOf s)) refl)
     where
       by-test :
           (t : Bool)
           → reads (tokensOf words) τ a (stateOf s) ≡ t
-          → Run ends nodes rules (tokensOf words) τ (table.terminal a) (stateOf s)
+          → trace.Gives ends nodes rules (tokensOf words) τ (table.terminal a) (stateOf s)
           (outcomeOf
           (cond (reads (tokensOf words) τ a (stateOf s))
           (Success
@@ -166,7 +174,7 @@ module _ (nodes rules words : List ℕ) where
             place = s .place + 1;
             interval = afterToken (s .flag) τ (s .interval) (tokensOf words .column (s .place));
             flag = false;
-          })) Failure))
+          })) Failure)) silent
       by-test true e = rw e (let q = terminal-read nodes rules (tokensOf words) τ a (s .place) (s .interval) (s .flag) e in q)
       by-test false e = rw e (terminal-unread nodes rules (tokensOf words) τ a (s .place) (s .interval) (s .flag) e)
 
@@ -213,35 +221,35 @@ module _ (nodes rules words : List ℕ) where
 
     -- A child that is entered after a success of another, at the same place or after a token, weighs less.
     lighter :
-        (a c τ : ℕ) (u : State)
+        {t : Trace} (a c τ : ℕ) (u : State)
         → c < nodeCount nodes
-        → Run ends nodes rules (tokensOf words) τ (form nodes a) (stateOf s) (clauses.success (stateOf u))
+        → Gives nodes rules words τ (form nodes a) s (Success u) t
         → (May nodes rules (form nodes a) nothing → rank nodes rules c < rank nodes rules n)
         → weight nodes rules words c u < weight nodes rules words n s
     unfolding weight
     lighter a c τ u i d q =
-        let far = within ends nodes rules (tokensOf words) (h .place) d in
+        let far = within ends nodes rules (tokensOf words) (h .place) (d .derived .run) in
         ⊎-elim
         (λ (e : s .place ≡ u .place).
-        let k = q (shown ends nodes rules (tokensOf words) d nothing (at-once (sym e))) in rw (← e) (omega arith))
+        let k = q (shown ends nodes rules (tokensOf words) (d .derived .run) nothing (at-once (sym e))) in rw (← e) (omega arith))
         (λ (l : s .place < u .place).
         outweighs (tokensOf words .count - s .place) (tokensOf words .count - u .place) (nodeCount nodes)
         (rank nodes rules n) (rank nodes rules c) (omega arith)
         (rank-most nodes rules (h .checked .table) (h .checked .well) c i) (rank-some nodes rules (h .checked .table) (h .checked .well) n))
-        (eq-or-lt-of-le (onward ends nodes rules (tokensOf words) d))
+        (eq-or-lt-of-le (onward ends nodes rules (tokensOf words) (d .derived .run)))
 
     after :
-        (a c τ : ℕ) (u : State)
+        {t : Trace} (a c τ : ℕ) (u : State)
         → c < nodeCount nodes
-        → Run ends nodes rules (tokensOf words) τ (form nodes a) (stateOf s) (clauses.success (stateOf u))
+        → Gives nodes rules words τ (form nodes a) s (Success u) t
         → (May nodes rules (form nodes a) nothing → rank nodes rules c < rank nodes rules n)
         → Lighter (weight nodes rules words n s) c u
     after a c τ u i d q =
-        let high = ends-under nodes rules (tokensOf words) mostColumn (in-limits words (h .checked .tokens) .column) (highest (s .interval)) (omega arith) d in
+        let high = ends-under nodes rules (tokensOf words) mostColumn (in-limits words (h .checked .tokens) .column) (highest (s .interval)) (omega arith) (d .derived .run) in
         let w = weight-most c u (h .checked) i in
         let m = h .room in
         let l = lighter a c τ u i d q in
-        record { less = l; ready = record { checked = h .checked; node = i; place = within ends nodes rules (tokensOf words) (h .place) d; room = omega arith } }
+        record { less = l; ready = record { checked = h .checked; node = i; place = within ends nodes rules (tokensOf words) (h .place) (d .derived .run); room = omega arith } }
 
 -- A node's four words, and the tokens' words, are there.
 module _ {nodes rules words : List ℕ} {n : ℕ} {s : State} (h : Ready nodes rules words n s) where
@@ -255,17 +263,27 @@ module _ {nodes rules words : List ℕ} {n : ℕ} {s : State} (h : Ready nodes r
       let whole = k .whole in
       record { whole = whole; few = omega arith }
 
--- The loop has come from a mode, a node and a state to others: what is left to do is ready and weighs no more, and its
--- outcome is the whole's.
-pub record Walk (nodes rules words : List ℕ) (τ₀ n₀ : ℕ) (s₀ : State) (τ n : ℕ) (s : State) : Type 0 where
+-- The loop has come from a mode, a node, a state and a list to others: what is left to do is ready and weighs no more, and
+-- what it shows is the whole's.
+pub record Walk (nodes rules words : List ℕ) (τ₀ n₀ : ℕ) (s₀ : State) (c₀ l₀ : List ℕ) (τ n : ℕ) (s : State) (c l : List ℕ) : Type 0 where
   pub ready : Ready nodes rules words n s
+  pub room : Room (weight nodes rules words n s) c l
   pub low : weight nodes rules words n s ≤ weight nodes rules words n₀ s₀
-  pub back : (o : Outcome) → Gives nodes rules words τ (form nodes n) s o → Gives nodes rules words τ₀ (form nodes n₀) s₀ o
+  pub long : length l ≡ length l₀
+  pub back :
+      (o : Outcome) (c' l' : List ℕ)
+      → Walked nodes rules words τ (form nodes n) s c l o c' l'
+      → Walked nodes rules words τ₀ (form nodes n₀) s₀ c₀ l₀ o c' l'
 
-pub start : {nodes rules words : List ℕ} {τ n : ℕ} {s : State} → Ready nodes rules words n s → Walk nodes rules words τ n s τ n s
-start h = record { ready = h; low = omega arith; back = λ o d. d }
+pub start :
+    {nodes rules words : List ℕ} {τ n : ℕ} {s : State} {c l : List ℕ}
+    → Ready nodes rules words n s
+    → Room (weight nodes rules words n s) c l
+    → Walk nodes rules words τ n s c l τ n s c l
+start h r = record { ready = h; room = r; low = omega arith; long = refl; back = λ o c' l' d. d }
 
-module _ {nodes rules words : List ℕ} {τ₀ n₀ : ℕ} {s₀ : State} {τ n : ℕ} {s : State} (h : Walk nodes rules words τ₀ n₀ s₀ τ n s) where
+module _ {nodes rules words : List ℕ} {τ₀ n₀ : ℕ} {s₀ : State} {c₀ l₀ : List ℕ} {τ n : ℕ} {s : State} {c l : List ℕ}
+    (h : Walk nodes rules words τ₀ n₀ s₀ c₀ l₀ τ n s c l) where
   abbrev kind : ℕ
   kind = kindOf nodes n
 
@@ -278,34 +296,49 @@ module _ {nodes rules words : List ℕ} {τ₀ n₀ : ℕ} {s₀ : State} {τ n 
   abbrev r : ℕ
   r = relationOf nodes n
 
-  -- An outcome of the whole.
-  abbrev Whole : Outcome → Type 0
-  Whole o = Gives nodes rules words τ₀ (form nodes n₀) s₀ o
+  -- What the whole shows, and what this node's form shows.
+  abbrev Whole : Outcome → List ℕ → List ℕ → Type 0
+  Whole o c' l' = Walked nodes rules words τ₀ (form nodes n₀) s₀ c₀ l₀ o c' l'
+
+  abbrev Here : ℕ → Outcome → List ℕ → List ℕ → Type 0
+  Here q o c' l' = Walked nodes rules words τ (decode q a b r) s c l o c' l'
 
   inside : (q : ℕ) → kind ≡ q → Inside rules (nodeCount nodes) (decode q a b r)
   inside q p = subst (Inside rules (nodeCount nodes)) (formed nodes n q p) (inside-table nodes rules (h .ready .checked .table) n (h .ready .node))
 
-  enters : (q c : ℕ) → kind ≡ q → Enters nodes rules (decode q a b r) c → Enters nodes rules (form nodes n) c
-  enters q c p e = rw (formed nodes n q p) e
+  enters : (q k : ℕ) → kind ≡ q → Enters nodes rules (decode q a b r) k → Enters nodes rules (form nodes n) k
+  enters q k p e = rw (formed nodes n q p) e
 
-  -- The whole's outcome, from this node's form.
-  out : (o : Outcome) (q : ℕ) → kind ≡ q → Gives nodes rules words τ (decode q a b r) s o → Whole o
-  out o q p d = h .back o (rw (formed nodes n q p) d)
+  -- What the whole shows, from this node's form.
+  out : (o : Outcome) {c' l' : List ℕ} (q : ℕ) → kind ≡ q → Here q o c' l' → Whole o c' l'
+  out o {c'} {l'} q p d = h .back o c' l' (rw (formed nodes n q p) d)
 
-  -- The next turn.
+  -- The next turn, after what a trace shows is listed.
   turn :
-      (τ' n' : ℕ) (u : State)
+      (q : ℕ)
+      → kind ≡ q
+      → (τ' n' : ℕ) (u : State) {c' l' : List ℕ} {t : Trace}
       → Lighter nodes rules words (weight nodes rules words n s) n' u
-      → ((o : Outcome) → Gives nodes rules words τ' (form nodes n') u o → Gives nodes rules words τ (form nodes n) s o)
-      → Walk nodes rules words τ₀ n₀ s₀ τ' n' u
-  turn τ' n' u x f = let l = x .less in let k = h .low in record { ready = x .ready; low = omega arith; back = λ o d. h .back o (f o d) }
+      → Lists t c l c' l'
+      → ((o : Outcome) (c'' l'' : List ℕ) → Walked nodes rules words τ' (form nodes n') u c' l' o c'' l'' → Here q o c'' l'')
+      → Walk nodes rules words τ₀ n₀ s₀ c₀ l₀ τ' n' u c' l'
+  turn q p τ' n' u x y f =
+      let w = x .less in
+      let k = h .low in
+      record {
+        ready = x .ready;
+        room = room-then (h .room) (weight nodes rules words n' u) (omega arith) y;
+        low = omega arith;
+        long = y .keeps .long ∙ h .long;
+        back = λ o c'' l'' d. out o q p (f o c'' l'' d);
+      }
 
   pub for-node : n * 4 + 3 < length nodes
   for-node = node-there (h .ready)
 
   -- Empty.
-  pub out-empty : kind ≡ 0 → Whole (Success s)
-  out-empty p = out (Success s) 0 p (record { derived = clauses.empty })
+  pub out-empty : kind ≡ 0 → Whole (Success s) c l
+  out-empty p = out (Success s) 0 p (record { shown = silent; gives = made nodes rules words give.empty; left = left-none (h .room) (Success s) refl })
 
   -- A rule, in a state i that is written anew.
   module _ (p : kind ≡ 2) {i : State} (e : i ≡ s) where
@@ -320,8 +353,11 @@ module _ {nodes rules words : List ℕ} {τ₀ n₀ : ℕ} {s₀ : State} {τ n 
     pub rule-ready : ReadyRule nodes rules words a i
     rule-ready = record { there = rule-there nodes rules (h .ready .checked .table) n (h .ready .node) p; ready = rule-next .ready }
 
-    pub out-rule : (o : Outcome) → Gives nodes rules words τ (table.rule a) i o → Whole o
-    out-rule o d = out o 2 p (subst (λ (u : State). Gives nodes rules words τ (table.rule a) u o) e d)
+    pub rule-room : Room (weight nodes rules words (standsFor rules a) i + 1) c l
+    rule-room = let w = rule-next .less in room-less (h .room) (weight nodes rules words (standsFor rules a) i + 1) (omega arith)
+
+    pub out-rule : (o : Outcome) {c' l' : List ℕ} → Walked nodes rules words τ (table.rule a) i c l o c' l' → Whole o c' l'
+    out-rule o {c'} {l'} d = out o 2 p (subst (λ (u : State). Walked nodes rules words τ (table.rule a) u c l o c' l') e d)
 
   -- A position.
   position-next : kind ≡ 8 → Lighter nodes rules words (weight nodes rules words n s) a s
@@ -330,8 +366,10 @@ module _ {nodes rules words : List ℕ} {τ₀ n₀ : ℕ} {s₀ : State} {τ n 
   pub position-less : kind ≡ 8 → weight nodes rules words a s < weight nodes rules words n s
   position-less p = position-next p .less
 
-  pub position-again : kind ≡ 8 → Walk nodes rules words τ₀ n₀ s₀ r a s
-  position-again p = turn r a s (position-next p) (λ o d. rw (formed nodes n 8 p) (record { derived = clauses.position (d .derived) }))
+  pub position-again : kind ≡ 8 → Walk nodes rules words τ₀ n₀ s₀ c₀ l₀ r a s c l
+  position-again p =
+      turn 8 p r a s (position-next p) (lists-none (h .room) {t = silent} refl)
+      (λ o c'' l'' d. record { shown = d .shown; gives = made nodes rules words (give.position (d .gives .derived)); left = d .left })
 
   -- The call for what is walked first.
   relation-in : r < relationCount
@@ -370,30 +408,39 @@ module _ {nodes rules words : List ℕ} {τ₀ n₀ : ℕ} {s₀ : State} {τ n 
           room = let m = h .ready .room in let l = relation-in in let n = rise-most r in omega arith;
         }
 
-  -- After it: the outcome x that it gave.
-  module _ {k : ℕ} (e : k ≡ firstNode kind n a) {x : Outcome} (d : Gives nodes rules words τ (form nodes k) (childState kind r s) x) where
-    abbrev Child : ℕ → State → Outcome → Type 0
-    Child m u o = Run ends nodes rules (tokensOf words) τ (form nodes m) (stateOf u) (outcomeOf o)
+    pub call-room : Room (weight nodes rules words k (childState kind r s)) c l
+    call-room =
+        by-kind (λ (m : ℕ). Room (weight nodes rules words m (childState kind r s)) c l) (λ p. rw (own p) (h .room))
+        (λ h1. let w = call h1 .less in room-less (h .room) (weight nodes rules words a (childState kind r s)) (omega arith))
 
-    gave : (q : ℕ) → kind ≡ q → {o : Outcome} → x ≡ o → Child (firstNode q n a) (childState q r s) o
+  -- After it: the outcome x that it gave, and the list that it left.
+  module _ {k : ℕ} (e : k ≡ firstNode kind n a) {x : Outcome} {c' l' : List ℕ}
+      (d : WalkedFirst kind nodes rules words τ (form nodes k) (childState kind r s) c l x c' l') where
+    abbrev Child : ℕ → ℕ → State → Outcome → Type 0
+    Child q m u o = WalkedFirst q nodes rules words τ (form nodes m) u c l o c' l'
+
+    pub call-long : length l' ≡ length l₀
+    call-long = d .left .keeps .long ∙ h .long
+
+    gave : (q : ℕ) → kind ≡ q → {o : Outcome} → x ≡ o → Child q (firstNode q n a) (childState q r s) o
     gave q p {o} z =
-        subst (λ (j : ℕ). Child (firstNode j n a) (childState j r s) o) p
-        (subst (λ (m : ℕ). Child m (childState kind r s) o) e (subst (λ (v : Outcome). Child k (childState kind r s) v) z (d .derived)))
+        subst (λ (j : ℕ). Child j (firstNode j n a) (childState j r s) o) p
+        (subst (λ (m : ℕ). Child kind m (childState kind r s) o) e (subst (λ (v : Outcome). Child kind k (childState kind r s) v) z d))
 
     -- A kind whose child is walked in the state as it is.
-    third : kind ≡ 3 → {o : Outcome} → x ≡ o → Child a s o
+    third : kind ≡ 3 → {o : Outcome} → x ≡ o → Child 3 a s o
     unfolding childState
     third p z = gave 3 p z
 
-    fourth : kind ≡ 4 → {o : Outcome} → x ≡ o → Child a s o
+    fourth : kind ≡ 4 → {o : Outcome} → x ≡ o → Child 4 a s o
     unfolding childState
     fourth p z = gave 4 p z
 
-    fifth : kind ≡ 5 → {o : Outcome} → x ≡ o → Child a s o
+    fifth : kind ≡ 5 → {o : Outcome} → x ≡ o → Child 5 a s o
     unfolding childState
     fifth p z = gave 5 p z
 
-    sixth : kind ≡ 6 → {o : Outcome} → x ≡ o → Child a s o
+    sixth : kind ≡ 6 → {o : Outcome} → x ≡ o → Child 6 a s o
     unfolding childState
     sixth p z = gave 6 p z
 
@@ -405,14 +452,26 @@ module _ {nodes rules words : List ℕ} {τ₀ n₀ : ℕ} {s₀ : State} {τ n 
       pub choice-less : kind ≡ 4 → weight nodes rules words b s < weight nodes rules words n s
       choice-less p = choice-next p .less
 
-      pub choice-again : kind ≡ 4 → Walk nodes rules words τ₀ n₀ s₀ τ b s
-      choice-again p = turn τ b s (choice-next p) (λ o f. rw (formed nodes n 4 p) (record { derived = clauses.choice-second (fourth p z) (f .derived) }))
+      pub choice-again : kind ≡ 4 → Walk nodes rules words τ₀ n₀ s₀ c₀ l₀ τ b s c' l'
+      choice-again p =
+          let k = fourth p z in
+          turn 4 p τ b s (choice-next p) (k .left)
+          (λ o c'' l'' f.
+          record {
+            shown = dropped (k .shown) then f .shown;
+            gives = made nodes rules words (give.choice-second (k .gives .derived) (f .gives .derived));
+            left = then-left (h .room) (k .left) (f .left);
+          })
 
-      pub out-not : kind ≡ 5 → Whole (Success s)
-      out-not p = out (Success s) 5 p (record { derived = clauses.not (fifth p z) })
+      pub out-not : kind ≡ 5 → Whole (Success s) c' l'
+      out-not p =
+          let k = fifth p z in
+          out (Success s) 5 p (record { shown = dropped (k .shown); gives = made nodes rules words (give.not (k .gives .derived)); left = lists (k .left) })
 
-      pub out-repeat : kind ≡ 6 → Whole (Success s)
-      out-repeat p = out (Success s) 6 p (record { derived = clauses.repeat-ends (sixth p z) })
+      pub out-repeat : kind ≡ 6 → Whole (Success s) c' l'
+      out-repeat p =
+          let k = sixth p z in
+          out (Success s) 6 p (record { shown = dropped (k .shown); gives = made nodes rules words (give.repeat-ends (k .gives .derived)); left = lists (k .left) })
 
       pub out-failed :
           (kind ≡ 0 → ⊥)
@@ -421,63 +480,93 @@ module _ {nodes rules words : List ℕ} {τ₀ n₀ : ℕ} {s₀ : State} {τ n 
           → (kind ≡ 4 → ⊥)
           → (kind ≡ 5 → ⊥)
           → (kind ≡ 6 → ⊥)
-          → Whole Failure
+          → Whole Failure c' l'
       out-failed h0 h2 h8 h4 h5 h6 =
+          let k = gave kind refl z in
           out Failure kind refl
-          (failed nodes rules words (nodeCount nodes) τ n a b r s kind (inside kind refl) (formed nodes n kind refl)
-          (record { derived = gave kind refl z }) h0 h2 h8 h4 h5 h6)
+          (record {
+            shown = k .shown;
+            gives =
+                failed nodes rules words (nodeCount nodes) τ n a b r s kind (inside kind refl) (formed nodes n kind refl)
+                (k .gives) h0 h2 h8 h4 h5 h6;
+            left = keeps (k .left .keeps);
+          })
 
     -- The child succeeded.
     module _ (u : State) (z : x ≡ Success u) where
       -- A terminal.
-      pub out-terminal : kind ≡ 1 → Whole (Success u)
+      token-read : kind ≡ 1 → Here 1 (Success u) c' l'
       unfolding childState
-      out-terminal p = h .back (Success u) (record { derived = gave 1 p z })
+      token-read p =
+          let k = gave 1 p z in
+          let g : Gives nodes rules words τ (table.terminal a) s (Success u) (k .shown) = rw (formed nodes n 1 p) at (k .gives) in
+          record { shown = k .shown; gives = g; left = lists (k .left) }
+
+      pub out-terminal : kind ≡ 1 → Whole (Success u) c' l'
+      out-terminal p = out (Success u) 1 p (token-read p)
 
       -- A sequence: its second part is the next turn.
       sequence-next : kind ≡ 3 → Lighter nodes rules words (weight nodes rules words n s) b u
       sequence-next p =
-          after nodes rules words n s (h .ready) a b τ u (inside 3 p .1) (third p z)
+          after nodes rules words n s (h .ready) a b τ u (inside 3 p .1) (third p z .gives)
           (λ m. rank-falls nodes rules (h .ready .checked .table) (h .ready .checked .well) n b (h .ready .node) (enters 3 b p (enters-second m)))
 
       pub sequence-less : kind ≡ 3 → weight nodes rules words b u < weight nodes rules words n s
       sequence-less p = sequence-next p .less
 
-      pub sequence-again : kind ≡ 3 → Walk nodes rules words τ₀ n₀ s₀ τ b u
-      sequence-again p = turn τ b u (sequence-next p) (λ o f. rw (formed nodes n 3 p) (record { derived = clauses.sequence (third p z) (f .derived) }))
+      pub sequence-again : kind ≡ 3 → Walk nodes rules words τ₀ n₀ s₀ c₀ l₀ τ b u c' l'
+      sequence-again p =
+          let k = third p z in
+          turn 3 p τ b u (sequence-next p) (k .left)
+          (λ o c'' l'' f.
+          record {
+            shown = k .shown then f .shown;
+            gives = made nodes rules words (give.sequence (k .gives .derived) (f .gives .derived));
+            left = then-left (h .room) (k .left) (f .left);
+          })
 
-      pub out-choice : kind ≡ 4 → Whole (Success u)
-      out-choice p = out (Success u) 4 p (record { derived = clauses.choice-first (fourth p z) })
+      pub out-choice : kind ≡ 4 → Whole (Success u) c' l'
+      out-choice p =
+          let k = fourth p z in
+          out (Success u) 4 p (record { shown = k .shown; gives = made nodes rules words (give.choice-first (k .gives .derived)); left = lists (k .left) })
 
-      pub out-not-fails : kind ≡ 5 → Whole Failure
-      out-not-fails p = out Failure 5 p (record { derived = clauses.not-fails (fifth p z) })
+      pub out-not-fails : kind ≡ 5 → Whole Failure c' l'
+      out-not-fails p =
+          let k = fifth p z in
+          out Failure 5 p
+          (record { shown = dropped (k .shown); gives = made nodes rules words (give.not-fails (k .gives .derived)); left = keeps (k .left .keeps) })
 
       -- A repeat: a round more is the next turn.
       repeat-next : kind ≡ 6 → Lighter nodes rules words (weight nodes rules words n s) n u
       repeat-next p =
-          after nodes rules words n s (h .ready) a n τ u (h .ready .node) (sixth p z)
+          after nodes rules words n s (h .ready) a n τ u (h .ready .node) (sixth p z .gives)
           (λ m. absurd (repeat-reads nodes rules (h .ready .checked .table) (h .ready .checked .well) n a (h .ready .node) (formed nodes n 6 p) m))
 
       pub repeat-less : kind ≡ 6 → weight nodes rules words n u < weight nodes rules words n s
       repeat-less p = repeat-next p .less
 
-      pub repeat-again : kind ≡ 6 → Walk nodes rules words τ₀ n₀ s₀ τ n u
+      pub repeat-again : kind ≡ 6 → Walk nodes rules words τ₀ n₀ s₀ c₀ l₀ τ n u c' l'
       repeat-again p =
-          turn τ n u (repeat-next p)
-          (λ o f.
-          let g : Gives nodes rules words τ (table.repeat a) u o = rw (formed nodes n 6 p) at f in rw
-          (formed nodes n 6 p) (record { derived = clauses.repeat-again (sixth p z) (g .derived) }))
+          let k = sixth p z in
+          turn 6 p τ n u (repeat-next p) (k .left)
+          (λ o c'' l'' f.
+          let g : Walked nodes rules words τ (table.repeat a) u c' l' o c'' l'' = rw (formed nodes n 6 p) at f in
+          record {
+            shown = k .shown then g .shown;
+            gives = made nodes rules words (give.repeat-again (k .gives .derived) (g .gives .derived));
+            left = then-left (h .room) (k .left) (g .left);
+          })
 
-      indented : kind ≡ 7 → Gives nodes rules words τ (table.indent a r) s (Success (leftState r s u))
+      indented : kind ≡ 7 → Here 7 (Success (leftState r s u)) c' l'
       unfolding childState
-      indented p = record { derived = clauses.indent (gave 7 p z) }
+      indented p = let k = gave 7 p z in record { shown = k .shown; gives = made nodes rules words (give.indent (k .gives .derived)); left = lists (k .left) }
 
-      pub out-indent : kind ≡ 7 → {v : State} → v ≡ leftState r s u → Whole (Success v)
+      pub out-indent : kind ≡ 7 → {v : State} → v ≡ leftState r s u → Whole (Success v) c' l'
       out-indent p {v} y = rw y (out (Success (leftState r s u)) 7 p (indented p))
 
-      aligned : kind ≡ 9 → Gives nodes rules words τ (table.align a) s (Success (alignedState s u))
+      aligned : kind ≡ 9 → Here 9 (Success (alignedState s u)) c' l'
       unfolding childState
-      aligned p = record { derived = clauses.align (gave 9 p z) }
+      aligned p = let k = gave 9 p z in record { shown = k .shown; gives = made nodes rules words (give.align (k .gives .derived)); left = lists (k .left) }
 
       pub out-align :
           (kind ≡ 0 → ⊥)
@@ -491,10 +580,31 @@ module _ {nodes rules words : List ℕ} {τ₀ n₀ : ℕ} {s₀ : State} {τ n 
           → (kind ≡ 7 → ⊥)
           → {v : State}
           → v ≡ alignedState s u
-          → Whole (Success v)
+          → Whole (Success v) c' l'
       out-align h0 h2 h8 h1 h3 h4 h5 h6 h7 {v} y =
           let p = is-nine rules (nodeCount nodes) kind a b r (inside kind refl) h0 h1 h2 h3 h4 h5 h6 h7 h8 in
           rw y (out (Success (alignedState s u)) 9 p (aligned p))
+
+-- The captures of what is walked first, put back or not.
+module _ {levels : ℕ} {c l : List ℕ} (room : Room levels c l) where
+  first-none : (t : Trace) (b : Bool) → t .captures (aroundOf c) ≡ [] → Lists (cond b (dropped t) t) c l c l
+  first-none t true e = lists-none room refl
+  first-none t false e = lists-none room e
+
+  first-back :
+      {c' l' : List ℕ} {o : Outcome} (t : Trace) (b : Bool)
+      → b ≡ true
+      → Leaves t c l c' l' o
+      → Lists (cond b (dropped t) t) c l (aroundOf c' ∷ soFar c ∷ []) l'
+  first-back t b e x = rw e (lists-back room t (left-keeps x))
+
+  first-on :
+      {c' l' : List ℕ} {o : Outcome} (q : ℕ) (t : Trace)
+      → putsBack q o ≡ false
+      → Leaves t c l c' l' o
+      → Lists (cond (putsBack q o) (dropped t) t) c l c' l'
+  first-on q t e (lists x) = rw e x
+  first-on q t e (keeps x) = absurd (true≢false e)
 
 -- The walk of what is walked first.
 module _ {nodes rules words : List ℕ} {n q r : ℕ} {s : State} (h : ReadyFirst nodes rules words n q r s) where
@@ -525,24 +635,34 @@ module _ {nodes rules words : List ℕ} {n q r : ℕ} {s : State} (h : ReadyFirs
     pub first-ready : Ready nodes rules words n i
     first-ready = rw y (h .ready)
 
-    pub out-token :
-        {τ : ℕ}
-        → kindOf nodes n ≡ 1
-        → (o : Outcome)
-        → o ≡ tokenOutcome words τ (aOf nodes n) i
-        → Gives nodes rules words τ (form nodes n) (childState q r s) o
-    out-token {τ} p o e =
-        let g : Gives nodes rules words τ (form nodes n) i (tokenOutcome words τ (aOf nodes n) i) =
-        rw (formed nodes n 1 p) (token-gives nodes rules words τ (aOf nodes n) i) in
-        let x : Gives nodes rules words τ (form nodes n) i o = rw e g in
-        subst (λ (u : State). Gives nodes rules words τ (form nodes n) u o) y x
+    module _ {c l : List ℕ} (room : Room (weight nodes rules words n (childState q r s)) c l) where
+      pub first-room : Room (weight nodes rules words n i) c l
+      first-room = rw y room
 
-    pub out-first :
-        {τ : ℕ} {x o : Outcome}
-        → Gives nodes rules words τ (form nodes n) i x
-        → o ≡ x
-        → Gives nodes rules words τ (form nodes n) (childState q r s) o
-    out-first {τ} {x} {o} d e = rw e (subst (λ (u : State). Gives nodes rules words τ (form nodes n) u x) y d)
+      pub out-token :
+          {τ : ℕ}
+          → kindOf nodes n ≡ 1
+          → (o : Outcome)
+          → o ≡ tokenOutcome words τ (aOf nodes n) i
+          → WalkedFirst q nodes rules words τ (form nodes n) (childState q r s) c l o c l
+      out-token {τ} p o e =
+          let g : Gives nodes rules words τ (form nodes n) i (tokenOutcome words τ (aOf nodes n) i) silent =
+          rw (formed nodes n 1 p) (token-gives nodes rules words τ (aOf nodes n) i) in
+          let x : Gives nodes rules words τ (form nodes n) i o silent = rw e g in
+          let z : Gives nodes rules words τ (form nodes n) (childState q r s) o silent =
+          subst (λ (u : State). Gives nodes rules words τ (form nodes n) u o silent) y x in
+          record { shown = silent; gives = z; left = first-none room silent (putsBack q o) refl }
+
+      -- After the expression walk's outcome v, written anew, and the test whether its captures are put back.
+      module _ {τ : ℕ} {v o : Outcome} {c' l' : List ℕ} (x : Walked nodes rules words τ (form nodes n) i c l v c' l') (w : o ≡ v) {t : Bool} (e : t ≡ putsBack q o) where
+        walked : Walked nodes rules words τ (form nodes n) (childState q r s) c l o c' l'
+        walked = rw w (subst (λ (u : State). Walked nodes rules words τ (form nodes n) u c l v c' l') y x)
+
+        pub out-back : t ≡ true → WalkedFirst q nodes rules words τ (form nodes n) (childState q r s) c l o (aroundOf c' ∷ soFar c ∷ []) l'
+        out-back k = record { shown = walked .shown; gives = walked .gives; left = first-back room (walked .shown) (putsBack q o) (sym e ∙ k) (walked .left) }
+
+        pub out-on : t ≡ false → WalkedFirst q nodes rules words τ (form nodes n) (childState q r s) c l o c' l'
+        out-on k = record { shown = walked .shown; gives = walked .gives; left = first-on room q (walked .shown) (sym e ∙ k) (walked .left) }
 
 -- The rule walk.
 module _ {nodes rules words : List ℕ} {x : ℕ} {s : State} (h : ReadyRule nodes rules words x s) where
@@ -550,5 +670,38 @@ module _ {nodes rules words : List ℕ} {x : ℕ} {s : State} (h : ReadyRule nod
   pub node-less : {T : ℕ} → 2 * weight nodes rules words (standsFor rules x) s + 2 ≡ T → 2 * weight nodes rules words (standsFor rules x) s + 1 < T
   node-less q = omega arith
 
-  pub out-of-rule : {τ : ℕ} (o : Outcome) → Gives nodes rules words τ (form nodes (standsFor rules x)) s o → Gives nodes rules words τ (table.rule x) s o
-  out-of-rule o d = record { derived = clauses.rule (d .derived) }
+-- After it, with one more around and one more so far inside.
+module _ {nodes rules words : List ℕ} (x : ℕ) {s : State} {c l : List ℕ} (room : Room (weight nodes rules words (standsFor rules x) s + 1) c l) {k : ℕ}
+    (more : k ≡ oneMore (soFar c)) {τ : ℕ} {o : Outcome} {c' l' : List ℕ}
+    (d : Walked nodes rules words τ (form nodes (standsFor rules x)) s ((aroundOf c + 1) ∷ k ∷ []) l o c' l') where
+  abbrev Inside-rule : Outcome → Type 0
+  Inside-rule v = Walked nodes rules words τ (form nodes (standsFor rules x)) s ((aroundOf c + 1) ∷ k ∷ []) l v c' l'
+
+  abbrev Rule : Outcome → List ℕ → Type 0
+  Rule v l'' = Walked nodes rules words τ (table.rule x) s c l v (aroundOf c ∷ soFar c' ∷ []) l''
+
+  pub rule-failed : o ≡ Failure → Rule Failure l'
+  rule-failed e =
+      let f : Inside-rule Failure = rw e at d in
+      record {
+        shown = captured x (s .place) (outcomeOf Failure) (f .shown);
+        gives = made nodes rules words (give.rule (f .gives .derived));
+        left = keeps (keeps-rule (weight nodes rules words (standsFor rules x) s) room more (left-keeps (f .left)));
+      }
+
+  pub rule-read :
+      (u : State)
+      → o ≡ Success u
+      → {l'' : List ℕ}
+      → l'' ≡ capturePut (soFar c) (record { rule = x; first = s .place; after = u .place; around = aroundOf c }) l'
+      → Rule (Success u) l''
+  rule-read u e y =
+      let f : Inside-rule (Success u) = rw e at d in
+      record {
+        shown = captured x (s .place) (outcomeOf (Success u)) (f .shown);
+        gives = made nodes rules words (give.rule (f .gives .derived));
+        left =
+            lists
+            (lists-rule (weight nodes rules words (standsFor rules x) s) room more x (s .place) (stateOf u)
+            (left-lists (f .left)) (rw y (noted l' (soFar c) _)));
+      }

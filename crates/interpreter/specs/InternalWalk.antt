@@ -1,7 +1,7 @@
 -- What the walk's functions tell one another. No public promise rests on this file.
 use Prim.Native.Nat.{ℕ, zero, suc, _+_, _-_, _*_, _%_, _≤_, _<_, _^_}
 use mathlib.Core.Path.{_≡_}
-use mathlib.Core.Bool.{true, false, cond}
+use mathlib.Core.Bool.{Bool, true, false, cond}
 use mathlib.Core.List.{List}
 use lib.ListN.{length}
 use lib.Dec.{eqb}
@@ -19,9 +19,12 @@ use Rattle.columns.specs.declared.Outcome.the-variants.{Success, Failure}
 use Rattle.well_formed.specs.WellFormed.{Passes}
 use Rattle.well_formed.specs.InternalRank.{rank}
 use Rattle.clauses.specs.Clauses as clauses
+use Rattle.clauses.specs.Trace as trace
+use Rattle.clauses.specs.Trace.{Trace, dropped}
 use Rattle.clauses.specs.Evaluation.{reads}
 use Rattle.clauses.specs.Limits.{tokensOf, fails11}
 use Rattle.after_child.specs.AfterChild.{withInterval, withFlag}
+use Rattle.capture_list.specs.InternalList.{Lists, Leaves}
 
 -- The declared states and outcomes as those of the clauses.
 abbrev pub stateOf : State → clauses.State Interval
@@ -110,6 +113,25 @@ pub record ReadyRule (nodes rules words : List ℕ) (x : ℕ) (s : State) : Type
   pub there : x < length rules
   pub ready : Ready nodes rules words (standsFor rules x) s
 
--- The clauses over two ends give the outcome.
-pub record Gives (nodes rules words : List ℕ) (τ : ℕ) (f : Form) (s : State) (o : Outcome) : Type 0 where
-  pub derived : clauses.Run ends nodes rules (tokensOf words) τ f (stateOf s) (outcomeOf o)
+-- The clauses over two ends give the outcome, and a trace with it.
+pub record Gives (nodes rules words : List ℕ) (τ : ℕ) (f : Form) (s : State) (o : Outcome) (t : Trace) : Type 0 where
+  pub derived : trace.Gives ends nodes rules (tokensOf words) τ f (stateOf s) (outcomeOf o) t
+
+-- What the expression walk and the rule walk show: an outcome with its trace, whose captures are in the list.
+pub record Walked (nodes rules words : List ℕ) (τ : ℕ) (f : Form) (s : State) (counts list : List ℕ) (o : Outcome) (counts' list' : List ℕ) :
+    Type 0 where
+  pub shown : Trace
+  pub gives : Gives nodes rules words τ f s o shown
+  pub left : Leaves shown counts list counts' list' o
+
+-- Whether the captures of what is walked first in a node of a kind are put back: where it failed, and in a not.
+abbrev pub putsBack : ℕ → Outcome → Bool
+putsBack q (Success u) = eqb q 5
+putsBack q Failure = true
+
+-- What its walk shows.
+pub record WalkedFirst (q : ℕ) (nodes rules words : List ℕ) (τ : ℕ) (f : Form) (s : State) (counts list : List ℕ) (o : Outcome)
+    (counts' list' : List ℕ) : Type 0 where
+  pub shown : Trace
+  pub gives : Gives nodes rules words τ f s o shown
+  pub left : Lists (cond (putsBack q o) (dropped shown) shown) counts list counts' list'

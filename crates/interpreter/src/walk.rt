@@ -1,32 +1,45 @@
 // The expression walk and the rule walk, which call each other, with the state and the outcome by value. What comes last in
 // a node, as a sequence's second part or a repeat's next round, is the loop's next turn; the first child of every other form
 // is walked by one call, or by none if it is a terminal. So a nested call needs little of the stack.
+//
+// Captures go into a lent list. counts[0] is the number of captures around, counts[1] the number so far: a failure may leave
+// it too high, and the walk of a first child puts it back.
 use crate::states::anew;
 use crate::states::entered;
 use crate::states::fresh;
 use crate::states::token;
 use after_child::aligned;
 use after_child::left;
+use capture_list::more;
+use capture_list::put;
+use columns::Capture;
 use columns::Outcome;
 use columns::State;
 use table::kinds;
 ghost use mathlib.Core.Path.{_≡_};
-ghost use Rattle.table.specs.Form.{form, rule as rule-form};
-ghost use Rattle.interpreter.specs.InternalWalk.{childState, firstNode, Ready, ReadyFirst, ReadyRule, Gives};
+ghost use Prim.Native.Nat.{_+_};
+ghost use Rattle.table.specs.Form.{form, standsFor, rule as rule-form};
+ghost use Rattle.capture_list.specs.InternalList.{Room};
+ghost use Rattle.interpreter.specs.InternalWalk.{childState, firstNode, weight, Ready, ReadyFirst, ReadyRule};
+ghost use Rattle.interpreter.specs.InternalWalk.{Walked, putsBack, WalkedFirst};
 
 // The outcome of a node in a mode from a state.
 pub(crate) fn expression(
     nodes: &[u16],
     rules: &[u16],
     tokens: &[u32],
+    list: &mut [u32],
     mut mode: u16,
     mut node: u16,
+    counts: &mut [usize; 2],
     mut s: State,
 ) -> Outcome
     requires { ⌜ Ready (now nodes) (now rules) (now tokens) node s ⌝ }
+    requires { ⌜ Room (weight (now nodes) (now rules) (now tokens) node s) (now counts) (now list) ⌝ }
     ensures { λ x. ⌜
-        Gives (now (nodes .entry)) (now (rules .entry)) (now (tokens .entry)) mode
-        (form (now (nodes .entry)) node) s x
+        Walked (now (nodes .entry)) (now (rules .entry)) (now (tokens .entry)) mode
+        (form (now (nodes .entry)) node) s (now (counts .entry)) (now (list .entry)) x
+        (now (counts .exit)) (now (list .exit))
         ⌝ }
 {
     loop {
@@ -41,7 +54,7 @@ pub(crate) fn expression(
             }
             kinds::RULE => {
                 let again = anew(s);
-                return rule(nodes, rules, tokens, mode, a, again);
+                return rule(nodes, rules, tokens, list, mode, a, counts, again);
             }
             kinds::POSITION => {
                 mode = r;
@@ -49,7 +62,7 @@ pub(crate) fn expression(
             }
             _ => {
                 let c = first_node(kind, node, a);
-                let x = first(nodes, rules, tokens, mode, c, kind, r, s);
+                let x = first(nodes, rules, tokens, list, mode, c, counts, kind, r, s);
                 match x {
                     Outcome::Failure => {
                         match kind {
@@ -109,21 +122,27 @@ fn first_node(kind: u16, node: u16, a: u16) -> u16
 }
 
 // The outcome of the node that is walked first in a node of a kind: a terminal needs no nested call, and is read in this
-// place only, so that its functions are compiled into the walk.
+// place only, so that its functions are compiled into the walk. The count of captures is put back where it is to be.
 fn first(
     nodes: &[u16],
     rules: &[u16],
     tokens: &[u32],
+    list: &mut [u32],
     mode: u16,
     node: u16,
+    counts: &mut [usize; 2],
     kind: u16,
     r: u16,
     s: State,
 ) -> Outcome
     requires { ⌜ ReadyFirst (now nodes) (now rules) (now tokens) node kind r s ⌝ }
+    requires { ⌜
+        Room (weight (now nodes) (now rules) (now tokens) node (childState kind r s)) (now counts) (now list)
+        ⌝ }
     ensures { λ x. ⌜
-        Gives (now (nodes .entry)) (now (rules .entry)) (now (tokens .entry)) mode
-        (form (now (nodes .entry)) node) (childState kind r s) x
+        WalkedFirst kind (now (nodes .entry)) (now (rules .entry)) (now (tokens .entry)) mode
+        (form (now (nodes .entry)) node) (childState kind r s) (now (counts .entry)) (now (list .entry)) x
+        (now (counts .exit)) (now (list .exit))
         ⌝ }
 {
     let at = (node as usize) * 4;
@@ -132,16 +151,68 @@ fn first(
         return token(tokens, nodes[at + 1], mode, here);
     }
     let inside = anew(here);
-    let x = expression(nodes, rules, tokens, mode, node, inside);
-    fresh(x)
+    let count = counts[1];
+    let y = expression(nodes, rules, tokens, list, mode, node, counts, inside);
+    let x = fresh(y);
+    if puts_back(kind, x) {
+        let around = counts[0];
+        *counts = [around, count];
+        return x;
+    }
+    x
 }
 
-// The outcome of a rule: that of its node.
-fn rule(nodes: &[u16], rules: &[u16], tokens: &[u32], mode: u16, x: u16, s: State) -> Outcome
+// Whether the captures of what is walked first are put back: where it failed, and in a not.
+fn puts_back(kind: u16, x: Outcome) -> bool
+    ensures { λ b. ⌜ b ≡ putsBack kind x ⌝ }
+{
+    match x {
+        Outcome::Failure => true,
+        Outcome::Success(_) => kind == kinds::NOT,
+    }
+}
+
+// The outcome of a rule: that of its node. Its place in the list comes before those inside it.
+fn rule(
+    nodes: &[u16],
+    rules: &[u16],
+    tokens: &[u32],
+    list: &mut [u32],
+    mode: u16,
+    x: u16,
+    counts: &mut [usize; 2],
+    s: State,
+) -> Outcome
     requires { ⌜ ReadyRule (now nodes) (now rules) (now tokens) x s ⌝ }
-    ensures { λ o. ⌜ Gives (now (nodes .entry)) (now (rules .entry)) (now (tokens .entry)) mode (rule-form x) s o ⌝ }
+    requires { ⌜
+        Room (weight (now nodes) (now rules) (now tokens) (standsFor (now rules) x) s + 1) (now counts) (now list)
+        ⌝ }
+    ensures { λ o. ⌜
+        Walked (now (nodes .entry)) (now (rules .entry)) (now (tokens .entry)) mode (rule-form x) s
+        (now (counts .entry)) (now (list .entry)) o (now (counts .exit)) (now (list .exit))
+        ⌝ }
 {
     let i = x as usize;
     let node = rules[i];
-    expression(nodes, rules, tokens, mode, node, s)
+    let first = s.place;
+    let around = counts[0];
+    let n = counts[1];
+    let m = more(n);
+    *counts = [around + 1, m];
+    let o = expression(nodes, rules, tokens, list, mode, node, counts, s);
+    let count = counts[1];
+    *counts = [around, count];
+    match o {
+        Outcome::Failure => Outcome::Failure,
+        Outcome::Success(u) => {
+            let c = Capture {
+                rule: x as u32,
+                first,
+                after: u.place,
+                around: around as u32,
+            };
+            put(list, n, c);
+            Outcome::Success(u)
+        }
+    }
 }
