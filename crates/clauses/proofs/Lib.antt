@@ -1,4 +1,3 @@
-pub mod GiveLaws
 pub mod Sound
 pub mod CasesHold
 pub mod HandbookHold

@@ -1,4 +1,5 @@
 pub mod OneOutcome
+pub mod GiveLaws
 pub mod Narrows
 pub mod ShownFacts
 pub mod Likeness
