@@ -7,5 +7,6 @@ pub mod Existence
 pub mod LimitLaws
 pub mod Agreement
 pub mod Nested
+pub mod CapturesInside
 pub mod OffsetsUnread
 pub mod StepLaws
