@@ -22,10 +22,10 @@ use Rattle.clauses.specs.Clauses.{Tokens, State, Outcome, success, failure, Run
 use Rattle.clauses.specs.Clauses.{sequence, choice-first, choice-second, not, repeat-ends, repeat-again, indent, position, align}
 use Rattle.clauses.specs.Limits.{tokensOf, WithinLimits}
 use Rattle.clauses.specs.Trace.{Trace, trace, Gives, listed}
-use Rattle.clauses.specs.ListAnswer.{ourCaptures}
+use Rattle.clauses.specs.ListAnswer.{ourCaptures, Listing, listAnswer}
 use Rattle.theorems.proofs.Narrows.{onward, within}
 use Rattle.theorems.proofs.LimitLaws.{begins}
-use Rattle.theorems.proofs.Agreement.{run-given}
+use Rattle.theorems.proofs.Agreement.{run-given, listing-within}
 
 -- A capture of one of so many rules, with its tokens from place w to place w', in order.
 pub record Between (count w w' : ℕ) (c : Capture) : Type 0 where
@@ -155,3 +155,12 @@ pub our-captures-inside :
 our-captures-inside nodes rules words start limits well =
     let b = begins nodes words start (limits .start-right) in
     listed-inside nodes rules (limits .table) ends (tokensOf words) (start .node) _ _ (run-given nodes rules words start limits well) (b .node) (b .place)
+
+-- So wherever a run that lists answers a listing.
+pub listing-inside :
+    (nodes rules words : List ℕ) (start : Start) (lent : ℕ) (x : Listing)
+    → listAnswer nodes rules words start lent ≡ given x
+    → All (Between (length rules) (start .place) (tokensOf words .count)) (ourCaptures nodes rules words start)
+listing-inside nodes rules words start lent x e =
+    let h = listing-within nodes rules words start lent x e in
+    our-captures-inside nodes rules words start (h .0) (h .1)
