@@ -164,6 +164,6 @@ refusedCases =
     ∷ lists (empty ∷ rule 0 ∷ []) (0 ∷ []) (256 at 0 ∷ []) (from 1 equal) (nines 3) (refused 11) (nines 3)
     ∷ lists (empty ∷ rule 0 ∷ []) (0 ∷ []) [] (record { node = 1; place = 0; interval = to 5 (At 4); flag = false; mode = equal })
     (nines 3) (refused 12) (nines 3)
-    -- With room they are refused too.
+    -- With room it is refused too.
     ∷ lists (empty ∷ rule 0 ∷ []) (0 ∷ []) [] (from 1 35) (nines 8) (refused 12) (nines 8)
     ∷ []
