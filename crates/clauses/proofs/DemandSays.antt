@@ -1,29 +1,33 @@
 -- What demand 3 says of bench case a: every outcome of the clauses over sets is a success at place 2 with the flag clear, whose
--- set has 0 and 1 and nothing else. A weaker statement of the demand would not give it.
+-- set has 0 and 1 and nothing else; and what it says of a grammar with one rule: every derivation over sets has exactly one
+-- capture, and a run that lists answers 1. A weaker statement of the demand would not give these.
 use Prim.Native.Nat.{ℕ, _≤_}
-use mathlib.Core.Path.{_≡_, refl, sym, subst, _∙_}
+use mathlib.Core.Path.{_≡_, refl, sym, ap, subst, _∙_}
 use mathlib.Core.Bool.{false}
 use mathlib.Core.List.{List, [], _∷_}
 use mathlib.Core.Logic.{_↔_}
+use lib.ListN.{length}
 use native.Mathlib.Omega.{arith}
 use Rattle.table.specs.Answer.{Answer, given}
 use Rattle.table.specs.Words.{eachWords}
 use Rattle.table.specs.Every.{every}
-use Rattle.table.specs.Form.{terminal, sequence, indent, align, form}
+use Rattle.table.specs.Form.{terminal, rule, sequence, indent, align, form}
 use Rattle.table.specs.Checks.{tableAnswer, fails3, fails4, fails5, rightWords}
-use Rattle.columns.specs.Relations.{greater, atLeast}
+use Rattle.columns.specs.Relations.{equal, greater, atLeast}
 use Rattle.columns.specs.Sets.{ColumnSet, sets}
 use Rattle.columns.specs.Intervals.{to, ends}
 use Rattle.columns.specs.declared.Upper.the-variants.{At}
 use Rattle.columns.specs.declared.Interval.{Interval}
+use Rattle.columns.specs.declared.Capture.{Capture}
 use Rattle.well_formed.specs.Rounds.{gives, knownAfter, passes, wellAfter}
 use Rattle.well_formed.specs.Check.{mayNothing, isWell, verdictFrom, checkAnswer}
 use Rattle.clauses.specs.Clauses.{State, Outcome, success}
 use Rattle.clauses.specs.AlikeOutcomes.{AlikeOutcome, alike-success}
 use Rattle.clauses.specs.Limits.{fails11, fails12}
-use Rattle.clauses.specs.Evaluation.{evaluate, outcomeFor}
+use Rattle.clauses.specs.Evaluation.{evaluate, outcomeFor, traceFor}
 use Rattle.clauses.specs.RunAnswer.{SetRun, runAnswer}
-use Rattle.clauses.specs.ThirdDemand.{ThirdDemand}
+use Rattle.clauses.specs.ListAnswer.{setCaptures, ourCaptures, Listing, listAnswer}
+use Rattle.clauses.specs.ThirdDemand.{ThirdDemand, ListDemand}
 use Rattle.clauses.specs.Cases.{fourWords, tokenWords, _at_, from, a, b}
 
 pub nodes : List ℕ
@@ -55,3 +59,32 @@ module _ (d : ThirdDemand nodes [] words (from 4 atLeast)) where
 
   pub says-two : d .read end ours .0 ≡ 2
   says-two = let r = d .read end ours .1 in omega arith
+
+-- Rule 0 is a; from a node that is rule 0, on a.
+pub ruled : List ℕ
+ruled = eachWords fourWords (terminal a ∷ rule 0 ∷ [])
+
+pub one-token : List ℕ
+one-token = eachWords tokenWords (a at 0 ∷ [])
+
+abbrev pub one-rule : List ℕ
+one-rule = 0 ∷ []
+
+abbrev pub one-capture : List Capture
+one-capture = record { rule = 0; first = 0; after = 1; around = 0 } ∷ []
+
+computed : ourCaptures ruled one-rule one-token (from 1 equal) ≡ one-capture
+unfolding ruled one-token eachWords form evaluate outcomeFor traceFor
+computed = refl
+
+pub says-captures :
+    ThirdDemand ruled one-rule one-token (from 1 equal)
+    → (o : Outcome ColumnSet) (d : SetRun ruled one-rule one-token (from 1 equal) o)
+    → setCaptures ruled one-rule one-token (from 1 equal) o d ≡ one-capture
+says-captures h o d = h .captures o d ∙ computed
+
+-- With room for it.
+pub says-count :
+    (h : ListDemand ruled one-rule one-token (from 1 equal) 4)
+    → listAnswer ruled one-rule one-token (from 1 equal) 4 ≡ given (record { outcome = h .demand .ours; count = 1 })
+says-count h = h .listed ∙ ap (λ (l : List Capture). given (record { outcome = h .demand .ours; count = length l })) computed

@@ -1,5 +1,5 @@
-pub mod GiveLaws
 pub mod Sound
 pub mod CasesHold
+pub mod CaptureCasesHold
 pub mod HandbookHold
 pub mod DemandSays

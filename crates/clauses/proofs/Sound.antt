@@ -1,7 +1,7 @@
 -- What is computed is derived: an outcome that the evaluation ends in is one that the clauses over two ends give, and its
 -- trace is the derivation's.
 use Prim.Native.Nat.{ℕ, zero, suc, _+_}
-use mathlib.Core.Path.{_≡_, refl, sym, subst₂, _∙_}
+use mathlib.Core.Path.{_≡_, refl, sym, subst, subst₂, _∙_}
 use mathlib.Core.Bool.{Bool, true, false, cond, _&&_, true≢false}
 use mathlib.Core.List.{List}
 use lib.Dec.{ltb, eqb}
@@ -13,10 +13,10 @@ use Rattle.table.proofs.Every.{and-left, and-right}
 use Rattle.columns.specs.Intervals.{ends, innerEnds, fits, afterToken}
 use Rattle.columns.proofs.EndLaws.{lies-true}
 use Rattle.columns.specs.declared.Interval.{Interval}
-use Rattle.clauses.specs.Clauses.{Tokens, Next, State, Outcome, success, failure, Fits, clear, aligned}
-use Rattle.clauses.specs.Trace.{Trace, silent, _then_, dropped, Gives}
+use Rattle.clauses.specs.Clauses as clauses
+use Rattle.clauses.specs.Clauses.{Tokens, Next, State, Outcome, success, failure, Fits, clear, aligned, Run}
+use Rattle.clauses.specs.Trace.{Trace, silent, _then_, captured, trace, Gives}
 use Rattle.clauses.specs.Evaluation.{Result, ended, unfinished, after, behind, ruled, reads, step, evaluate}
-use Rattle.clauses.proofs.GiveLaws as give
 
 never : {o : Outcome Interval} {t : Trace} → unfinished ≡ ended o t → ⊥
 never e = let z : _≡_ {A = ℕ} 0 1 = cc in omega arith
@@ -36,38 +36,59 @@ module _ (nodes rules : List ℕ) (tokens : Tokens) where
   unended : {τ : ℕ} {f : Form} {s : State Interval} → Derived τ f s unfinished
   unended = record { gives = λ o t e. absurd (never e) }
 
-  made :
-      {τ τ' : ℕ} {f g : Form} {s s' : State Interval} {r : Result}
-      → ((o : Outcome Interval) (t : Trace) → Given τ f s o t → Given τ' g s' o t)
+  -- The trace of a run over two ends.
+  abbrev shown : {τ : ℕ} {f : Form} {s : State Interval} {o : Outcome Interval} → Run ends nodes rules tokens τ f s o → Trace
+  shown d = trace ends nodes rules tokens d
+
+  derived : {τ : ℕ} {f : Form} {s : State Interval} {o : Outcome Interval} (d : Run ends nodes rules tokens τ f s o) → Derived τ f s (ended o (shown d))
+  derived d = is (record { run = d; shows = refl })
+
+  -- What holds of the trace of every run to an outcome holds of one that is given.
+  by-run :
+      {τ : ℕ} {f : Form} {s : State Interval} {o : Outcome Interval} {t : Trace} (P : Trace → Type 0)
+      → Given τ f s o t
+      → ((d : Run ends nodes rules tokens τ f s o) → P (shown d))
+      → P t
+  by-run P g k = subst P (g .shows) (k (g .run))
+
+  -- What is made of one run: the same outcome and trace, a rule's, and what comes behind a trace.
+  whole :
+      {τ τ' : ℕ} {f g : Form} {s s' : State Interval} (r : Result)
       → Derived τ f s r
+      → ((o : Outcome Interval) (d : Run ends nodes rules tokens τ f s o) → Derived τ' g s' (ended o (shown d)))
       → Derived τ' g s' r
-  made k d = record { gives = λ o t e. k o t (d .gives o t e) }
+  whole {τ' = τ'} {g = g} {s' = s'} (ended o t) d k = by-run (λ (u : Trace). Derived τ' g s' (ended o u)) (d .gives o t refl) (k o)
+  whole unfinished d k = unended
 
   ruled-derived :
-      {τ : ℕ} {s : State Interval} (x : ℕ) (r : Result)
-      → Derived τ (table.form nodes (table.standsFor rules x)) s r
-      → Derived τ (table.rule x) s (ruled x (s .0) r)
-  ruled-derived x (ended o t) d = is (give.rule (d .gives o t refl))
-  ruled-derived x unfinished d = unended
+      {τ τ' x : ℕ} {f g : Form} {s s' : State Interval} {w : ℕ} (r : Result)
+      → Derived τ f s r
+      → ((o : Outcome Interval) (d : Run ends nodes rules tokens τ f s o) → Derived τ' g s' (ended o (captured x w o (shown d))))
+      → Derived τ' g s' (ruled x w r)
+  ruled-derived {τ' = τ'} {x = x} {g = g} {s' = s'} {w = w} (ended o t) d k =
+      by-run (λ (u : Trace). Derived τ' g s' (ended o (captured x w o u))) (d .gives o t refl) (k o)
+  ruled-derived unfinished d k = unended
 
   behind-derived :
       {τ τ' : ℕ} {f g : Form} {s s' : State Interval} (t : Trace) (r : Result)
-      → ((o : Outcome Interval) (u : Trace) → Given τ f s o u → Given τ' g s' o (t then u))
       → Derived τ f s r
+      → ((o : Outcome Interval) (d : Run ends nodes rules tokens τ f s o) → Derived τ' g s' (ended o (t then shown d)))
       → Derived τ' g s' (behind t r)
-  behind-derived t (ended o u) k d = is (k o u (d .gives o u refl))
-  behind-derived t unfinished k d = unended
+  behind-derived {τ' = τ'} {g = g} {s' = s'} t (ended o u) d k = by-run (λ (v : Trace). Derived τ' g s' (ended o (t then v))) (d .gives o u refl) (k o)
+  behind-derived t unfinished d k = unended
 
   -- After a first run.
   after-derived :
       {τ τ' : ℕ} {f g : Form} {s s' : State Interval} (r : Result) (next : State Interval → Trace → Result)
       (otherwise : Trace → Result)
       → Derived τ f s r
-      → ((u : State Interval) (t : Trace) → Given τ f s (success u) t → Derived τ' g s' (next u t))
-      → ((t : Trace) → Given τ f s failure t → Derived τ' g s' (otherwise t))
+      → ((u : State Interval) (d : Run ends nodes rules tokens τ f s (success u)) → Derived τ' g s' (next u (shown d)))
+      → ((d : Run ends nodes rules tokens τ f s failure) → Derived τ' g s' (otherwise (shown d)))
       → Derived τ' g s' (after r next otherwise)
-  after-derived (ended (success u) t) next otherwise d k l = k u t (d .gives (success u) t refl)
-  after-derived (ended failure t) next otherwise d k l = l t (d .gives failure t refl)
+  after-derived {τ' = τ'} {g = g} {s' = s'} (ended (success u) t) next otherwise d k l =
+      by-run (λ (v : Trace). Derived τ' g s' (next u v)) (d .gives (success u) t refl) (k u)
+  after-derived {τ' = τ'} {g = g} {s' = s'} (ended failure t) next otherwise d k l =
+      by-run (λ (v : Trace). Derived τ' g s' (otherwise v)) (d .gives failure t refl) l
   after-derived unfinished next otherwise d k l = unended
 
   -- Clause 2.
@@ -84,8 +105,9 @@ module _ (nodes rules : List ℕ) (tokens : Tokens) where
       → Next tokens a i w
       → Fits ends τ i I b
       → Given τ (table.terminal a) (w, I, b) (success (w + 1, afterToken b τ I i, false)) silent
-  read n (clear m) = give.terminal-clear n m
-  read n (aligned m) = give.terminal-aligned n m
+  unfolding trace
+  read n (clear m) = record { run = clauses.terminal-clear n m; shows = refl }
+  read n (aligned m) = record { run = clauses.terminal-aligned n m; shows = refl }
 
   pub terminal-read : (τ a w : ℕ) (I : Interval) (b : Bool) → reads tokens τ a (w, I, b) ≡ true
       → Given τ (table.terminal a) (w, I, b) (success (w + 1, afterToken b τ I (tokens .column w), false)) silent
@@ -102,7 +124,8 @@ module _ (nodes rules : List ℕ) (tokens : Tokens) where
       }) (fitting b I (and-right (x && y) z e))
 
   pub terminal-unread : (τ a w : ℕ) (I : Interval) (b : Bool) → reads tokens τ a (w, I, b) ≡ false → Given τ (table.terminal a) (w, I, b) failure silent
-  terminal-unread τ a w I b e = give.terminal-fails not-read
+  unfolding trace
+  terminal-unread τ a w I b e = record { run = clauses.terminal-fails not-read; shows = refl }
     where
       not-read : (i : ℕ) → Next tokens a i w → Fits ends τ i I b → ⊥
       not-read i n m =
@@ -116,19 +139,20 @@ module _ (nodes rules : List ℕ) (tokens : Tokens) where
 
   module _ (run : ℕ → Form → State Interval → Result) (h : (τ : ℕ) (f : Form) (s : State Interval) → Derived τ f s (run τ f s)) where
     step-derived : (τ : ℕ) (f : Form) (s : State Interval) → Derived τ f s (step nodes rules tokens run τ f s)
-    step-derived τ table.empty s = is give.empty
+    unfolding trace
+    step-derived τ table.empty s = derived clauses.empty
     step-derived τ (table.terminal a) (w, I, b) = terminal-derived τ a w I b (reads tokens τ a (w, I, b)) refl
-    step-derived τ (table.rule x) s = ruled-derived x _ (h τ _ s)
+    step-derived τ (table.rule x) s = ruled-derived _ (h τ _ s) (λ o d. derived (clauses.rule d))
     step-derived τ (table.sequence p q) s =
-        after-derived _ _ _ (h τ _ _) (λ s' t d. behind-derived t _ (λ o u e. give.sequence d e) (h τ _ _)) (λ t d. is (give.sequence-fails d))
+        after-derived _ _ _ (h τ _ _) (λ s' d. behind-derived _ _ (h τ _ _) (λ o e. derived (clauses.sequence d e))) (λ d. derived (clauses.sequence-fails d))
     step-derived τ (table.choice p q) s =
-        after-derived _ _ _ (h τ _ _) (λ s' t d. is (give.choice-first d)) (λ t d. behind-derived (dropped t) _ (λ o u e. give.choice-second d e) (h τ _ _))
-    step-derived τ (table.not p) s = after-derived _ _ _ (h τ _ _) (λ s' t d. is (give.not-fails d)) (λ t d. is (give.not d))
+        after-derived _ _ _ (h τ _ _) (λ s' d. derived (clauses.choice-first d)) (λ d. behind-derived _ _ (h τ _ _) (λ o e. derived (clauses.choice-second d e)))
+    step-derived τ (table.not p) s = after-derived _ _ _ (h τ _ _) (λ s' d. derived (clauses.not-fails d)) (λ d. derived (clauses.not d))
     step-derived τ (table.repeat p) s =
-        after-derived _ _ _ (h τ _ _) (λ s' t d. behind-derived t _ (λ o u e. give.repeat-again d e) (h τ _ _)) (λ t d. is (give.repeat-ends d))
-    step-derived τ (table.indent p ρ) (w, I, b) = after-derived _ _ _ (h τ _ _) (λ s' t d. is (give.indent d)) (λ t d. is (give.indent-fails d))
-    step-derived τ (table.position p σ) s = made (λ o t d. give.position d) (h σ _ _)
-    step-derived τ (table.align p) (w, I, b) = after-derived _ _ _ (h τ _ _) (λ s' t d. is (give.align d)) (λ t d. is (give.align-fails d))
+        after-derived _ _ _ (h τ _ _) (λ s' d. behind-derived _ _ (h τ _ _) (λ o e. derived (clauses.repeat-again d e))) (λ d. derived (clauses.repeat-ends d))
+    step-derived τ (table.indent p ρ) (w, I, b) = after-derived _ _ _ (h τ _ _) (λ s' d. derived (clauses.indent d)) (λ d. derived (clauses.indent-fails d))
+    step-derived τ (table.position p σ) s = whole _ (h σ _ _) (λ o d. derived (clauses.position d))
+    step-derived τ (table.align p) (w, I, b) = after-derived _ _ _ (h τ _ _) (λ s' d. derived (clauses.align d)) (λ d. derived (clauses.align-fails d))
     step-derived τ table.other s = unended
 
   evaluate-derived : (depth τ : ℕ) (f : Form) (s : State Interval) → Derived τ f s (evaluate nodes rules tokens depth τ f s)

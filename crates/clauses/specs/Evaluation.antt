@@ -1,6 +1,6 @@
--- The outcome and the trace as a function: the ten clauses over two ends, computed. A bound on the depth of calls makes it end on every
--- grammar; for well-formed ones the bound is never met, and the outcome is the one that the clauses give (`Existence`, in
--- proofs).
+-- The outcome and the trace as a function: the ten clauses over two ends, computed. A bound on the depth of calls makes it
+-- end on every grammar; for well-formed ones the bound is never met, and outcome and trace are those that the clauses give
+-- (`Existence`, in proofs).
 use Prim.Native.Nat.{ℕ, zero, suc, _+_, _*_}
 use mathlib.Core.Bool.{Bool, true, false, cond, _&&_}
 use mathlib.Core.List.{List}

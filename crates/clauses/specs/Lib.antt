@@ -7,4 +7,5 @@ pub mod RunAnswer
 pub mod ListAnswer
 pub mod ThirdDemand
 pub mod Cases
+pub mod CaptureCases
 pub mod HandbookCases

@@ -17,10 +17,16 @@ use Rattle.clauses.specs.Limits.{tokensOf}
 use Rattle.clauses.specs.RunAnswer.{SetRun, EndsRun, ourOutcome, ourTrace, runAnswer}
 
 -- "the one that the clauses' own derivation gives": the captures of a derivation over two ends, and of one over sets.
-abbrev pub endsCaptures : (nodes rules words : List ℕ) (start : Start) (o : Outcome Interval) → EndsRun nodes rules words start o → List Capture
+abbrev pub endsCaptures :
+    (nodes rules words : List ℕ) (start : Start) (o : Outcome Interval)
+    → EndsRun nodes rules words start o
+    → List Capture
 endsCaptures nodes rules words start o d = listed o (trace ends nodes rules (tokensOf words) d)
 
-abbrev pub setCaptures : (nodes rules words : List ℕ) (start : Start) (o : Outcome ColumnSet) → SetRun nodes rules words start o → List Capture
+abbrev pub setCaptures :
+    (nodes rules words : List ℕ) (start : Start) (o : Outcome ColumnSet)
+    → SetRun nodes rules words start o
+    → List Capture
 setCaptures nodes rules words start o d = listed o (trace sets nodes rules (tokensOf words) d)
 
 -- The captures over two ends, computed.

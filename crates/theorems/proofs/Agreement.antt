@@ -21,7 +21,7 @@ use Rattle.clauses.specs.Limits.{tokensOf, fails11, fails12, WithinLimits}
 use Rattle.clauses.specs.AlikeOutcomes.{AlikeOutcome, alike-success, alike-failure}
 use Rattle.clauses.specs.Trace.{Trace, Gives, trace, listed}
 use Rattle.clauses.specs.RunAnswer.{SetRun, EndsRun, ourOutcome, ourTrace, runAnswer, Reads}
-use Rattle.clauses.specs.ListAnswer.{endsCaptures, setCaptures, ourCaptures, fails13, listAnswer}
+use Rattle.clauses.specs.ListAnswer.{endsCaptures, setCaptures, ourCaptures, fails13, Listing, listAnswer}
 use Rattle.clauses.specs.ThirdDemand.{ThirdDemand, ListDemand}
 use Rattle.theorems.proofs.OneOutcome.{one-outcome, one-run}
 use Rattle.theorems.proofs.Narrows.{onward}
@@ -123,3 +123,14 @@ module _ (nodes rules words : List ℕ) (start : Start) where
   pub answered-within : (ours : Outcome Interval) → runAnswer nodes rules words start ≡ given ours → WithinLimits nodes rules words start × Passes nodes rules
   unfolding runAnswer
   answered-within ours e = unrefused (checkAnswer nodes rules) (fails11 words) (fails12 nodes words start) (ourOutcome nodes rules words start) ours refl refl refl e
+
+  run-first : (r : Answer (Outcome Interval)) (next : Answer Listing) (x : Listing) → runAnswer nodes rules words start ≡ r → andThen r next ≡ given x
+      → WithinLimits nodes rules words start × Passes nodes rules
+  run-first (given ours) next x p e = answered-within ours p
+  run-first (refused k) next x p e = absurd (let z : _≡_ {A = ℕ} 0 1 = cc in omega arith)
+  run-first (refusedAt k n) next x p e = absurd (let z : _≡_ {A = ℕ} 0 1 = cc in omega arith)
+
+  -- Nor does a run that lists.
+  pub listing-within : (lent : ℕ) (x : Listing) → listAnswer nodes rules words start lent ≡ given x → WithinLimits nodes rules words start × Passes nodes rules
+  unfolding listAnswer
+  listing-within lent x e = run-first (runAnswer nodes rules words start) _ x refl e

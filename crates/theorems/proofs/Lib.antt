@@ -1,4 +1,5 @@
 pub mod OneOutcome
+pub mod GiveLaws
 pub mod Narrows
 pub mod ShownFacts
 pub mod Likeness
@@ -6,5 +7,6 @@ pub mod Existence
 pub mod LimitLaws
 pub mod Agreement
 pub mod Nested
+pub mod CapturesInside
 pub mod OffsetsUnread
 pub mod StepLaws

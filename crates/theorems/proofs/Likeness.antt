@@ -15,7 +15,7 @@ use Rattle.clauses.specs.Clauses.{terminal-clear, terminal-aligned, terminal-fa
 use Rattle.clauses.specs.Clauses.{choice-first, choice-second, not, not-fails, repeat-ends, repeat-again, indent}
 use Rattle.clauses.specs.Clauses.{indent-fails, position, align, align-fails}
 use Rattle.clauses.specs.Trace.{Trace, captured, trace, Gives}
-use Rattle.clauses.proofs.GiveLaws as give
+use Rattle.theorems.proofs.GiveLaws as give
 use Rattle.clauses.specs.AlikeOutcomes.{AlikeOutcome, alike-success, alike-failure}
 use Rattle.theorems.proofs.Narrows.{narrows}
 

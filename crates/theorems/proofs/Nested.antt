@@ -1,5 +1,5 @@
 -- The captures of a success in their order (02, Note 2): an outer one before those inside it, otherwise in the order read, each
--- between the ends of the one around it, with the right number around it; and of rules that are there.
+-- between the ends of the one around it, with the right number around it. That their rules are there has `CapturesInside`.
 use Prim.Native.Nat.{ℕ, _+_, _≤_, _<_}
 use mathlib.Core.Path.{sym, subst}
 use mathlib.Core.List.{List, [], _∷_, _++_, append-assoc, append-nil}

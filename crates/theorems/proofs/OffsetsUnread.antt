@@ -1,11 +1,11 @@
--- A run looks at a token's terminal and column, and not at its offset and length.
+-- A run looks at a token's terminal and column, and not at its offset and length; nor does a run that lists its captures.
 use Prim.Native.Nat.{ℕ, _+_, _*_, _/_, _%_}
 use mathlib.Core.Path.{_≡_, refl, sym, ap, ap₂, fun-ext, _∙_}
 use mathlib.Core.Bool.{Bool, not, _&&_, _||_}
 use mathlib.Core.List.{List}
 use lib.ListN.{length, getD}
 use lib.Dec.{leb, ltb, eqb}
-use Rattle.table.specs.Answer.{Answer, given, refuseIf, andThen}
+use Rattle.table.specs.Answer.{Answer, given, refuseIf, andThen, afterwards}
 use Rattle.table.specs.Every.{every}
 use Rattle.table.specs.Limits.{lastTerminal, mostTokens, mostColumn}
 use Rattle.table.specs.Form.{nodeCount}
@@ -13,11 +13,14 @@ use Rattle.table.specs.Checks.{isRelation}
 use Rattle.columns.specs.Intervals.{isUpTo}
 use Rattle.columns.specs.declared.Interval.{Interval}
 use Rattle.columns.specs.declared.Start.{Start}
+use Rattle.columns.specs.declared.Capture.{Capture}
 use Rattle.well_formed.specs.Check.{checkAnswer}
-use Rattle.clauses.specs.Clauses.{Tokens, Outcome}
+use Rattle.clauses.specs.Clauses.{Tokens, State, Outcome}
 use Rattle.clauses.specs.Limits.{tokensOf, fails11, fails12, finiteOver}
-use Rattle.clauses.specs.Evaluation.{outcomeFor}
+use Rattle.clauses.specs.Trace.{listed}
+use Rattle.clauses.specs.Evaluation.{outcomeFor, traceFor}
 use Rattle.clauses.specs.RunAnswer.{runAnswer}
+use Rattle.clauses.specs.ListAnswer.{fails13, Listing, listAnswer, listWords, listAfter}
 
 abbrev made : ℕ → (ℕ → ℕ) → (ℕ → ℕ) → Tokens
 made n t c = record { count = n; terminal = t; column = c }
@@ -59,12 +62,48 @@ answered-by : (nodes rules words : List ℕ) (start : Start) → runAnswer nodes
 unfolding runAnswer fails11 fails12 answerBy
 answered-by nodes rules words start = refl
 
+-- What a run lists, by its tokens.
+abbrev capturesBy : List ℕ → List ℕ → Start → Tokens → List Capture
+capturesBy nodes rules start tokens =
+    let state : State Interval = (start .place, start .interval, start .flag) in
+    listed (outcomeFor nodes rules tokens (start .mode) (start .node) state) (traceFor nodes rules tokens (start .mode) (start .node) state)
+
+-- What a run that lists answers, by what the run answers and by its tokens.
+listBy : List ℕ → List ℕ → Start → ℕ → Answer (Outcome Interval) → Tokens → Answer Listing
+listBy nodes rules start lent answer tokens =
+    andThen answer
+    (refuseIf (ltb (lent / 4) (length (capturesBy nodes rules start tokens))) 13
+    (given
+    (record {
+      outcome = outcomeFor nodes rules tokens (start .mode) (start .node) (start .place, start .interval, start .flag);
+      count = length (capturesBy nodes rules start tokens);
+    })))
+
+listed-by :
+    (nodes rules words : List ℕ) (start : Start) (lent : ℕ)
+    → listAnswer nodes rules words start lent ≡ listBy nodes rules start lent (runAnswer nodes rules words start) (tokensOf words)
+unfolding listAnswer fails13 listBy
+listed-by nodes rules words start lent = refl
+
 -- "The interpreter uses only the first two words" of a token: offsets and lengths change nothing.
-pub offsets-unread :
-    (nodes rules words words' : List ℕ) (start : Start)
-    → length words ≡ length words'
-    → ((w : ℕ) → getD words (w * 4) 0 ≡ getD words' (w * 4) 0)
-    → ((w : ℕ) → getD words (w * 4 + 1) 0 ≡ getD words' (w * 4 + 1) 0)
-    → runAnswer nodes rules words start ≡ runAnswer nodes rules words' start
-offsets-unread nodes rules words words' start l t c =
-    answered-by nodes rules words start ∙ ap₂ (answerBy nodes rules start) l (same-tokens words words' l t c) ∙ sym (answered-by nodes rules words' start)
+module _ (nodes rules words words' : List ℕ) (start : Start) (l : length words ≡ length words')
+    (t : (w : ℕ) → getD words (w * 4) 0 ≡ getD words' (w * 4) 0)
+    (c : (w : ℕ) → getD words (w * 4 + 1) 0 ≡ getD words' (w * 4 + 1) 0) where
+  -- A run answers the same,
+  pub offsets-unread : runAnswer nodes rules words start ≡ runAnswer nodes rules words' start
+  offsets-unread =
+      answered-by nodes rules words start ∙ ap₂ (answerBy nodes rules start) l (same-tokens words words' l t c) ∙ sym (answered-by nodes rules words' start)
+
+  -- a run that lists does too,
+  pub offsets-unread-listing : (lent : ℕ) → listAnswer nodes rules words start lent ≡ listAnswer nodes rules words' start lent
+  offsets-unread-listing lent =
+      listed-by nodes rules words start lent
+      ∙ ap₂ (listBy nodes rules start lent) offsets-unread (same-tokens words words' l t c)
+      ∙ sym (listed-by nodes rules words' start lent)
+
+  -- and leaves the same words.
+  pub offsets-unread-words : (before : List ℕ) → listAfter nodes rules words start before ≡ listAfter nodes rules words' start before
+  unfolding listAfter
+  offsets-unread-words before =
+      ap₂ (λ (answer : Answer Listing) (captures : List Capture). afterwards answer (listWords captures (length before)) before)
+      (offsets-unread-listing (length before)) (ap (capturesBy nodes rules start) (same-tokens words words' l t c))
