@@ -1,6 +1,6 @@
 -- What a run answers and lists, over plain values: by the walk's outcome, or by the first number that applies.
 use Prim.Native.Nat.{ℕ, _+_, _-_, _*_, _/_, _≤_, _<_, _^_, min}
-use mathlib.Core.Path.{_≡_, refl, sym, ap, subst, _∙_}
+use mathlib.Core.Path.{_≡_, refl, sym, ap, ap₂, subst, _∙_}
 use mathlib.Core.Bool.{true, false, not as isFalse, _||_}
 use mathlib.Core.List.{List, [], _∷_, _++_, append-nil}
 use lib.ListN.{length, getD, drop, drop-of-length-le}
@@ -28,7 +28,7 @@ use Rattle.table.specs.Words.{eachWords}
 use Rattle.clauses.specs.Clauses as clauses
 use Rattle.clauses.specs.Trace.{Trace, trace, listed}
 use Rattle.clauses.specs.Limits.{tokensOf, finiteOver, fails11, fails12, WithinLimits}
-use Rattle.clauses.specs.RunAnswer.{EndsRun, ourOutcome, runAnswer, Reads}
+use Rattle.clauses.specs.RunAnswer.{EndsRun, ourOutcome, ourTrace, runAnswer, Reads}
 use Rattle.clauses.specs.ListAnswer.{endsCaptures, ourCaptures, fails13, Listing, listAnswer, captureWords, listWords, listAfter}
 use Rattle.theorems.proofs.Narrows.{onward}
 use Rattle.theorems.proofs.Agreement.{outcome-only, captures-only, outcome-answered}
@@ -242,21 +242,53 @@ module _ (nodes rules words : List ℕ) (start : Start) where
         unfolding listAnswer
         given-list = rw (← answered, passes, exact) refl
 
-        module _ {w : Whole} {l' : List ℕ} (d : WholeWalk nodes rules words start lent w l') where
-          slice : clearedFrom (n * 4) l' ≡ listWords (ourCaptures nodes rules words start) (length lent)
+        module _ {w : Whole} {l' l'' : List ℕ} (d : WholeWalk nodes rules words start lent w l') (z : l'' ≡ clearedFrom (n * 4) l') where
+          slice : l'' ≡ listWords (ourCaptures nodes rules words start) (length lent)
           slice =
-              rw exact
+              z
+              ∙ rw exact
               (list-is (ourCaptures nodes rules words start) (length lent) l' (d .long) fits (d .there fits))
 
-          after : clearedFrom (n * 4) l' ≡ listAfter nodes rules words start lent
+          after : l'' ≡ listAfter nodes rules words start lent
           unfolding listAfter
-          after = rw (← given-list) (slice ∙ sym (rw past append-nil))
+          after = rw (← given-list) (slice ∙ sym (rw past (append-nil (listWords (ourCaptures nodes rules words start) (length lent)))))
             where
               past : drop (length (listWords (ourCaptures nodes rules words start) (length lent))) lent ≡ []
               past = drop-of-length-le lent {i = length (listWords (ourCaptures nodes rules words start) (length lent))} (omega (arith, length-list (ourCaptures nodes rules words start) (length lent) fits))
 
-          stands : (o : clauses.Outcome Interval) → EndsRun nodes rules words start o → CapturesStand nodes rules words start o n (clearedFrom (n * 4) l')
+          stands : (o : clauses.Outcome Interval) → EndsRun nodes rules words start o → CapturesStand nodes rules words start o n l''
           stands o f =
               let c = captures-only nodes rules words start limits (checked .well) o f in
               let m = ap length slice ∙ length-list (ourCaptures nodes rules words start) (length lent) fits in
               record { run = f; counted = exact ∙ ap length (sym c); stands = rw (c, m) slice }
+
+          -- A failure lists none.
+          module _ (f : w .outcome ≡ Failure) where
+            none : n ≡ 0
+            none = exact ∙ ap (λ (o : clauses.Outcome Interval). length (listed o (ourTrace nodes rules words start))) (sym (settled clauses.failure (derived d Failure f)))
+
+            pub list-failure :
+                (given (record { outcome = clauses.failure; count = 0 }) ≡ listAnswer nodes rules words start (length lent))
+                × ((l'' ≡ listAfter nodes rules words start lent) × CapturesStand nodes rules words start clauses.failure 0 l'')
+            list-failure =
+                let g = derived d Failure f in
+                let x = stands clauses.failure g in (
+                  ap₂ (λ (o : clauses.Outcome Interval) (k : ℕ). given (record { outcome = o; count = k })) (settled clauses.failure g) (sym none) ∙ given-list,
+                  (after, record { run = x .run; counted = sym none ∙ x .counted; stands = x .stands }),
+                )
+
+          module _ (u : State) (f : w .outcome ≡ Success u) where
+            pub list-success :
+                (given (record { outcome = clauses.success (start .place + (u .place - start .place), u .interval, u .flag); count = n })
+                ≡ listAnswer nodes rules words start (length lent))
+                × ((l'' ≡ listAfter nodes rules words start lent)
+                × (CapturesStand nodes rules words start (clauses.success (u .place, u .interval, u .flag)) n l''
+                × Reads (start .place) (u .place - start .place) (u .place)))
+            list-success =
+                let g = derived d (Success u) f in
+                let r = read d u f in (
+                  ap (λ (v : ℕ). given (record { outcome = clauses.success (v, u .interval, u .flag); count = n })) r
+                      ∙ ap (λ (o : clauses.Outcome Interval). given (record { outcome = o; count = n })) (settled _ g)
+                      ∙ given-list,
+                  (after, (stands _ g, r)),
+                )

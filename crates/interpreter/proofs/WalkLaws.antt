@@ -27,7 +27,7 @@ use Rattle.well_formed.specs.InternalRank.{enters-align, rank}
 use Rattle.well_formed.proofs.RankLaws.{rank-falls, rank-some, rank-most, repeat-reads}
 use Rattle.clauses.specs.Trace as trace
 use Rattle.clauses.specs.Trace.{Trace, silent, _then_, dropped, captured}
-use Rattle.clauses.proofs.GiveLaws as give
+use Rattle.theorems.proofs.GiveLaws as give
 use Rattle.clauses.specs.Evaluation.{reads}
 use Rattle.clauses.specs.Limits.{tokensOf}
 use Rattle.clauses.proofs.Sound.{terminal-read, terminal-unread}

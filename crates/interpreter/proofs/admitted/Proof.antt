@@ -1,67 +1,47 @@
+-- `interpreter::admitted` meets its contract.
 use borrow.Author.Needs.{needs}
 use Rattle.interpreter.proofs.admitted.Statement.{statement}
 use Rattle.interpreter.proofs.admitted.Tie as tie
-use Rattle.interpreter.proofs.admitted.Reads as reads
-use Rattle.interpreter.proofs.admitted.Lts as lts
-use Rattle.run_limits.proofs.start_wrong.Reads as start-wrong-reads
-use Rattle.run_limits.proofs.tokens_wrong.Reads as tokens-wrong-reads
-use Rattle.well_formed.proofs.check.Reads as check-reads
+use mathlib.Core.Path.{sym, ap, _∙_}
+use Rattle.well_formed.specs.Check.{numbers as verdict-numbers}
+use Rattle.interpreter.proofs.RunLaws.{check-refuses, check-names, refused-11, refused-12}
 
--- src/lib.rt:92:11
-check-requires : tie.Need-check-requires
-check-requires c κs = search needs
-
--- src/lib.rt:93:26
-enum-known-number : tie.Need-enum-known-number
-enum-known-number c = search needs
-
--- src/lib.rt:94:13
 returns : tie.Need-returns
-returns c = ?
+returns c =
+    let number = c .before in
+    check-refuses _ _ _ _ (sym (ap verdict-numbers (number .number .given .1)) ∙ number .before .before .check .ensures .0)
 
--- src/lib.rt:96:28
-enum-known-node : tie.Need-enum-known-node
-enum-known-node c = search needs
-
--- src/lib.rt:97:13
 returns-2 : tie.Need-returns-2
-returns-2 c = ?
+returns-2 c =
+    let node = c .before in
+    check-names _ _ _ _ (sym (ap verdict-numbers (node .node .given .1)) ∙ node .before .before .check .ensures .0)
 
-enum-told : tie.Need-enum-told
-enum-told c = search needs
-
--- src/lib.rt:101:8
-tokens-wrong-requires : tie.Need-tokens-wrong-requires
-tokens-wrong-requires c κs = search needs
-
--- src/lib.rt:102:9
 returns-3 : tie.Need-returns-3
-returns-3 c = ?
+returns-3 c =
+    let told = c .before .before in
+    let passes = sym (told .before .before .check .ensures .0) ∙ ap verdict-numbers (told .enum-told .given .1) in
+    refused-11 _ _ _ _ passes (sym (c .before .tokens-wrong .ensures) ∙ c .if1 .taken)
 
--- src/lib.rt:104:8
-start-wrong-requires : tie.Need-start-wrong-requires
-start-wrong-requires c κs = search needs
-
--- src/lib.rt:105:9
 returns-4 : tie.Need-returns-4
-returns-4 c = ?
+returns-4 c =
+    let tokens = c .before .before in
+    let told = tokens .before .before in
+    let passes = sym (told .before .before .check .ensures .0) ∙ ap verdict-numbers (told .enum-told .given .1) in
+    refused-12 _ _ _ _ passes (sym (tokens .before .tokens-wrong .ensures) ∙ tokens .if1 .left)
+    (sym (c .before .start-wrong .ensures) ∙ c .if2 .taken)
 
--- src/lib.rt:89:1
 returns-5 : tie.Need-returns-5
-returns-5 c = ?
+returns-5 c =
+    let tokens = c .before .before in
+    let told = tokens .before .before in
+    record {
+      table = sym (told .before .before .check .ensures .0) ∙ ap verdict-numbers (told .enum-told .given .1);
+      tokens = sym (tokens .before .tokens-wrong .ensures) ∙ tokens .if1 .left;
+      start-right = sym (c .before .start-wrong .ensures) ∙ c .if2 .left;
+    }
 
 pub admitted-spec : {M : Type 1} → statement M
 admitted-spec =
     tie.close
-    (tie.spec
-    check-requires
-    enum-known-number
-    returns
-    enum-known-node
-    returns-2
-    enum-told
-    tokens-wrong-requires
-    returns-3
-    start-wrong-requires
-    returns-4
-    returns-5)
+    (tie.spec (λ c κs. tt) (λ c. search needs) returns (λ c. search needs) returns-2 (λ c. search needs) (λ c κs. tt)
+    returns-3 (λ c κs. tt) returns-4 returns-5)

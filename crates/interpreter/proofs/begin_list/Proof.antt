@@ -1,77 +1,54 @@
+-- `interpreter::begin_list` meets its contract.
 use borrow.Author.Needs.{needs}
 use Rattle.interpreter.proofs.begin_list.Statement.{statement}
 use Rattle.interpreter.proofs.begin_list.Tie as tie
-use Rattle.interpreter.proofs.begin_list.Reads as reads
-use Rattle.interpreter.proofs.begin_list.Lts as lts
-use Rattle.capture_list.proofs.clear.Reads as clear-reads
-use Rattle.interpreter.proofs.walk_from.Reads as walk-from-reads
+use native.Mathlib.Omega.{arith}
+use Rattle.interpreter.proofs.RunLaws.{list-13, list-failure, list-success, success-onward}
 
--- src/lib.rt:152:51
-slice-aggregate-walk-from : tie.Need-slice-aggregate-walk-from
-slice-aggregate-walk-from c = search needs
-
--- src/lib.rt:152:9
-walk-from-requires : tie.Need-walk-from-requires
-walk-from-requires c κs = search needs
-
--- src/lib.rt:155:9
 returns : tie.Need-returns
-returns c = ?
+returns c =
+    let counted = c .before .before in
+    let start = counted .before .before .before .before .before .before in
+    let x =
+    list-13 (start .args .nodes .now) (start .args .rules .now) (start .args .tokens .now) (start .args .start) (start .pre)
+    (start .args .captures .now) (start .good .1 .1 .1 .1 .0 .0) (counted .walk-from .ensures .count) (c .if1 .taken) in
+    (x .0, (x .1, tt))
 
--- src/lib.rt:157:9
-walk-from-requires-2 : tie.Need-walk-from-requires-2
-walk-from-requires-2 c κs = search needs
-
--- src/lib.rt:158:21
-mul-clear : tie.Need-mul-clear
-mul-clear c = search needs
-
--- src/lib.rt:158:5
-clear-requires : tie.Need-clear-requires
-clear-requires c κs = search needs
-
--- src/lib.rt:160:26
-enum-known-x : tie.Need-enum-known-x
-enum-known-x c = search needs
-
--- src/lib.rt:161:9
-enum-told : tie.Need-enum-told
-enum-told c = search needs
-
--- src/lib.rt:161:9
-same-length : tie.Need-same-length
-same-length c = search needs
-
--- src/lib.rt:161:9
 returns-2 : tie.Need-returns-2
-returns-2 c = ?
+returns-2 c =
+    let clear = c .before .before .before .before in
+    let walked = clear .before .before .before .before in
+    let counted = walked .before .before .before .before in
+    let start = counted .before .before .before .before .before .before in
+    list-failure (start .args .nodes .now) (start .args .rules .now) (start .args .tokens .now) (start .args .start) (start .pre)
+    (start .args .captures .now) (start .good .1 .1 .1 .1 .0 .0) (counted .walk-from .ensures .count) (walked .before .before .if1 .left)
+    (walked .walk-from2 .ensures) (clear .clear .ensures) (c .enum-told .given .1)
 
--- src/lib.rt:163:16
 sub-read : tie.Need-sub-read
-sub-read c = ?
+sub-read c =
+    let x = c .before .before .before in
+    let walked = x .before .before .before .before .before .before .before .before in
+    let start = walked .before .before .before .before .before .before .before .before .before .before in
+    omega (
+      arith,
+      success-onward (start .args .nodes .now) (start .args .rules .now) (start .args .tokens .now) (start .args .start) (start .pre)
+          (walked .walk-from2 .ensures) (x .x .given .0 .0) (x .x .given .1),
+    )
 
--- src/lib.rt:130:1
-same-length-2 : tie.Need-same-length-2
-same-length-2 c = search needs
-
--- src/lib.rt:130:1
 returns-3 : tie.Need-returns-3
-returns-3 c = ?
+returns-3 c =
+    let x = c .before .before .before in
+    let clear = x .before .before .before .before in
+    let walked = clear .before .before .before .before in
+    let counted = walked .before .before .before .before in
+    let start = counted .before .before .before .before .before .before in
+    list-success (start .args .nodes .now) (start .args .rules .now) (start .args .tokens .now) (start .args .start) (start .pre)
+    (start .args .captures .now) (start .good .1 .1 .1 .1 .0 .0) (counted .walk-from .ensures .count) (walked .before .before .if1 .left)
+    (walked .walk-from2 .ensures) (clear .clear .ensures) (x .x .given .0 .0) (x .x .given .1)
 
 pub begin-list-spec : {M : Type 1} → statement M
 begin-list-spec =
     tie.close
-    (tie.spec
-    slice-aggregate-walk-from
-    walk-from-requires
-    returns
-    walk-from-requires-2
-    mul-clear
-    clear-requires
-    enum-known-x
-    enum-told
-    same-length
-    returns-2
-    sub-read
-    same-length-2
+    (tie.spec (λ c. search needs) (λ c κs. search needs) returns (λ c κs. search needs) (λ c. search needs)
+    (λ c κs. tt) (λ c. search needs) (λ c. search needs) (λ c. search needs) returns-2 sub-read (λ c. search needs)
     returns-3)
