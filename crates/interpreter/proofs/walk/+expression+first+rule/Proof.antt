@@ -31,7 +31,7 @@ use borrow.Author.Needs.{needs}
 use native.Mathlib.Omega.{arith}
 use Rattle.table.specs.Form.{standsFor}
 use Rattle.interpreter.specs.InternalWalk.{childState, weight}
-use Rattle.capture_list.proofs.ListLaws.{room-rule}
+use Rattle.capture_list.proofs.ListLaws.{room-inside}
 use Rattle.interpreter.proofs.WalkLaws.{Walk, start, for-node, out-empty, rule-less, rule-ready, rule-room, out-rule}
 use Rattle.interpreter.proofs.WalkLaws.{position-less, position-again, call-less, call-ready, call-room, call-long}
 use Rattle.interpreter.proofs.WalkLaws.{choice-less, choice-again, out-not, out-repeat, out-failed, out-terminal}
@@ -456,7 +456,10 @@ module _ (t : ℕ) where
   rule-expression-requires c κs =
       let more = c .before .before .before in
       let start = start-of more in
-      (node-less (start .pre .1 .0) (start .pre .0), (start .pre .1 .0 .ready, room-rule _ (start .pre .1 .1) (more .more .ensures)))
+      let room = start .pre .1 .1 in (
+        node-less (start .pre .1 .0) (start .pre .0),
+        (start .pre .1 .0 .ready, room-inside _ room (omega arith) (omega (arith, more .more .ensures, room .count))),
+      )
 
   -- From behind the expression walk.
   abbrev more-of : In-rule rule-lts.After-expression → In-rule rule-lts.After-more
