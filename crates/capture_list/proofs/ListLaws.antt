@@ -200,15 +200,6 @@ module _ (l : List ℕ) (n : ℕ) (c : Capture) where
   noted-there h (suc (suc (suc zero))) b = getD-set-same three (n * 4 + 3) (c .around) 0 (simp length-set (omega arith))
   noted-there h (suc (suc (suc (suc i)))) b = absurd (omega arith)
 
-  pub room-two : n * 4 + 3 < length l → n * 4 + 1 < length one
-  room-two h = simp length-set (omega arith)
-
-  pub room-three : n * 4 + 3 < length l → n * 4 + 2 < length two
-  room-three h = simp length-set (omega arith)
-
-  pub room-four : n * 4 + 3 < length l → n * 4 + 3 < length three
-  room-four h = simp length-set (omega arith)
-
   -- What `capturePut` is where the place is there, and where not.
   pub put-there : n < length l / 4 → placed n c l ≡ capturePut n c l
   unfolding capturePut
