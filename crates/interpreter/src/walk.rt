@@ -197,8 +197,9 @@ fn rule(
     let first = s.place;
     let around = counts[0];
     let n = counts[1];
+    let inside = around + 1;
     let m = more(n);
-    *counts = [around + 1, m];
+    *counts = [inside, m];
     let o = expression(nodes, rules, tokens, list, mode, node, counts, s);
     let count = counts[1];
     *counts = [around, count];

@@ -449,8 +449,8 @@ module _ (t : ℕ) where
   abbrev start-of : In-rule rule-lts.After-more → In-rule rule-lts.Start
   start-of c = c .before .before .before .before .before .before .before .before
 
-  rule-add-count : In-rule rule-lts.Need-add-count
-  rule-add-count c = omega (arith, start-of c .pre .1 .1 .deep)
+  rule-add-inside : In-rule rule-lts.Need-add-inside
+  rule-add-inside c = omega (arith, c .before .before .before .before .before .before .before .pre .1 .1 .deep)
 
   rule-expression-requires : In-rule rule-lts.Need-expression-requires
   rule-expression-requires c κs =
@@ -465,8 +465,8 @@ module _ (t : ℕ) where
   abbrev more-of : In-rule rule-lts.After-expression → In-rule rule-lts.After-more
   more-of c = c .before .before .before .before
 
-  rule-cast-t33 : In-rule rule-lts.Need-cast-t33
-  rule-cast-t33 c =
+  rule-cast-t34 : In-rule rule-lts.Need-cast-t34
+  rule-cast-t34 c =
       let walked = c .before .before .before .before .before .before .before in
       omega (arith, start-of (more-of walked) .pre .1 .1 .deep)
 
@@ -511,6 +511,6 @@ pub +expression+first+rule-spec : {M : Type 1} → statement M
     (λ c. search needs) (λ c. search needs) (first-returns-2 t) (λ c. search needs) (first-returns-3 t))
     (λ t.
     rule-lts.spec (rule-claims t) (rule-at t) rule.Post (λ c. search needs) (rule-shared-slice-read-node t)
-    (λ c. search needs) (λ c. search needs) (λ c κs. search needs) (rule-add-count t) (rule-expression-requires t)
-    (λ c. search needs) (λ c. search needs) (λ c. search needs) (rule-cast-t33 t) (λ c κs. search needs)
+    (λ c. search needs) (λ c. search needs) (rule-add-inside t) (λ c κs. search needs) (rule-expression-requires t)
+    (λ c. search needs) (λ c. search needs) (λ c. search needs) (rule-cast-t34 t) (λ c κs. search needs)
     (λ c. search needs) (rule-returns t) (λ c. search needs) (rule-returns-2 t))
