@@ -5,7 +5,7 @@ use mathlib.Core.Bool.{Bool, true, false, not, _&&_, _||_}
 use mathlib.Core.List.{List}
 use native.Mathlib.Omega.{arith}
 use native.Mathlib.Nat.{le-trans}
-use borrow.Author.Tests.{not-true, not-false, lt-ltb, le-ltb, ltb-true, ltb-false, leb-true}
+use borrow.Author.Tests.{not-false, lt-ltb, le-ltb, ltb-true, ltb-false, leb-true}
 use lib.ListN.{length}
 use lib.Dec.{leb, ltb}
 use Rattle.table.specs.Every.{every}

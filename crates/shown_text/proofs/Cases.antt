@@ -1,11 +1,11 @@
 -- The cases of `ShownPart`: what `shown` answers check by check, and what `text` cuts out.
 use Prim.Native.Nat.{ℕ, _+_, _-_, _≤_, _<_}
-use mathlib.Core.Path.{_≡_, refl, sym, ap, ap₂, subst, _∙_}
-use mathlib.Core.Bool.{Bool, true, false, cond}
+use mathlib.Core.Path.{_≡_, sym, ap, ap₂, subst, _∙_}
+use mathlib.Core.Bool.{Bool, true, false}
 use mathlib.Core.List.{List, []}
 use native.Mathlib.Omega.{arith}
 use borrow.Author.Tests.{lt-ltb, le-ltb}
-use lib.ListN.{length, getD, take, drop}
+use lib.ListN.{length, take, drop}
 use Rattle.table.specs.Answer.{Answer, given, refused, refuseIf}
 use Rattle.table.proofs.AnswerLaws.{first-refuses, first-passes}
 use Rattle.file_fields.specs.Offsets.{valueAt, offsetOf}
@@ -20,7 +20,7 @@ use Rattle.columns.specs.declared.Capture.{Capture}
 use Rattle.clauses.specs.Limits.{fails11}
 use Rattle.shown_text.specs.declared.ShownPart.{ShownPart}
 use Rattle.shown_text.specs.declared.ShownPart.the-variants.{InReport, InFile, Refused}
-use Rattle.shown_text.specs.Shown.{Part, inReport, inFile, tokenOffset, tokenEnd, lastToken, nameOffset}
+use Rattle.shown_text.specs.Shown.{inFile, tokenOffset, tokenEnd, lastToken}
 use Rattle.shown_text.specs.Shown.{fails14, partShown, shownAnswer, shownBytes, numbers}
 use Rattle.shown_text.proofs.CaptureLaws.{Right, right-capture, begins-before}
 use Rattle.shown_text.proofs.NamePlaces.{readable, name-from, length-from}

@@ -1,8 +1,8 @@
 -- Where the names of rules stand in a file that passes 1 to 5.
-use Prim.Native.Nat.{ℕ, zero, suc, _+_, _-_, _≤_, _<_}
-use mathlib.Core.Path.{_≡_, refl, sym, ap, ap₂, subst, _∙_}
+use Prim.Native.Nat.{ℕ, suc, _+_, _-_, _≤_, _<_}
+use mathlib.Core.Path.{_≡_, refl, sym, ap, ap₂, _∙_}
 use mathlib.Core.Bool.{Bool, true, false, not, _||_, true≢false}
-use mathlib.Core.List.{List, [], _∷_, _++_, map, append-assoc}
+use mathlib.Core.List.{List, [], _∷_, _++_, append-assoc}
 use mathlib.Core.Option.{Option, some, none, Option·getD}
 use mathlib.Core.Logic.{⊎-elim}
 use native.Mathlib.Nat.{le-trans, le-of-eq}
@@ -11,7 +11,7 @@ use borrow.Author.Tests.{not-false, leb-true}
 use lib.ListN.{length, getD, take, drop, length-append, length-map, length-drop, drop-of-length-le, take-append-drop, List·getD-map}
 use lib.Seq.{split-at, take-append-seam, drop-append-le, drop-drop, length-take-le}
 use lib.Dec.{ltb}
-use Rattle.table.specs.Answer.{Answer, given, refused, refuseIf}
+use Rattle.table.specs.Answer.{Answer, given, refuseIf}
 use Rattle.table.proofs.Every.{both-false}
 use Rattle.table.proofs.Orders.{le-or-lt}
 use Rattle.file_fields.specs.Fields.{Field, fields, inOrder, tagged, rightLength}

@@ -3,13 +3,12 @@ use Prim.Native.Nat.{ℕ, _+_, _-_, _≤_, _<_}
 use mathlib.Core.Path.{_≡_, refl, sym, ap, subst, _∙_}
 use mathlib.Core.Bool.{Bool, true, false, cond}
 use mathlib.Core.List.{List, []}
-use mathlib.Core.Logic.{_⊎_, inl, inr, ⊎-elim}
+use mathlib.Core.Logic.{⊎-elim}
 use native.Mathlib.Omega.{arith}
 use borrow.Author.Tests.{lt-ltb, le-ltb}
 use lib.ListN.{length, getD, take, drop}
 use Rattle.table.specs.Answer.{Answer, given, refused, refusedAt, refuseIf, andThen}
 use Rattle.table.proofs.Orders.{le-or-lt}
-use Rattle.file_fields.specs.Fields.{Field}
 use Rattle.grammar_file.specs.File.{Contents, fieldsOf, ruleList, ruleNames, partOf, fileAnswer, nameBytes}
 use Rattle.report_checks.specs.Report.{fails8}
 use Rattle.report_checks.specs.FirstChecks.{firstAnswer}

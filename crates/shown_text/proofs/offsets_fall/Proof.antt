@@ -1,9 +1,9 @@
 -- `shown_text::offsets_fall` meets its contract. The loop's invariant: no offset of the first `i` pairs falls.
 use Rattle.shown_text.proofs.offsets_fall.Statement.{statement}
 use Rattle.shown_text.proofs.offsets_fall.Tie as tie
-use Prim.Native.Nat.{ℕ, _+_, _-_, _≤_, _<_}
-use mathlib.Core.Path.{_≡_, refl, sym, ap, ap₂, subst, _∙_}
-use mathlib.Core.Bool.{Bool, true, false, not}
+use Prim.Native.Nat.{_-_, _≤_}
+use mathlib.Core.Path.{_≡_, refl, sym, ap, ap₂, _∙_}
+use mathlib.Core.Bool.{true, not}
 use native.Mathlib.Omega.{arith}
 use borrow.Author.Tests.{le-leb, lt-leb}
 use lib.Dec.{leb}
