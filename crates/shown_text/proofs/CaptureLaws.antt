@@ -11,7 +11,7 @@ use lib.Dec.{leb, ltb}
 use Rattle.table.specs.Every.{every}
 use Rattle.table.proofs.Every.{and-left, and-right, both-false}
 use Rattle.columns.specs.declared.Capture.{Capture}
-use Rattle.shown_text.specs.Shown.{tokenOffset, tokenEnd, lastToken, readsTokens, offsetsRise, fails14}
+use Rattle.shown_text.specs.Shown.{tokenOffset, tokenEnd, lastToken, readsTokens, offsetsFall, fails14}
 
 module _ (rules bytes : ℕ) (words : List ℕ) (c : Capture) where
   pub no-rule : rules ≤ c .rule → true ≡ fails14 rules bytes words c
@@ -28,7 +28,7 @@ module _ (rules bytes : ℕ) (words : List ℕ) (c : Capture) where
       unfolding fails14
       turned h = rw (lt-ltb (c .rule) rules there, le-ltb (length words / 4) (c .after) reached, lt-ltb (c .after) (c .first) h) refl
 
-      module _ (order : c .first ≤ c .after) {x : Bool} (e : x ≡ not (offsetsRise words (c .first) (c .after))) where
+      module _ (order : c .first ≤ c .after) {x : Bool} (e : x ≡ offsetsFall words (c .first) (c .after)) where
         left : (x || (readsTokens c && ltb bytes (tokenEnd words (lastToken c)))) ≡ fails14 rules bytes words c
         unfolding fails14
         left =
@@ -49,7 +49,7 @@ pub record Right (rules bytes : ℕ) (words : List ℕ) (c : Capture) : Type 0 w
   pub there : c .rule < rules
   pub reached : c .after ≤ length words / 4
   pub order : c .first ≤ c .after
-  pub rise : offsetsRise words (c .first) (c .after) ≡ true
+  pub rise : offsetsFall words (c .first) (c .after) ≡ false
   pub inside : c .first < c .after → tokenEnd words (lastToken c) ≤ bytes
 
 pub right-capture : (rules bytes : ℕ) (words : List ℕ) (c : Capture) → fails14 rules bytes words c ≡ false → Right rules bytes words c
@@ -63,7 +63,7 @@ right-capture rules bytes words c e =
       there = ltb-true (c .rule) rules (not-false _ (e1 .0));
       reached = ltb-false _ _ (e1 .1);
       order = ltb-false _ _ (e2 .1);
-      rise = not-false _ (e3 .1);
+      rise = e3 .1;
       inside = λ h. ltb-false _ _ (rw (lt-ltb (c .first) (c .after) h) at (e4 .1));
     }
 
@@ -84,9 +84,9 @@ rising words first (suc n) e =
 module _ {rules bytes : ℕ} {words : List ℕ} {c : Capture} (r : Right rules bytes words c) (h : c .first < c .after) where
   -- So the text begins before it ends.
   pub begins-before : tokenOffset words (c .first) ≤ tokenEnd words (lastToken c)
-  unfolding offsetsRise
+  unfolding offsetsFall
   begins-before =
       let z : c .first + (c .after - c .first - 1) ≡ c .after - 1 = omega arith in
       let k : tokenOffset words (c .first) ≤ tokenOffset words (c .after - 1) =
-      rw z at (rising words (c .first) (c .after - c .first - 1) (r .rise)) in
+      rw z at (rising words (c .first) (c .after - c .first - 1) (not-false _ (r .rise))) in
       omega arith

@@ -98,25 +98,29 @@ module _ (file report words : List ℕ) (c : Capture) {f : FileRead} (e : fileNu
               right : Right l (length report) words c
               right = right-capture l (length report) words c (sym d14 ∙ p14)
 
-              pub ordered : c .first < c .after → tokenOffset words (c .first) ≤ tokenEnd words (lastToken c)
-              ordered h = begins-before right h
-
-              pub from-report : c .first < c .after → {r : ShownPart}
-                  → r ≡ InReport (tokenOffset words (c .first)) (tokenEnd words (lastToken c) - tokenOffset words (c .first)) → numbers r ≡ shownAnswer file report words c
-              unfolding partShown
-              from-report h d = ap numbers d ∙ rw (lt-ltb (c .first) (c .after) h) at answers
-
-              pub from-file : c .after ≤ c .first → {r : ShownPart}
+              pub from-file : c .first ≡ c .after → {r : ShownPart}
                   → r ≡ InFile (offsetOf file 4 (k + c .rule) + 5) (length (drop 2 (valueAt file (offsetOf file 4 (k + c .rule)))))
                   → numbers r ≡ shownAnswer file report words c
               unfolding partShown
               from-file h d =
                   let there : c .rule < length (ruleList (fieldsOf file)) = subst (λ (n : ℕ). c .rule < n) rules-are (right .there) in
-                  let readable' = readable file read passes in
+                  let fields-read = readable file read passes in
                   ap numbers d
-                  ∙ ap₂ (λ (o n : ℕ). given (inFile o n)) (name-from file readable' (c .rule) there k keywords-are)
-                  (length-from file readable' (c .rule) there k keywords-are)
-                  ∙ rw (le-ltb (c .first) (c .after) h) at answers
+                  ∙ ap₂ (λ (o n : ℕ). given (inFile o n)) (name-from file fields-read (c .rule) there k keywords-are)
+                  (length-from file fields-read (c .rule) there k keywords-are)
+                  ∙ rw (le-ltb (c .first) (c .after) (omega arith)) at answers
+
+              module _ (h : c .first ≡ c .after → ⊥) where
+                pub read-some : c .first < c .after
+                read-some = omega (arith, right .order)
+
+                pub ordered : tokenOffset words (c .first) ≤ tokenEnd words (lastToken c)
+                ordered = begins-before right read-some
+
+                pub from-report : {r : ShownPart} → r ≡ InReport (tokenOffset words (c .first)) (tokenEnd words (lastToken c) - tokenOffset words (c .first))
+                    → numbers r ≡ shownAnswer file report words c
+                unfolding partShown
+                from-report d = ap numbers d ∙ rw (lt-ltb (c .first) (c .after) read-some) at answers
 
 -- A file that is read has few keywords.
 pub few : (file : List ℕ) {f : FileRead} {n l k s m : ℕ} → KeywordsStand file f → f ≡ Read n l k s m → k ≤ mostKeywords

@@ -36,9 +36,10 @@ readsTokens c = ltb (c .first) (c .after)
 abbrev pub lastToken : Capture → ℕ
 lastToken c = c .after - 1
 
--- Whether no offset of the tokens from one place to before another is below that of the token before it.
-unfoldable pub offsetsRise : List ℕ → ℕ → ℕ → Bool
-offsetsRise words first after = every (after - first - 1) (λ i. leb (tokenOffset words (first + i)) (tokenOffset words (first + i + 1)))
+-- Whether the offset of some token, from one place to before another, is below that of the token before it.
+unfoldable pub offsetsFall : List ℕ → ℕ → ℕ → Bool
+offsetsFall words first after =
+    not (every (after - first - 1) (λ i. leb (tokenOffset words (first + i)) (tokenOffset words (first + i + 1))))
 
 -- 14: "a capture whose rule or tokens are not there, whose first token comes after the token that follows it .., or whose
 -- tokens' offsets fall, or whose last token ends past the report". Of the file and the report it asks how many rules and
@@ -48,7 +49,7 @@ fails14 rules bytes words c =
     not (ltb (c .rule) rules)
     || ltb (tokensOf words .count) (c .after)
     || ltb (c .after) (c .first)
-    || not (offsetsRise words (c .first) (c .after))
+    || offsetsFall words (c .first) (c .after)
     || (readsTokens c && ltb bytes (tokenEnd words (lastToken c)))
 
 -- How many bytes fields take in a file: each has a tag, a two-byte length and its value.

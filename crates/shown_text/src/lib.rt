@@ -1,11 +1,10 @@
 // The text shown for a capture, and number 14 (02, Note 2).
 ghost use mathlib.Core.Path.{_≡_};
-ghost use mathlib.Core.Bool.{not};
 ghost use Prim.Native.Nat.{_+_, _-_, _≤_, _<_};
 ghost use lib.ListN.{length, getD, drop};
 ghost use Rattle.file_fields.specs.Offsets.{offsetOf, valueAt};
 ghost use Rattle.grammar_file.specs.File.{mostKeywords};
-ghost use Rattle.shown_text.specs.Shown.{numbers, tokenOffset, tokenEnd, lastToken, offsetsRise, fails14};
+ghost use Rattle.shown_text.specs.Shown.{numbers, tokenOffset, tokenEnd, lastToken, offsetsFall, fails14};
 ghost use Rattle.shown_text.specs.Shown.{shownAnswer, shownBytes};
 use columns::Capture;
 use file_fields::offset_of;
@@ -47,10 +46,10 @@ pub fn shown(file: &[u8], report: &[u8], tokens: &[u32], capture: Capture) -> Sh
             if capture_wrong(rules, report.len(), tokens, capture) {
                 return ShownPart::Refused(refusals::CAPTURE);
             }
-            if capture.first < capture.after {
-                return in_report(tokens, capture);
+            if capture.first == capture.after {
+                return in_file(file, keywords, capture.rule);
             }
-            in_file(file, keywords, capture.rule)
+            in_report(tokens, capture)
         }
     }
 }
@@ -100,7 +99,7 @@ fn capture_wrong(rules: usize, bytes: usize, tokens: &[u32], capture: Capture) -
 
 // Whether the offset of a token, from one place to before another, is below that of the token before it.
 fn offsets_fall(tokens: &[u32], first: u32, after: u32) -> bool
-    ensures { λ r. ⌜ r ≡ not (offsetsRise (now (tokens .entry)) first after) ⌝ }
+    ensures { λ r. ⌜ r ≡ offsetsFall (now (tokens .entry)) first after ⌝ }
 {
     if after <= first {
         return false;
@@ -150,8 +149,9 @@ fn in_report(tokens: &[u32], capture: Capture) -> ShownPart
         (tokenEnd (now (tokens .entry)) (lastToken capture) - tokenOffset (now (tokens .entry)) (capture .first))
         ⌝ }
 {
+    let last = capture.after - 1;
     let offset = token_offset(tokens, capture.first) as usize;
-    let end = token_end(tokens, capture.after - 1);
+    let end = token_end(tokens, last);
     ShownPart::InReport {
         offset,
         length: end - offset,

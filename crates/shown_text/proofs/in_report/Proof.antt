@@ -8,10 +8,10 @@ use Rattle.shown_text.specs.declared.ShownPart.the-variants.{InReport}
 
 returns : tie.Need-returns
 returns c =
-    ap₂ (λ (offset end : ℕ). InReport offset (end - offset)) (c .before .before .token-offset .ensures) (c .token-end .ensures)
+    ap₂ (λ (offset end : ℕ). InReport offset (end - offset)) (c .before .token-offset .ensures) (c .token-end .ensures)
 
 pub in-report-spec : {M : Type 1} → statement M
 in-report-spec =
     tie.close
-    (tie.spec (λ c κs. search needs) (λ c. search needs) (λ c. search needs) (λ c κs. search needs) (λ c. search needs)
+    (tie.spec (λ c. search needs) (λ c κs. search needs) (λ c. search needs) (λ c κs. search needs) (λ c. search needs)
     returns)

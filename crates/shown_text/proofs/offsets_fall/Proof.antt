@@ -9,7 +9,7 @@ use borrow.Author.Tests.{le-leb, lt-leb}
 use lib.Dec.{leb}
 use Rattle.table.specs.Every.{every}
 use Rattle.table.proofs.Every.{every-more, every-fails}
-use Rattle.shown_text.specs.Shown.{offsetsRise}
+use Rattle.shown_text.specs.Shown.{offsetsFall}
 use Rattle.shown_text.proofs.CaptureLaws.{notBelow}
 
 abbrev Inv-loop : tie.InvT-loop
@@ -19,7 +19,7 @@ abbrev μ-loop : tie.MeasureT-loop
 μ-loop tokens first after pairs i₀ i = pairs - i
 
 returns : tie.Need-returns Inv-loop μ-loop
-unfolding offsetsRise every
+unfolding offsetsFall every
 returns c =
     let start = c .before .before in
     let e : start .args .after - start .args .first - 1 ≡ 0 = omega arith in
@@ -30,7 +30,7 @@ unfolding every
 loop-holds c = (omega arith, refl)
 
 returns-2 : tie.Need-returns-2 Inv-loop μ-loop
-unfolding offsetsRise
+unfolding offsetsFall
 returns-2 c =
     let loop = c .before .before .before .before .loop in
     let loop-test = c .before .before .before .loop-test in
@@ -55,7 +55,7 @@ loop-again c =
     )
 
 returns-3 : tie.Need-returns-3 Inv-loop μ-loop
-unfolding offsetsRise
+unfolding offsetsFall
 returns-3 c =
     let loop = c .before .loop in
     let start = c .before .before .before .before in

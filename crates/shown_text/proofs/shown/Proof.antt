@@ -2,7 +2,7 @@
 use borrow.Author.Needs.{needs}
 use Rattle.shown_text.proofs.shown.Statement.{statement}
 use Rattle.shown_text.proofs.shown.Tie as tie
-use Rattle.shown_text.proofs.Cases.{by-file, by-report, by-tokens, by-capture, ordered, from-report, few, from-file}
+use Rattle.shown_text.proofs.Cases.{by-file, by-report, by-tokens, by-capture, few, from-file, read-some, ordered, from-report}
 
 returns : tie.Need-returns
 returns c =
@@ -34,21 +34,12 @@ returns-3 c =
     (start .args .capture) (check .ensures .0) (read2 .given .1) (refused .ensures) (if1 .left)
     (tokens-wrong .ensures) (c .before .before .if2 .left) (c .before .capture-wrong .ensures) (c .if3 .taken)
 
-in-report-requires : tie.Need-in-report-requires
-in-report-requires c κs =
-    let if2 = c .before .before .before .before .if2 in
-    let capture-wrong = c .before .before .before .capture-wrong in
-    let if1 = c .before .before .before .before .before .before .if1 in
-    let tokens-wrong = c .before .before .before .before .before .tokens-wrong in
-    let refused = c .before .before .before .before .before .before .before .refused in
+in-file-requires : tie.Need-in-file-requires
+in-file-requires c κs =
     let read2 = c .before .before .before .before .before .before .before .before .before .read2 in
     let check = c .before .before .before .before .before .before .before .before .before .before .before .check in
-    let start = c .before .before .before .before .before .before .before .before .before .before .before .before .before .before .before in (
-      c .if4 .taken,
-      ordered (start .args .file .now) (start .args .report .now) (start .args .tokens .now)
-          (start .args .capture) (check .ensures .0) (read2 .given .1) (refused .ensures) (if1 .left)
-          (tokens-wrong .ensures) (if2 .left) (capture-wrong .ensures) (c .before .before .if3 .left) (c .if4 .taken),
-    )
+    let start = c .before .before .before .before .before .before .before .before .before .before .before .before .before .before .before in
+    few (start .args .file .now) (check .ensures .1) (read2 .given .1)
 
 returns-4 : tie.Need-returns-4
 returns-4 c =
@@ -61,17 +52,28 @@ returns-4 c =
     let read2 = c .before .before .before .before .before .before .before .before .before .before .read2 in
     let check = c .before .before .before .before .before .before .before .before .before .before .before .before .check in
     let start = c .before .before .before .before .before .before .before .before .before .before .before .before .before .before .before .before in
-    from-report (start .args .file .now) (start .args .report .now) (start .args .tokens .now)
+    from-file (start .args .file .now) (start .args .report .now) (start .args .tokens .now)
     (start .args .capture) (check .ensures .0) (read2 .given .1) (refused .ensures) (if1 .left)
     (tokens-wrong .ensures) (if2 .left) (capture-wrong .ensures) (if3 .left) (c .before .if4 .taken)
-    (c .in-report .ensures)
+    (c .in-file .ensures)
 
-in-file-requires : tie.Need-in-file-requires
-in-file-requires c κs =
+in-report-requires : tie.Need-in-report-requires
+in-report-requires c κs =
+    let if2 = c .before .before .before .before .if2 in
+    let capture-wrong = c .before .before .before .capture-wrong in
+    let if1 = c .before .before .before .before .before .before .if1 in
+    let tokens-wrong = c .before .before .before .before .before .tokens-wrong in
+    let refused = c .before .before .before .before .before .before .before .refused in
     let read2 = c .before .before .before .before .before .before .before .before .before .read2 in
     let check = c .before .before .before .before .before .before .before .before .before .before .before .check in
-    let start = c .before .before .before .before .before .before .before .before .before .before .before .before .before .before .before in
-    few (start .args .file .now) (check .ensures .1) (read2 .given .1)
+    let start = c .before .before .before .before .before .before .before .before .before .before .before .before .before .before .before in (
+      read-some (start .args .file .now) (start .args .report .now) (start .args .tokens .now)
+          (start .args .capture) (check .ensures .0) (read2 .given .1) (refused .ensures) (if1 .left)
+          (tokens-wrong .ensures) (if2 .left) (capture-wrong .ensures) (c .before .before .if3 .left) (c .if4 .left),
+      ordered (start .args .file .now) (start .args .report .now) (start .args .tokens .now)
+          (start .args .capture) (check .ensures .0) (read2 .given .1) (refused .ensures) (if1 .left)
+          (tokens-wrong .ensures) (if2 .left) (capture-wrong .ensures) (c .before .before .if3 .left) (c .if4 .left),
+    )
 
 returns-5 : tie.Need-returns-5
 returns-5 c =
@@ -91,13 +93,13 @@ returns-6 c =
     let read2 = c .before .before .before .before .before .before .before .before .before .before .read2 in
     let check = c .before .before .before .before .before .before .before .before .before .before .before .before .check in
     let start = c .before .before .before .before .before .before .before .before .before .before .before .before .before .before .before .before in
-    from-file (start .args .file .now) (start .args .report .now) (start .args .tokens .now)
+    from-report (start .args .file .now) (start .args .report .now) (start .args .tokens .now)
     (start .args .capture) (check .ensures .0) (read2 .given .1) (refused .ensures) (if1 .left)
     (tokens-wrong .ensures) (if2 .left) (capture-wrong .ensures) (if3 .left) (c .before .if4 .left)
-    (c .in-file .ensures)
+    (c .in-report .ensures)
 
 pub shown-spec : {M : Type 1} → statement M
 shown-spec =
     tie.close
     (tie.spec (λ c κs. search needs) (λ c. search needs) (λ c. search needs) (λ c κs. search needs) returns (λ c κs. search needs) returns-2
-    (λ c κs. search needs) returns-3 in-report-requires returns-4 in-file-requires returns-5 returns-6)
+    (λ c κs. search needs) returns-3 in-file-requires returns-4 in-report-requires returns-5 returns-6)

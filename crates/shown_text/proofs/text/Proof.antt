@@ -19,8 +19,11 @@ part-result-end : tie.Need-part-result-end
 part-result-end c =
     let shown = c .before .before .before .shown in
     let start = c .before .before .before .before .before .before .before in
+    let inside =
     report-inside (start .args .file .now) (start .args .report .now) (start .args .tokens .now)
-    (start .args .capture) (shown .ensures) (c .before .part .given .1)
+    (start .args .capture) (shown .ensures)
+    (c .before .part .given .1) in
+    omega arith
 
 add-end-2 : tie.Need-add-end-2
 add-end-2 c =
@@ -36,8 +39,11 @@ part-result-end-2 : tie.Need-part-result-end-2
 part-result-end-2 c =
     let shown = c .before .before .before .shown in
     let start = c .before .before .before .before .before .before .before in
+    let inside =
     file-inside (start .args .file .now) (start .args .report .now) (start .args .tokens .now)
-    (start .args .capture) (shown .ensures) (c .before .part2 .given .1)
+    (start .args .capture) (shown .ensures)
+    (c .before .part2 .given .1) in
+    omega arith
 
 returns : tie.Need-returns
 returns c =
