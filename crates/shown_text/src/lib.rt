@@ -70,7 +70,7 @@ pub fn text<'a>(file: &'a [u8], report: &'a [u8], tokens: &[u32], capture: Captu
             let end = offset + length;
             &file[offset..end]
         }
-        ShownPart::Refused(_) => &report[..0],
+        ShownPart::Refused(_) => &report[0..0],
     }
 }
 

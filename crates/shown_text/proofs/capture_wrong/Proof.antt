@@ -2,13 +2,14 @@
 use borrow.Author.Needs.{needs}
 use Rattle.shown_text.proofs.capture_wrong.Statement.{statement}
 use Rattle.shown_text.proofs.capture_wrong.Tie as tie
+use native.Mathlib.Omega.{arith}
 use Rattle.shown_text.proofs.CaptureLaws.{no-rule, no-tokens, turned, falls, last-end, no-end}
 
 returns : tie.Need-returns
 returns c =
     let start = c .before .before .before in
     no-rule (start .args .rules) (start .args .bytes) (start .args .tokens .now)
-    (start .args .capture) (c .if1 .taken)
+    (start .args .capture) (omega arith)
 
 returns-2 : tie.Need-returns-2
 returns-2 c =

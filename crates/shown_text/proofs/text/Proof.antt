@@ -70,4 +70,4 @@ pub text-spec : {M : Type 1} → statement M
 text-spec =
     tie.close
     (tie.spec (λ c κs. search needs) (λ c. search needs) add-end (λ c. search needs) (λ c. search needs) part-result-end (λ c. search needs) add-end-2 (λ c. search needs)
-    (λ c. search needs) part-result-end-2 (λ c. search needs) (λ c. search needs) returns returns-2 returns-3)
+    (λ c. search needs) part-result-end-2 (λ c. search needs) (λ c. search needs) (λ c. search needs) (λ c. search needs) returns returns-2 returns-3)
