@@ -7,7 +7,7 @@ use mathlib.Core.Option.{Option, some, none, Option·getD}
 use mathlib.Core.Logic.{⊎-elim}
 use native.Mathlib.Nat.{le-trans, le-of-eq}
 use native.Mathlib.Omega.{arith}
-use borrow.Author.Tests.{not-false, leb-true}
+use borrow.Author.Tests.{not-false, leb-true, ltb-false}
 use lib.ListN.{length, getD, take, drop, length-append, length-map, length-drop, drop-of-length-le, take-append-drop, List·getD-map}
 use lib.Seq.{split-at, take-append-seam, drop-append-le, drop-drop, length-take-le}
 use lib.Dec.{ltb}
@@ -27,28 +27,27 @@ pub record Readable (file : List ℕ) : Type 0 where
   pub parsed : fields file ≡ some (fieldsOf file)
   pub ordered : inOrder (fieldsOf file) ≡ true
   pub right : rightValues (fieldsOf file) ≡ true
+  pub few : length (keywords (fieldsOf file)) ≤ mostKeywords
 
 passes-first : {A : Type 0} (fails : Bool) (n : ℕ) (next : Answer A) (x : A) → given x ≡ refuseIf fails n next → fails ≡ false
 passes-first true n next x e = absurd (let z : _≡_ {A = ℕ} 0 1 = cc in omega arith)
 passes-first false n next x e = refl
 
-read-fields :
-    (o : Option (List Field))
-    → unreadable o ≡ false
-    → (o ≡ some (Option·getD o [])) × (inOrder (Option·getD o []) ≡ true) × (rightValues (Option·getD o []) ≡ true)
+read-fields : (o : Option (List Field)) → unreadable o ≡ false
+    → (o ≡ some (Option·getD o [])) × (inOrder (Option·getD o []) ≡ true) × (rightValues (Option·getD o []) ≡ true) × (length (keywords (Option·getD o [])) ≤ mostKeywords)
 unfolding unreadable
 read-fields none e = absurd (true≢false e)
 read-fields (some fs) e =
     let a = both-false (not (inOrder fs) || not (rightValues fs)) (ltb mostKeywords (length (keywords fs))) e in
     let b = both-false (not (inOrder fs)) (not (rightValues fs)) (a .0) in
-    (refl, not-false (inOrder fs) (b .0), not-false (rightValues fs) (b .1))
+    (refl, not-false (inOrder fs) (b .0), not-false (rightValues fs) (b .1), ltb-false mostKeywords (length (keywords fs)) (a .1))
 
 pub readable : (file : List ℕ) (x : Contents) → given x ≡ fileAnswer file → Readable file
 unfolding fileAnswer fails1
 readable file x e =
     let a = both-false (ltb mostBytes (length file)) (unreadable (fields file)) (passes-first _ _ _ _ e) in
     let b = read-fields (fields file) (a .1) in
-    record { parsed = b .0; ordered = b .1; right = b .2 }
+    record { parsed = b .0; ordered = b .1; right = b .2; few = b .3 }
 
 -- The widths of two lists of fields, one behind the other.
 widths-append : (fs gs : List Field) → widths (fs ++ gs) ≡ widths fs + widths gs

@@ -29,12 +29,12 @@ abbrev pub Inside : List ℕ → List ℕ → Part → Type 0
 Inside file report (inReport offset n) = offset + n ≤ length report
 Inside file report (inFile offset n) = offset + n ≤ length file
 
-first-given : {A B : Type 0} (first : Answer B) (next : Answer A) (x : A) → given x ≡ andThen first next → (b : B) × (given b ≡ first)
+pub first-given : {A B : Type 0} (first : Answer B) (next : Answer A) (x : A) → given x ≡ andThen first next → (b : B) × (given b ≡ first)
 first-given (given b) next x e = (b, refl)
 first-given (refused n) next x e = absurd (let z : _≡_ {A = ℕ} 0 1 = cc in omega arith)
 first-given (refusedAt n node) next x e = absurd (let z : _≡_ {A = ℕ} 0 1 = cc in omega arith)
 
-next-given : {A B : Type 0} (first : Answer B) (next : Answer A) (x : A) → given x ≡ andThen first next → given x ≡ next
+pub next-given : {A B : Type 0} (first : Answer B) (next : Answer A) (x : A) → given x ≡ andThen first next → given x ≡ next
 next-given (given b) next x e = e
 next-given (refused n) next x e = absurd (let z : _≡_ {A = ℕ} 0 1 = cc in omega arith)
 next-given (refusedAt n node) next x e = absurd (let z : _≡_ {A = ℕ} 0 1 = cc in omega arith)
