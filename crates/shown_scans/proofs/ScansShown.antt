@@ -1,26 +1,25 @@
 -- A capture of a scan's tokens always has a text to show: none of its numbers applies.
 use Prim.Native.Nat.{ℕ, suc, _+_, _-_, _*_, _/_, _≤_, _<_}
-use mathlib.Core.Path.{_≡_, refl, sym, ap, ap₂, subst, _∙_}
-use mathlib.Core.Bool.{Bool, true, false, not, _&&_, _||_}
+use mathlib.Core.Path.{_≡_, refl, sym, ap, ap₂}
+use mathlib.Core.Bool.{Bool, true, false, not}
 use mathlib.Core.List.{List}
 use mathlib.Core.Logic.{⊎-elim}
 use native.Mathlib.Omega.{arith}
 use native.Mathlib.Numerals.{add-one}
 use borrow.Author.Tests.{lt-ltb, le-ltb, le-leb, ltb-false}
-use lib.ListN.{length, getD}
+use lib.ListN.{length}
 use lib.Dec.{leb, ltb}
-use Rattle.table.specs.Answer.{Answer, given, refused, refusedAt, refuseIf, andThen}
+use Rattle.table.specs.Answer.{given, refuseIf}
 use Rattle.table.proofs.Every.{both-false}
 use Rattle.table.proofs.Orders.{le-or-lt}
-use Rattle.table.proofs.AnswerLaws.{first-passes}
 use Rattle.grammar_file.specs.File.{Contents, fieldsOf, keywords, ruleList, fileAnswer}
 use Rattle.report_checks.specs.Report.{fails8}
 use Rattle.report_checks.specs.FirstChecks.{firstAnswer}
 use Rattle.columns.specs.declared.Capture.{Capture}
 use Rattle.clauses.specs.Limits.{fails11}
 use Rattle.token_words.specs.Places.{places}
-use Rattle.token_words.specs.Scan.{tokens, wordsOf, scanTokens, overColumn, fails9, fails10, scanAnswer}
-use Rattle.shown_text.specs.Shown.{tokenOffset, tokenEnd, lastToken, readsTokens, offsetsFall, fails14, partShown, shownAnswer}
+use Rattle.token_words.specs.Scan.{tokens, wordsOf, scanTokens, fails9, fails10, scanAnswer}
+use Rattle.shown_text.specs.Shown.{tokenOffset, tokenEnd, lastToken, offsetsFall, fails14, partShown, shownAnswer}
 use Rattle.shown_text.proofs.NamePlaces.{readable}
 use Rattle.shown_text.proofs.ShownLaws.{first-given, next-given}
 use Rattle.shown_scans.proofs.PlacesRise.{places-rise, ends-inside, next-offset}
