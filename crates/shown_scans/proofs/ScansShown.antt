@@ -12,6 +12,7 @@ use lib.Dec.{leb, ltb}
 use Rattle.table.specs.Answer.{given, refuseIf}
 use Rattle.table.proofs.Every.{both-false}
 use Rattle.table.proofs.Orders.{le-or-lt}
+use Rattle.table.proofs.AnswerLaws.{second-given}
 use Rattle.grammar_file.specs.File.{Contents, fieldsOf, keywords, ruleList, fileAnswer}
 use Rattle.report_checks.specs.Report.{fails8}
 use Rattle.report_checks.specs.FirstChecks.{firstAnswer}
@@ -21,7 +22,7 @@ use Rattle.token_words.specs.Places.{places}
 use Rattle.token_words.specs.Scan.{tokens, wordsOf, scanTokens, fails9, fails10, scanAnswer}
 use Rattle.shown_text.specs.Shown.{tokenOffset, tokenEnd, lastToken, offsetsFall, fails14, partShown, shownAnswer}
 use Rattle.shown_text.proofs.NamePlaces.{readable}
-use Rattle.shown_text.proofs.ShownLaws.{first-given, next-given}
+use Rattle.shown_text.proofs.ShownLaws.{first-given}
 use Rattle.shown_scans.proofs.PlacesRise.{places-rise, ends-inside, next-offset}
 use Rattle.shown_scans.proofs.ScannedWords.{every-all, words, place, word-of, how-many, passes-11}
 
@@ -80,7 +81,7 @@ module _ (file report : List ℕ) (lent n : ℕ) (e : given n ≡ scanAnswer fil
 
   tests : (fails8 report ≡ false) × (fails9 report ≡ false) × (fails10 report lent ≡ false) × (n ≡ length (places report))
   unfolding scanAnswer
-  tests = three-pass (fails8 report) (fails9 report) (fails10 report lent) n (length (places report)) (next-given (fileAnswer file) _ n e)
+  tests = three-pass (fails8 report) (fails9 report) (fails10 report lent) n (length (places report)) (second-given (fileAnswer file) _ n e)
 
   many : length (places report) ≤ 4096
   unfolding fails10

@@ -9,6 +9,7 @@ use borrow.Author.Tests.{lt-ltb, le-ltb}
 use lib.ListN.{length, getD, take, drop}
 use Rattle.table.specs.Answer.{Answer, given, refused, refusedAt, refuseIf, andThen}
 use Rattle.table.proofs.Orders.{le-or-lt}
+use Rattle.table.proofs.AnswerLaws.{second-given}
 use Rattle.grammar_file.specs.File.{Contents, fieldsOf, ruleList, ruleNames, partOf, fileAnswer, nameBytes}
 use Rattle.report_checks.specs.Report.{fails8}
 use Rattle.report_checks.specs.FirstChecks.{firstAnswer}
@@ -29,15 +30,11 @@ abbrev pub Inside : List ℕ → List ℕ → Part → Type 0
 Inside file report (inReport offset n) = offset + n ≤ length report
 Inside file report (inFile offset n) = offset + n ≤ length file
 
+-- The first part passes where the two together do.
 pub first-given : {A B : Type 0} (first : Answer B) (next : Answer A) (x : A) → given x ≡ andThen first next → (b : B) × (given b ≡ first)
 first-given (given b) next x e = (b, refl)
 first-given (refused n) next x e = absurd (let z : _≡_ {A = ℕ} 0 1 = cc in omega arith)
 first-given (refusedAt n node) next x e = absurd (let z : _≡_ {A = ℕ} 0 1 = cc in omega arith)
-
-pub next-given : {A B : Type 0} (first : Answer B) (next : Answer A) (x : A) → given x ≡ andThen first next → given x ≡ next
-next-given (given b) next x e = e
-next-given (refused n) next x e = absurd (let z : _≡_ {A = ℕ} 0 1 = cc in omega arith)
-next-given (refusedAt n node) next x e = absurd (let z : _≡_ {A = ℕ} 0 1 = cc in omega arith)
 
 two-tests : (a b : Bool) (n m : ℕ) (x y : Part) → given x ≡ refuseIf a n (refuseIf b m (given y)) → (b ≡ false) × (x ≡ y)
 two-tests true b n m x y e = absurd (let z : _≡_ {A = ℕ} 0 1 = cc in omega arith)
@@ -58,7 +55,7 @@ module _ (file report words : List ℕ) (c : Capture) {p : Part} (e : given p �
   unfolding shownAnswer
   tests =
       two-tests (fails11 words) (fails14 (length (ruleList (fieldsOf file))) (length report) words c) 11 14 p
-      (partShown (fieldsOf file) words c) (next-given (firstAnswer file report) _ p e)
+      (partShown (fieldsOf file) words c) (second-given (firstAnswer file report) _ p e)
 
   right : Right (length (ruleList (fieldsOf file))) (length report) words c
   right = right-capture (length (ruleList (fieldsOf file))) (length report) words c (tests .0)
