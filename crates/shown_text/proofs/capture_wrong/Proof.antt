@@ -22,7 +22,7 @@ returns-3 c =
     let if1 = c .before .before .before .before .if1 in
     let start = c .before .before .before .before .before .before .before in
     turned (start .args .rules) (start .args .bytes) (start .args .tokens .now)
-    (start .args .capture) (if1 .left) (c .before .before .if2 .left) (c .if3 .taken)
+    (start .args .capture) (if1 .left) (c .before .before .if2 .left) (omega arith)
 
 returns-4 : tie.Need-returns-4
 returns-4 c =
