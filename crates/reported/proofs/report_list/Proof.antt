@@ -2,25 +2,20 @@
 use borrow.Author.Needs.{needs}
 use Rattle.reported.proofs.report_list.Statement.{statement}
 use Rattle.reported.proofs.report_list.Tie as tie
-use mathlib.Core.Path.{refl}
-use Rattle.reported.specs.Reported.{list-success, list-failure, list-refused, list-refusedAt}
-use Rattle.reported.proofs.ReportLaws.{seven-words}
+use Rattle.reported.proofs.ListLaws.{number-listed, words-listed, number-failed, words-failed}
+use Rattle.reported.proofs.ListLaws.{number-refused, words-refused, number-named, words-named}
 
 returns : tie.Need-returns
-returns c =
-    let was = c .before .before .before .x .given .1 in
-    (λ place. rw was refl, λ place. rw (was, c .before .success-words .ensures, seven-words) (list-success refl))
+returns c = (λ place. search number-listed, λ place. search words-listed)
 
 returns-2 : tie.Need-returns-2
-returns-2 c = (λ place. rw (c .enum-told .given .1) refl, λ place. rw (c .enum-told .given .1) list-failure)
+returns-2 c = (λ place. search number-failed, λ place. search words-failed)
 
 returns-3 : tie.Need-returns-3
-returns-3 c = (λ place. rw (c .before .x2 .given .1) refl, λ place. rw (c .before .x2 .given .1) list-refused)
+returns-3 c = (λ place. search number-refused, λ place. search words-refused)
 
 returns-4 : tie.Need-returns-4
-returns-4 c =
-    let was = c .before .before .x3 .given .1 in
-    (λ place. rw was (c .seven-at .ensures), λ place. rw was list-refusedAt)
+returns-4 c = (λ place. search number-named, λ place. search words-named)
 
 pub report-list-spec : {M : Type 1} → statement M
 report-list-spec =
