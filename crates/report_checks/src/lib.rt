@@ -40,7 +40,7 @@ pub fn first_checks(file: &[u8], report: &[u8]) -> Checked
 }
 
 // Number 8 of a report.
-fn refused(report: &[u8]) -> bool
+pub fn refused(report: &[u8]) -> bool
     ensures { λ r. ⌜ r ≡ fails8 (now (report .entry)) ⌝ }
 {
     if report.len() > BYTES {

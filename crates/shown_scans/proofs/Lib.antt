@@ -1,0 +1,3 @@
+pub mod PlacesRise
+pub mod ScannedWords
+pub mod ScansShown

@@ -1,0 +1,1 @@
+// A scan's tokens always have a text to show. No function is here.

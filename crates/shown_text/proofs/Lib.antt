@@ -1,0 +1,6 @@
+pub mod FieldPlaces
+pub mod TagLaws
+pub mod NamePlaces
+pub mod CaptureLaws
+pub mod ShownLaws
+pub mod Cases
