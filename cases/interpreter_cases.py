@@ -1393,7 +1393,8 @@ BELOW = [A, rule(1), rule(0)]
 listed("a start at a rule", "1 0 2 clear", [(0, 0, 1, 0)], nodes=[A, rule(0)], rules=[0], tokens="a2", node=1)
 listed("a start at the rule's node", "1 0 2 clear", [], nodes=[A, rule(0)], rules=[0], tokens="a2", node=0)
 for node, captures in ((2, [(0, 0, 1, 0), (1, 0, 1, 1)]), (1, [(1, 0, 1, 0)]), (0, [])):
-    listed(f"start node {node} of a, Y = a, X = Y", "1 0 2 clear", captures, nodes=BELOW, rules=[1, 0], tokens="a2", node=node)
+    listed(f"start node {node} of a, Y = a, X = Y", "1 0 2 clear", captures, nodes=BELOW, rules=[1, 0], tokens="a2",
+           node=node)
 
 # "an outer one stands before those inside it, and otherwise they stand in the order in which they were read"; "the
 # number of captures around it". The order of the rules says nothing.
@@ -1409,8 +1410,10 @@ lists("X Z", "any", "b0 a0 b0 b0", "4 0 inf clear", "X 0 3 0, Z 0 1 1, Y 1 3 1, 
 lists("(X X) X", "any", "a0 a0 a0", "3 0 inf clear", "X 0 1 0, X 1 2 0, X 2 3 0", rules="X = a")
 lists("X (X X)", "any", "a0 a0 a0", "3 0 inf clear", "X 0 1 0, X 1 2 0, X 2 3 0", rules="X = a")
 lists("a X b Y c", "any", "a0 a0 b0 b0 c0", "5 0 inf clear", "X 1 2 0, Y 3 4 0", rules="X = a; Y = b")
-# One rule at one place twice: by a second alternative; with nothing read; in other columns, where the first reads nothing.
-lists("X", "any", "a0", "1 0 inf clear", "X 0 1 0, Y 0 1 1, Z 0 1 2, Z 1 1 1", rules="X = Y Z; Y = Z b / Z; Z = a / empty")
+# One rule twice at one place: the first time in vain; reading nothing; reading nothing the first time, where a is not
+# right of 3.
+lists("X", "any", "a0", "1 0 inf clear", "X 0 1 0, Y 0 1 1, Z 0 1 2, Z 1 1 1",
+      rules="X = Y Z; Y = Z b / Z; Z = a / empty")
 lists("X", "any", "a0", "0 0 inf clear", "X 0 0 0, Y 0 0 1, Y 0 0 1", rules="X = Y Y; Y = empty")
 lists("(indent greater X) X", "equal", "a3", "1 3 3 clear", "X 0 0 0, X 0 1 0", rules="X = a / empty", start="3 3")
 
@@ -1459,8 +1462,10 @@ lists("X b / X c / X d", "any", "a0 d0", "2 0 inf clear", "X 0 1 0", rules="X = 
 lists("(X b / X c) / X X", "any", "a0 a0", "2 0 inf clear", "X 0 1 0, X 1 2 0", rules="X = a")
 # Inside a rule, the count around is that of what is left.
 lists("X", "any", "a0 c0", "2 0 inf clear", "X 0 2 0, Y 0 1 1, Z 0 1 2", rules="X = Y b / Y c; Y = Z; Z = a")
-lists("X Z", "any", "a0 c0 c0", "3 0 inf clear", "X 0 2 0, Y 0 1 1, Z 1 2 1, Z 2 3 0", rules="X = Y Y b / Y Z; Y = a; Z = c")
-lists("X", "any", "a0 a0 a0", "3 0 inf clear", "X 0 3 0, Y 0 1 1, Y 1 2 1, Y 2 3 1", rules="X = Y X' / Y Y Y; Y = a; X' = Y b")
+lists("X Z", "any", "a0 c0 c0", "3 0 inf clear", "X 0 2 0, Y 0 1 1, Z 1 2 1, Z 2 3 0",
+      rules="X = Y Y b / Y Z; Y = a; Z = c")
+lists("X", "any", "a0 a0 a0", "3 0 inf clear", "X 0 3 0, Y 0 1 1, Y 1 2 1, Y 2 3 1",
+      rules="X = Y X' / Y Y Y; Y = a; X' = Y b")
 # The first alternative's captures are on the way where it succeeds, the second's are not looked for.
 lists("X / Y", "any", "a0", "1 0 inf clear", "X 0 1 0", rules="X = a; Y = a")
 lists("empty / X", "any", "a0", "0 0 inf clear", "", rules="X = a")
@@ -1473,8 +1478,8 @@ lists("X (Y Y c / empty) Y", "any", "a0 b0 b0", "2 0 inf clear", "X 0 1 0, Y 1 2
 lists("X b / a*", "any", "a0 a0 a0", "3 0 inf clear", "", rules="X = Y Y Y; Y = a")
 lists("X b / Y*", "any", "a0 a0 a0", "3 0 inf clear", "Y 0 1 0, Y 1 2 0, Y 2 3 0", rules="X = Y Y Y; Y = a")
 
-# "outside any not": inside a not, two nots and a not in a rule, whatever succeeded there; the nots take no place and are
-# not counted around.
+# "outside any not": inside a not, two nots and a not in a rule, whatever succeeded there. It needs no place, and does
+# not count as around.
 lists("!X b", "any", "b0", "1 0 inf clear", "", rules="X = a")
 lists("!(X b) a", "any", "a0", "1 0 inf clear", "", rules="X = a")
 lists("!(X b) X", "any", "a0", "1 0 inf clear", "X 0 1 0", rules="X = a")
@@ -1512,6 +1517,8 @@ lists("((X Y)* c)* X", "any", "a0 b0 c0 a0 b0 a0", "4 0 inf clear", "X 0 1 0, Y 
 lists("indent greater X", "equal", "a5", "1 0 4 clear", "X 0 1 0", rules="X = a")
 lists("align X", "greater", "a5", "1 5 5 clear", "X 0 1 0", rules="X = a")
 lists("position any X", "equal", "a0", "1 3 6 clear", "X 0 1 0", rules="X = a", start="3 6")
+lists("X", "greater", "a5", "1 5 5 clear", "X 0 1 0", rules="X = a", flag="set")
+lists("X", "greater", "a2", "0 3 6 set", "X 0 0 0", rules="X = a / empty", start="3 6", flag="set")
 lists("indent greater X", "equal", "a0", "failure", "", rules="X = a", lents=(0, 4, 5))
 lists("indent greater X / Y", "equal", "a3", "1 3 3 clear", "Y 0 1 0", rules="X = a; Y = a", start="3 6")
 lists("align X / Y", "greater", "a9", "1 3 6 clear", "Y 0 1 0", rules="X = a; Y = a", start="3 6")
@@ -1533,7 +1540,8 @@ lists("X", "at-least", "a0 a2 a4 a2 a0", "5 0 0 clear",
 lists("X", "at-least", "a0 a2 a5 a2 a0", "2 0 0 clear", "X 0 2 0, X 1 2 1, X 2 2 2", rules=LEVELS)
 lists("indent +2 X / Y", "equal", "a5", "1 5 5 clear", "Y 0 1 0", rules="X = a b; Y = a")
 
-# "the number of captures around it" in deep lists: X at place k has those at 0 to k - 1 around it, and ends where they do.
+# "the number of captures around it" in deep lists: X at place k has those at 0 to k - 1 around it, and ends where they
+# do.
 lists("X", "any", "a0 " * 5, "5 0 inf clear", "X 0 5 0, X 1 5 1, X 2 5 2, X 3 5 3, X 4 5 4, X 5 5 5", rules=LIST)
 lists("X", "any", "a0 a0 a0 b0 b0 b0 b0", "6 0 inf clear", "X 0 6 0, X 1 5 1, X 2 4 2, X 3 3 3", rules=PAIRS)
 lists("X", "any", "a0 a0 a0 b0 b0", "0 0 inf clear", "X 0 0 0", rules=PAIRS)
@@ -1548,15 +1556,16 @@ lists("X", "any", "a0 " * 300, "120 0 inf clear", ", ".join(f"X {180 + k} 300 {k
 lists("X", "any", MOST, "4096 0 inf clear", ", ".join(f"X {k} 4096 {k}" for k in range(4097)), rules=LIST,
       lents=(0, 4, 16384, 16387), name="X = a X / empty, 4096 a")
 lists("X", "any", MOST, "failure", "", rules="X = a X", lents=(0, 16387, 16388, 16500), name="X = a X, 4096 a")
-lists("X*", "any", MOST, "1 0 inf clear", "X 4095 4096 0", rules="X = a", place=4095, name="X* where X = a, 4096 a, place 4095")
+lists("X*", "any", MOST, "1 0 inf clear", "X 4095 4096 0", rules="X = a", place=4095,
+      name="X* where X = a, 4096 a, place 4095")
 # 128 rules, each the next one's name, from the second on: rule k has rules 1 to k - 1 around it.
 listed("128 rules in a row to a, from the second", "1 0 4 clear", [(k, 0, 1, k - 1) for k in range(1, 128)],
        nodes=[A] + [rule(n) for n in range(1, 128)], rules=[*range(1, 128), 0], tokens="a4", node=1)
 
 
 def doubled(count):
-    """A call over a table where rule 0 is empty and each of so many others is twice the one before it; and the number of
-    the node that is the last rule. Behind it stand that rule in a failed alternative, and in two nots."""
+    """A call over a table where rule 0 is empty and each of so many others is twice the one before it, and the number
+    of the node that is the last rule. Three nodes further on it is in a failed alternative, five in two nots."""
     nodes = [EMPTY]
     for number in range(count):
         nodes += [rule(number), sequence(len(nodes), len(nodes))]
