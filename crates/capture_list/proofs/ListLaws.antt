@@ -200,15 +200,6 @@ module _ (l : List ℕ) (n : ℕ) (c : Capture) where
   noted-there h (suc (suc (suc zero))) b = getD-set-same three (n * 4 + 3) (c .around) 0 (simp length-set (omega arith))
   noted-there h (suc (suc (suc (suc i)))) b = absurd (omega arith)
 
-  pub room-two : n * 4 + 3 < length l → n * 4 + 1 < length one
-  room-two h = simp length-set (omega arith)
-
-  pub room-three : n * 4 + 3 < length l → n * 4 + 2 < length two
-  room-three h = simp length-set (omega arith)
-
-  pub room-four : n * 4 + 3 < length l → n * 4 + 3 < length three
-  room-four h = simp length-set (omega arith)
-
   -- What `capturePut` is where the place is there, and where not.
   pub put-there : n < length l / 4 → placed n c l ≡ capturePut n c l
   unfolding capturePut
@@ -236,11 +227,18 @@ module _ (l : List ℕ) (n : ℕ) (c : Capture) where
           rw (← put-nowhere h)
           (record { long = refl; before = λ i b. refl; behind = λ i b. refl; there = λ r i b. absurd (omega arith) })
 
+-- There is room for a level less with one more around, and any count that has not passed its end.
+pub room-inside :
+    (levels : ℕ) {c l : List ℕ}
+    → Room (levels + 1) c l
+    → {k n : ℕ}
+    → k ≤ aroundOf c + 1
+    → n ≤ mostCount
+    → Room levels (k ∷ n ∷ []) l
+room-inside levels room h f = record { deep = omega (arith, room .deep); count = f; long = room .long }
+
 -- A rule: with one more around and one more so far inside.
 module _ (levels : ℕ) {c l : List ℕ} (room : Room (levels + 1) c l) {n : ℕ} (more : n ≡ oneMore (soFar c)) where
-  pub room-rule : Room levels ((aroundOf c + 1) ∷ n ∷ []) l
-  room-rule = record { deep = omega (arith, room .deep); count = omega (arith, more); long = room .long }
-
   module _ {c' l' : List ℕ} where
     pub keeps-rule : Keeps ((aroundOf c + 1) ∷ n ∷ []) l c' l' → Keeps c l (aroundOf c ∷ soFar c' ∷ []) l'
     keeps-rule x = record { around = refl; long = x .long; before = λ i b. x .before i (omega (arith, more, room .count)) }

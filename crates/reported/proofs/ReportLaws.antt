@@ -1,21 +1,31 @@
--- A truth value as a byte and as a word; what is reported of a refused run; and that a run is reported in one way.
+-- A truth value as a byte and as a word; what is reported of a run that failed or was refused; and that a run is reported in one way.
 use Prim.Native.Nat.{ℕ, _+_, _*_}
 use mathlib.Core.Path.{_≡_, refl, ap}
 use native.Mathlib.Omega.{arith}
 use mathlib.Core.Bool.{Bool, true, false}
 use mathlib.Core.List.{List}
+use lib.ListN.{set}
 use mir.Val.{boolByte}
 use Rattle.table.specs.Answer.{Answer}
 use Rattle.columns.specs.declared.Interval.{Interval}
 use Rattle.clauses.specs.Clauses.{Outcome}
 use Rattle.interpreter.specs.Numbers.{numbers}
 use Rattle.interpreter.specs.declared.Ran.{Ran}
-use Rattle.interpreter.specs.declared.Ran.the-variants.{Refused, IllFormed}
-use Rattle.reported.specs.Reported.{bit, number, successWords, RunReported, of-success, of-failure, of-refused, of-refusedAt}
+use Rattle.interpreter.specs.declared.Ran.the-variants.{Failure, Refused, IllFormed}
+use Rattle.reported.specs.Reported.{bit, number, successWords}
+use Rattle.reported.specs.Reported.{RunReported, of-success, of-failure, of-refused, of-refusedAt}
 
 pub bytes-bit : (b : Bool) → boolByte b ≡ bit b
 bytes-bit true = refl
 bytes-bit false = refl
+
+-- A run that failed: 0, and in the first of the lent words too.
+module _ {x : Ran} (e : x ≡ Failure) (place : ℕ) where
+  pub number-failed : 0 ≡ number (numbers place x)
+  number-failed = rw e refl
+
+  pub words-failed : (before : List ℕ) → RunReported place before (numbers place x) (set before 0 0)
+  words-failed before = rw e of-failure
 
 -- A run that was refused: its number, and the lent words as they were.
 module _ {x : Ran} {n : ℕ} where

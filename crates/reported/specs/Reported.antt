@@ -9,9 +9,12 @@ use Rattle.columns.specs.declared.Upper.{Upper}
 use Rattle.columns.specs.declared.Upper.the-variants.{At, Endless}
 use Rattle.columns.specs.declared.Interval.{Interval}
 use Rattle.columns.specs.declared.Start.{Start}
+use Rattle.columns.specs.declared.Capture.{Capture}
 use Rattle.grammar_file.specs.File.{Contents}
 use Rattle.clauses.specs.Clauses.{Outcome, success, failure}
 use Rattle.clauses.specs.RunAnswer.{Reads}
+use Rattle.clauses.specs.ListAnswer.{Listing}
+use Rattle.shown_text.specs.Shown.{Part, inReport, inFile}
 
 -- The number: 0 where the call passes every check, else that of the first it fails, and 65,536 times the node with it.
 abbrev pub number : {A : Type 0} → Answer A → ℕ
@@ -55,6 +58,20 @@ pub data RunReported (place : ℕ) (before : List ℕ) : Answer (Outcome Interva
   of-refused : {n : ℕ} → RunReported place before (refused n) before
   of-refusedAt : {n node : ℕ} → RunReported place before (refusedAt n node) before
 
+-- The same for a run that lists: a success has a seventh word, the number of captures.
+pub data ListReported (place : ℕ) (before : List ℕ) : Answer Listing → List ℕ → Type 0 where
+  list-success : {read end count : ℕ} {c : Interval} {flag : Bool} → Reads place read end
+      → ListReported place before (given (record { outcome = success (end, c, flag); count = count }))
+      (successWords read c flag ++ (count ∷ []))
+  list-failure : {count : ℕ} → ListReported place before (given (record { outcome = failure; count = count })) (set before 0 0)
+  list-refused : {n : ℕ} → ListReported place before (refused n) before
+  list-refusedAt : {n node : ℕ} → ListReported place before (refusedAt n node) before
+
+-- Where a shown text lies, three words: its offset, its length, and 0 for the report or 1 for the grammar file.
+abbrev pub partWords : Part → List ℕ
+partWords (inReport offset length) = offset ∷ length ∷ 0 ∷ []
+partWords (inFile offset length) = offset ∷ length ∷ 1 ∷ []
+
 -- The upper end of plain values: a column, unless it is without end.
 abbrev pub upperFrom : ℕ → Bool → Upper
 upperFrom upper endless = cond endless Endless (At upper)
@@ -63,3 +80,7 @@ upperFrom upper endless = cond endless Endless (At upper)
 abbrev pub startFrom : (node place lower upper : ℕ) (endless flag : Bool) (mode : ℕ) → Start
 startFrom node place lower upper endless flag mode =
     record { node = node; place = place; interval = to lower (upperFrom upper endless); flag = flag; mode = mode }
+
+-- The capture of plain values.
+abbrev pub captureFrom : (rule first after around : ℕ) → Capture
+captureFrom rule first after around = record { rule = rule; first = first; after = after; around = around }

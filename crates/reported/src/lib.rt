@@ -1,9 +1,11 @@
-// What the C interface reports of an answer: its number, and the words of a read, a scan and a run. The exported functions
-// hand on to these what a part answered.
+// What the C interface reports of an answer: its number, and the words of a read, a scan, a run, a run that lists and a
+// shown text. The exported functions hand on to these what a part answered.
 use columns::State;
 use columns::Upper;
 use grammar_file::FileRead;
+use interpreter::Listed;
 use interpreter::Ran;
+use shown_text::ShownPart;
 use table::refusals;
 use token_words::Scanned;
 use well_formed::Verdict;
@@ -12,9 +14,10 @@ ghost use Prim.Native.Nat.{ℕ, _+_, _*_};
 ghost use Rattle.grammar_file.specs.File.{numbers as fileNumbers};
 ghost use Rattle.token_words.specs.Numbers.{numbers as scanNumbers};
 ghost use Rattle.well_formed.specs.Check.{numbers as checkNumbers};
-ghost use Rattle.interpreter.specs.Numbers.{numbers};
-ghost use Rattle.reported.specs.Reported.{number, reported, contentsWords, countWords};
-ghost use Rattle.reported.specs.Reported.{successWords, RunReported};
+ghost use Rattle.interpreter.specs.Numbers.{numbers, listNumbers};
+ghost use Rattle.shown_text.specs.Shown.{numbers as shownNumbers};
+ghost use Rattle.reported.specs.Reported.{number, reported, contentsWords, countWords, partWords};
+ghost use Rattle.reported.specs.Reported.{successWords, RunReported, ListReported};
 
 // Reports what a read of a grammar file answered: the five words where it was read.
 pub fn report_read(x: FileRead, result: &mut [usize; 5]) -> u32
@@ -77,6 +80,44 @@ pub fn report(x: Ran, result: &mut [usize; 6]) -> u32
         }
         Ran::Refused(n) => n as u32,
         Ran::IllFormed(node) => seven_at(node),
+    }
+}
+
+// Reports what a run that lists answered, wherever it began.
+pub fn report_list(x: Listed, result: &mut [usize; 7]) -> u32
+    ensures { λ r. ⌜ ((place : ℕ) → r ≡ number (listNumbers place x)) ⌝ }
+    ensures { λ r. ⌜ ((place : ℕ) → ListReported place (now (result .entry)) (listNumbers place x) (now (result .exit))) ⌝ }
+{
+    match x {
+        Listed::Success(read, s, count) => {
+            let w = success_words(read, s);
+            *result = [w[0], w[1], w[2], w[3], w[4], w[5], count];
+            0
+        }
+        Listed::Failure => {
+            result[0] = 0;
+            0
+        }
+        Listed::Refused(n) => n as u32,
+        Listed::IllFormed(node) => seven_at(node),
+    }
+}
+
+// Reports where a shown text lies: its offset, its length and which slice, 0 for the report and 1 for the grammar file.
+pub fn report_shown(x: ShownPart, result: &mut [usize; 3]) -> u32
+    ensures { λ r. ⌜ r ≡ number (shownNumbers x) ⌝ }
+    ensures { λ r. ⌜ now (result .exit) ≡ reported partWords (shownNumbers x) (now (result .entry)) ⌝ }
+{
+    match x {
+        ShownPart::InReport { offset, length } => {
+            *result = [offset, length, 0];
+            0
+        }
+        ShownPart::InFile { offset, length } => {
+            *result = [offset, length, 1];
+            0
+        }
+        ShownPart::Refused(n) => n as u32,
     }
 }
 

@@ -20,13 +20,13 @@ loop-less : tie.Need-loop-less Inv-loop μ-loop
 loop-less c = omega (arith, c .before .loop .inv .1 .long)
 
 loop-again : tie.Need-loop-again Inv-loop μ-loop
-loop-again c = (omega (arith, c .before .loop .inv .0), clear-next (c .before .loop .inv .0) (c .loop-test .taken) (c .before .loop .inv .1))
+loop-again c = (omega (arith, c .before .loop .inv .0), clear-next (c .before .loop .inv .0) (omega (arith, c .loop-test .taken)) (c .before .loop .inv .1))
 
 same-length : tie.Need-same-length Inv-loop μ-loop
 same-length c = c .before .loop .inv .1 .long
 
 returns : tie.Need-returns Inv-loop μ-loop
-returns c = cleared-is _ _ _ _ (c .loop-test .left) (c .before .loop .inv .1)
+returns c = cleared-is _ _ _ _ (omega (arith, c .loop-test .left)) (c .before .loop .inv .1)
 
 pub clear-spec : {M : Type 1} → statement M
 clear-spec =

@@ -3,16 +3,17 @@ use borrow.Author.Needs.{needs}
 use Rattle.capture_list.proofs.put.Statement.{statement}
 use Rattle.capture_list.proofs.put.Tie as tie
 use native.Mathlib.Omega.{arith}
-use Rattle.capture_list.proofs.ListLaws.{room-two, room-three, room-four, put-there, put-nowhere}
+use lib.ListN.{length-set}
+use Rattle.capture_list.proofs.ListLaws.{put-there, put-nowhere}
 
 slice-write-list-2 : tie.Need-slice-write-list-2
-slice-write-list-2 c = room-two (c .before .args .list .now) (c .before .args .n) (c .before .args .c) (omega arith)
+slice-write-list-2 c = simp length-set (omega arith)
 
 slice-write-list-3 : tie.Need-slice-write-list-3
-slice-write-list-3 c = room-three (c .before .args .list .now) (c .before .args .n) (c .before .args .c) (omega arith)
+slice-write-list-3 c = simp length-set (omega arith)
 
 slice-write-list-4 : tie.Need-slice-write-list-4
-slice-write-list-4 c = room-four (c .before .args .list .now) (c .before .args .n) (c .before .args .c) (omega arith)
+slice-write-list-4 c = simp length-set (omega arith)
 
 returns : tie.Need-returns
 returns c = put-there (c .before .args .list .now) (c .before .args .n) (c .before .args .c) (c .if1 .taken)

@@ -11,7 +11,7 @@ returns c =
     let start = counted .before .before .before .before .before .before in
     let x =
     list-13 (start .args .nodes .now) (start .args .rules .now) (start .args .tokens .now) (start .args .start) (start .pre)
-    (start .args .captures .now) (start .good .1 .1 .1 .1 .0 .0) (counted .walk-from .ensures .count) (c .if1 .taken) in
+    (start .args .captures .now) (start .good .1 .1 .1 .1 .0 .0) (counted .walk-from .ensures .count) (omega (arith, c .if1 .taken)) in
     (x .0, (x .1, tt))
 
 returns-2 : tie.Need-returns-2
@@ -21,7 +21,7 @@ returns-2 c =
     let counted = walked .before .before .before .before in
     let start = counted .before .before .before .before .before .before in
     list-failure (start .args .nodes .now) (start .args .rules .now) (start .args .tokens .now) (start .args .start) (start .pre)
-    (start .args .captures .now) (start .good .1 .1 .1 .1 .0 .0) (counted .walk-from .ensures .count) (walked .before .before .if1 .left)
+    (start .args .captures .now) (start .good .1 .1 .1 .1 .0 .0) (counted .walk-from .ensures .count) (omega (arith, walked .before .before .if1 .left))
     (walked .walk-from2 .ensures) (clear .clear .ensures) (c .enum-told .given .1)
 
 sub-read : tie.Need-sub-read
@@ -43,7 +43,7 @@ returns-3 c =
     let counted = walked .before .before .before .before in
     let start = counted .before .before .before .before .before .before in
     list-success (start .args .nodes .now) (start .args .rules .now) (start .args .tokens .now) (start .args .start) (start .pre)
-    (start .args .captures .now) (start .good .1 .1 .1 .1 .0 .0) (counted .walk-from .ensures .count) (walked .before .before .if1 .left)
+    (start .args .captures .now) (start .good .1 .1 .1 .1 .0 .0) (counted .walk-from .ensures .count) (omega (arith, walked .before .before .if1 .left))
     (walked .walk-from2 .ensures) (clear .clear .ensures) (x .x .given .0 .0) (x .x .given .1)
 
 pub begin-list-spec : {M : Type 1} → statement M

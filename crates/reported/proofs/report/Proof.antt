@@ -3,14 +3,14 @@ use borrow.Author.Needs.{needs}
 use Rattle.reported.proofs.report.Statement.{statement}
 use Rattle.reported.proofs.report.Tie as tie
 use mathlib.Core.Path.{refl}
-use Rattle.reported.specs.Reported.{of-success, of-failure}
-use Rattle.reported.proofs.ReportLaws.{number-refused, words-refused, number-named, words-named}
+use Rattle.reported.specs.Reported.{of-success}
+use Rattle.reported.proofs.ReportLaws.{number-failed, words-failed, number-refused, words-refused, number-named, words-named}
 
 returns : tie.Need-returns
 returns c = (λ place. rw (c .before .before .x .given .1) refl, λ place. rw (c .before .before .x .given .1, c .success-words .ensures) (of-success refl))
 
 returns-2 : tie.Need-returns-2
-returns-2 c = (λ place. rw (c .enum-told .given .1) refl, λ place. rw (c .enum-told .given .1) of-failure)
+returns-2 c = (λ place. search number-failed, λ place. search words-failed)
 
 returns-3 : tie.Need-returns-3
 returns-3 c = (λ place. search number-refused, λ place. search words-refused)

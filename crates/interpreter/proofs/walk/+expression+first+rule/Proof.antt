@@ -21,7 +21,7 @@ use Rattle.after_child.proofs.left.Reads as left-reads
 use Rattle.interpreter.proofs.states.token.Reads as token-reads
 use Rattle.capture_list.proofs.more.Reads as more-reads
 use Rattle.capture_list.proofs.put.Reads as put-reads
-use Rattle.interpreter.proofs.walk.puts_back.Reads as puts-back-reads
+use Rattle.capture_list.proofs.puts_back.Reads as puts-back-reads
 use Rattle.interpreter.proofs.walk.+expression+first+rule.{statement}
 use Rattle.interpreter.proofs.walk.+expression+first+rule.Tie.{close}
 use mathlib.Core.Path.{_∙_}
@@ -31,7 +31,7 @@ use borrow.Author.Needs.{needs}
 use native.Mathlib.Omega.{arith}
 use Rattle.table.specs.Form.{standsFor}
 use Rattle.interpreter.specs.InternalWalk.{childState, weight}
-use Rattle.capture_list.proofs.ListLaws.{room-rule}
+use Rattle.capture_list.proofs.ListLaws.{room-inside}
 use Rattle.interpreter.proofs.WalkLaws.{Walk, start, for-node, out-empty, rule-less, rule-ready, rule-room, out-rule}
 use Rattle.interpreter.proofs.WalkLaws.{position-less, position-again, call-less, call-ready, call-room, call-long}
 use Rattle.interpreter.proofs.WalkLaws.{choice-less, choice-again, out-not, out-repeat, out-failed, out-terminal}
@@ -449,21 +449,24 @@ module _ (t : ℕ) where
   abbrev start-of : In-rule rule-lts.After-more → In-rule rule-lts.Start
   start-of c = c .before .before .before .before .before .before .before .before
 
-  rule-add-count : In-rule rule-lts.Need-add-count
-  rule-add-count c = omega (arith, start-of c .pre .1 .1 .deep)
+  rule-add-inside : In-rule rule-lts.Need-add-inside
+  rule-add-inside c = omega (arith, c .before .before .before .before .before .before .before .pre .1 .1 .deep)
 
   rule-expression-requires : In-rule rule-lts.Need-expression-requires
   rule-expression-requires c κs =
       let more = c .before .before .before in
       let start = start-of more in
-      (node-less (start .pre .1 .0) (start .pre .0), (start .pre .1 .0 .ready, room-rule _ (start .pre .1 .1) (more .more .ensures)))
+      let room = start .pre .1 .1 in (
+        node-less (start .pre .1 .0) (start .pre .0),
+        (start .pre .1 .0 .ready, room-inside _ room (omega arith) (omega (arith, more .more .ensures, room .count))),
+      )
 
   -- From behind the expression walk.
   abbrev more-of : In-rule rule-lts.After-expression → In-rule rule-lts.After-more
   more-of c = c .before .before .before .before
 
-  rule-cast-t33 : In-rule rule-lts.Need-cast-t33
-  rule-cast-t33 c =
+  rule-cast-t34 : In-rule rule-lts.Need-cast-t34
+  rule-cast-t34 c =
       let walked = c .before .before .before .before .before .before .before in
       omega (arith, start-of (more-of walked) .pre .1 .1 .deep)
 
@@ -508,6 +511,6 @@ pub +expression+first+rule-spec : {M : Type 1} → statement M
     (λ c. search needs) (λ c. search needs) (first-returns-2 t) (λ c. search needs) (first-returns-3 t))
     (λ t.
     rule-lts.spec (rule-claims t) (rule-at t) rule.Post (λ c. search needs) (rule-shared-slice-read-node t)
-    (λ c. search needs) (λ c. search needs) (λ c κs. search needs) (rule-add-count t) (rule-expression-requires t)
-    (λ c. search needs) (λ c. search needs) (λ c. search needs) (rule-cast-t33 t) (λ c κs. search needs)
+    (λ c. search needs) (λ c. search needs) (rule-add-inside t) (λ c κs. search needs) (rule-expression-requires t)
+    (λ c. search needs) (λ c. search needs) (λ c. search needs) (rule-cast-t34 t) (λ c κs. search needs)
     (λ c. search needs) (rule-returns t) (λ c. search needs) (rule-returns-2 t))

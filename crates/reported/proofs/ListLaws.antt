@@ -1,0 +1,75 @@
+-- What is reported of each case of a run that lists, and that it is reported in one way.
+use Prim.Native.Nat.{ℕ, _+_, _*_}
+use mathlib.Core.Path.{_≡_, refl, ap}
+use native.Mathlib.Omega.{arith}
+use mathlib.Core.Bool.{Bool}
+use mathlib.Core.List.{List, [], _∷_, _++_}
+use lib.ListN.{getD, set}
+use Rattle.table.specs.Answer.{Answer}
+use Rattle.columns.specs.Intervals.{to}
+use Rattle.columns.specs.declared.Interval.{Interval}
+use Rattle.columns.specs.declared.State.{State}
+use Rattle.columns.specs.declared.Upper.{Upper}
+use Rattle.columns.specs.declared.Upper.the-variants.{At, Endless}
+use Rattle.clauses.specs.ListAnswer.{Listing}
+use Rattle.interpreter.specs.Numbers.{listNumbers}
+use Rattle.interpreter.specs.declared.Listed.{Listed}
+use Rattle.interpreter.specs.declared.Listed.the-variants.{Success, Failure, Refused, IllFormed}
+use Rattle.reported.specs.Reported.{number, successWords}
+use Rattle.reported.specs.Reported.{ListReported, list-success, list-failure, list-refused, list-refusedAt}
+
+-- Six words, taken one by one, and a seventh behind them.
+abbrev pub sevenWords : List ℕ → ℕ → List ℕ
+sevenWords w n = getD w 0 0 ∷ getD w 1 0 ∷ getD w 2 0 ∷ getD w 3 0 ∷ getD w 4 0 ∷ getD w 5 0 ∷ n ∷ []
+
+by-upper :
+    (read lower : ℕ) (upper : Upper) (flag : Bool) (n : ℕ)
+    → let w = successWords read (to lower upper) flag in sevenWords w n ≡ w ++ (n ∷ [])
+by-upper read lower (At h) flag n = refl
+by-upper read lower Endless flag n = refl
+
+seven-words : (read : ℕ) (c : Interval) (flag : Bool) (n : ℕ) → let w = successWords read c flag in sevenWords w n ≡ w ++ (n ∷ [])
+seven-words read c flag n = by-upper read (c .lower) (c .upper) flag n
+
+module _ {x : Listed} {read n : ℕ} {s : State} (e : x ≡ Success read s n) (place : ℕ) where
+  pub number-listed : 0 ≡ number (listNumbers place x)
+  number-listed = rw e refl
+
+  pub words-listed :
+      {w : List ℕ}
+      → w ≡ successWords read (s .interval) (s .flag)
+      → (before : List ℕ)
+      → ListReported place before (listNumbers place x) (sevenWords w n)
+  words-listed q before = rw (e, q, seven-words) (list-success refl)
+
+module _ {x : Listed} (e : x ≡ Failure) (place : ℕ) where
+  pub number-failed : 0 ≡ number (listNumbers place x)
+  number-failed = rw e refl
+
+  pub words-failed : (before : List ℕ) → ListReported place before (listNumbers place x) (set before 0 0)
+  words-failed before = rw e list-failure
+
+module _ {x : Listed} {n : ℕ} where
+  pub number-refused : x ≡ Refused n → (place : ℕ) → n ≡ number (listNumbers place x)
+  number-refused e place = rw e refl
+
+  pub words-refused : x ≡ Refused n → (place : ℕ) (before : List ℕ) → ListReported place before (listNumbers place x) before
+  words-refused e place before = rw e list-refused
+
+  pub number-named : x ≡ IllFormed n → {r : ℕ} → r ≡ 7 + 65536 * n → (place : ℕ) → r ≡ number (listNumbers place x)
+  number-named e q place = rw e q
+
+  pub words-named : x ≡ IllFormed n → (place : ℕ) (before : List ℕ) → ListReported place before (listNumbers place x) before
+  words-named e place before = rw e list-refusedAt
+
+-- The relation fixes every word, as that of a run without a list does.
+pub one-report :
+    {place : ℕ} {before after after' : List ℕ} {a : Answer Listing}
+    → ListReported place before a after
+    → ListReported place before a after'
+    → after ≡ after'
+one-report (list-success {read = read} {count = count} {c = c} {flag = flag} e) (list-success {read = read'} e') =
+    ap (λ (n : ℕ). successWords n c flag ++ (count ∷ [])) (let q : read ≡ read' = omega arith in q)
+one-report list-failure list-failure = refl
+one-report list-refused list-refused = refl
+one-report list-refusedAt list-refusedAt = refl
