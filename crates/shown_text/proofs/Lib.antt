@@ -1,3 +1,4 @@
+pub mod ShownCasesHold
 pub mod FieldPlaces
 pub mod TagLaws
 pub mod NamePlaces
