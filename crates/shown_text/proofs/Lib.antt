@@ -1,4 +1,4 @@
-pub mod ShownCasesHold
+pub mod CasesHold
 pub mod FieldPlaces
 pub mod TagLaws
 pub mod NamePlaces

@@ -14,14 +14,14 @@ use Rattle.report_checks.specs.FirstChecks.{firstAnswer}
 use Rattle.clauses.specs.Limits.{fails11}
 use Rattle.capture_checks.specs.Fourteen.{offsetsFall, fails14}
 use Rattle.shown_text.specs.Shown.{widths, nameOffset, partShown, shownAnswer, shownBytes}
-use Rattle.shown_text.specs.ShownCases.{ShownCase, expected, told, reportCases, nameCases, refusedCases}
+use Rattle.shown_text.specs.Cases.{ShownCase, expected, told, reportCases, nameCases, refusedCases}
 
 abbrev cases : List ShownCase
 cases = reportCases ++ nameCases ++ refusedCases
 
-pub shown-cases-hold : map told cases ≡ map expected cases
+pub cases-hold : map told cases ≡ map expected cases
 unfolding told reportCases nameCases refusedCases eachWords every fails3 fails4 fails5 rightWords isSingle classOf firstField
     fieldsUpTo fields laterTags inOrder tagged rightLength spelled singleAlone sameBytes distinct rightSpellings rightValue
     rightValues keywords ruleList ruleNames nodeTable startValue unreadable fails1 fails2 fails5ByFile contents fileAnswer
     nameBytes fails8 firstAnswer fails11 offsetsFall fails14 widths nameOffset partShown shownAnswer shownBytes
-shown-cases-hold = refl
+cases-hold = refl

@@ -1,5 +1,5 @@
 -- Shown texts, and calls that are refused, with the answers that 02, Note 2, gives. A case is a grammar file, a report, the
--- tokens' words and a capture; expected are the answer, by `shownAnswer`, and the bytes, by `shownBytes`. `ShownCasesHold`,
+-- tokens' words and a capture; expected are the answer, by `shownAnswer`, and the bytes, by `shownBytes`. `CasesHold`,
 -- in proofs, computes them all.
 use Prim.Native.Nat.{ℕ}
 use mathlib.Core.List.{List, [], _∷_, _++_}
