@@ -20,7 +20,8 @@ use Rattle.columns.specs.declared.Capture.{Capture}
 use Rattle.clauses.specs.Limits.{fails11}
 use Rattle.token_words.specs.Places.{places}
 use Rattle.token_words.specs.Scan.{tokens, wordsOf, scanTokens, fails9, fails10, scanAnswer}
-use Rattle.shown_text.specs.Shown.{tokenOffset, tokenEnd, lastToken, offsetsFall, fails14, partShown, shownAnswer}
+use Rattle.capture_checks.specs.Fourteen.{tokenOffset, tokenEnd, lastToken, offsetsFall, fails14}
+use Rattle.shown_text.specs.Shown.{partShown, shownAnswer}
 use Rattle.shown_text.proofs.NamePlaces.{readable}
 use Rattle.shown_text.proofs.ShownLaws.{first-given}
 use Rattle.shown_scans.proofs.PlacesRise.{places-rise, ends-inside, next-offset}

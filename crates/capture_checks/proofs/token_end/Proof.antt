@@ -1,7 +1,7 @@
--- `shown_text::token_end` meets its contract.
+-- `capture_checks::token_end` meets its contract.
 use borrow.Author.Needs.{needs}
-use Rattle.shown_text.proofs.token_end.Statement.{statement}
-use Rattle.shown_text.proofs.token_end.Tie as tie
+use Rattle.capture_checks.proofs.token_end.Statement.{statement}
+use Rattle.capture_checks.proofs.token_end.Tie as tie
 use Prim.Native.Nat.{_+_}
 use mathlib.Core.Path.{ap₂}
 

@@ -1,7 +1,7 @@
--- `shown_text::word` meets its contract.
+-- `capture_checks::word` meets its contract.
 use borrow.Author.Needs.{needs}
-use Rattle.shown_text.proofs.word.Statement.{statement}
-use Rattle.shown_text.proofs.word.Tie as tie
+use Rattle.capture_checks.proofs.word.Statement.{statement}
+use Rattle.capture_checks.proofs.word.Tie as tie
 use mathlib.Core.Path.{sym}
 use lib.ListN.{List·getD-eq-default}
 

@@ -11,7 +11,7 @@ use lib.Dec.{leb, ltb}
 use Rattle.table.specs.Every.{every}
 use Rattle.table.proofs.Every.{and-left, and-right, both-false}
 use Rattle.columns.specs.declared.Capture.{Capture}
-use Rattle.shown_text.specs.Shown.{tokenOffset, tokenEnd, lastToken, readsTokens, offsetsFall, fails14}
+use Rattle.capture_checks.specs.Fourteen.{tokenOffset, tokenEnd, lastToken, readsTokens, offsetsFall, fails14}
 
 module _ (rules bytes : ℕ) (words : List ℕ) (c : Capture) where
   pub no-rule : rules ≤ c .rule → true ≡ fails14 rules bytes words c

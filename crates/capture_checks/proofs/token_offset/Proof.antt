@@ -1,7 +1,7 @@
--- `shown_text::token_offset` meets its contract.
+-- `capture_checks::token_offset` meets its contract.
 use borrow.Author.Needs.{needs}
-use Rattle.shown_text.proofs.token_offset.Statement.{statement}
-use Rattle.shown_text.proofs.token_offset.Tie as tie
+use Rattle.capture_checks.proofs.token_offset.Statement.{statement}
+use Rattle.capture_checks.proofs.token_offset.Tie as tie
 
 returns : tie.Need-returns
 returns c = c .word .ensures

@@ -1,6 +1,6 @@
--- `shown_text::offsets_fall` meets its contract. The loop's invariant: no offset of the first `i` pairs falls.
-use Rattle.shown_text.proofs.offsets_fall.Statement.{statement}
-use Rattle.shown_text.proofs.offsets_fall.Tie as tie
+-- `capture_checks::offsets_fall` meets its contract. The loop's invariant: no offset of the first `i` pairs falls.
+use Rattle.capture_checks.proofs.offsets_fall.Statement.{statement}
+use Rattle.capture_checks.proofs.offsets_fall.Tie as tie
 use Prim.Native.Nat.{_-_, _≤_}
 use mathlib.Core.Path.{_≡_, refl, sym, ap, ap₂, _∙_}
 use mathlib.Core.Bool.{true, not}
@@ -9,8 +9,8 @@ use borrow.Author.Tests.{le-leb, lt-leb}
 use lib.Dec.{leb}
 use Rattle.table.specs.Every.{every}
 use Rattle.table.proofs.Every.{every-more, every-fails}
-use Rattle.shown_text.specs.Shown.{offsetsFall}
-use Rattle.shown_text.proofs.CaptureLaws.{notBelow}
+use Rattle.capture_checks.specs.Fourteen.{offsetsFall}
+use Rattle.capture_checks.proofs.CaptureLaws.{notBelow}
 
 abbrev Inv-loop : tie.InvT-loop
 Inv-loop tokens first after pairs i₀ i = (i ≤ pairs) × (every i (notBelow tokens first) ≡ true)

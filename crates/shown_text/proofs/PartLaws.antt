@@ -18,11 +18,11 @@ use Rattle.report_checks.specs.Report.{fails8}
 use Rattle.report_checks.specs.FirstChecks.{firstAnswer}
 use Rattle.columns.specs.declared.Capture.{Capture}
 use Rattle.clauses.specs.Limits.{fails11}
+use Rattle.capture_checks.specs.Fourteen.{tokenOffset, tokenEnd, lastToken, fails14}
+use Rattle.capture_checks.proofs.CaptureLaws.{Right, right-capture, begins-before}
 use Rattle.shown_text.specs.declared.ShownPart.{ShownPart}
 use Rattle.shown_text.specs.declared.ShownPart.the-variants.{InReport, InFile, Refused}
-use Rattle.shown_text.specs.Shown.{inFile, tokenOffset, tokenEnd, lastToken}
-use Rattle.shown_text.specs.Shown.{fails14, partShown, shownAnswer, shownBytes, numbers}
-use Rattle.shown_text.proofs.CaptureLaws.{Right, right-capture, begins-before}
+use Rattle.shown_text.specs.Shown.{inFile, partShown, shownAnswer, shownBytes, numbers}
 use Rattle.shown_text.proofs.NamePlaces.{readable, name-from, length-from}
 use Rattle.shown_text.proofs.ShownLaws.{shown-inside, part-shown, none-shown}
 

@@ -1,9 +1,9 @@
--- `shown_text::capture_wrong` meets its contract.
+-- `capture_checks::capture_wrong` meets its contract.
 use borrow.Author.Needs.{needs}
-use Rattle.shown_text.proofs.capture_wrong.Statement.{statement}
-use Rattle.shown_text.proofs.capture_wrong.Tie as tie
+use Rattle.capture_checks.proofs.capture_wrong.Statement.{statement}
+use Rattle.capture_checks.proofs.capture_wrong.Tie as tie
 use native.Mathlib.Omega.{arith}
-use Rattle.shown_text.proofs.CaptureLaws.{no-rule, no-tokens, turned, falls, last-end, no-end}
+use Rattle.capture_checks.proofs.CaptureLaws.{no-rule, no-tokens, turned, falls, last-end, no-end}
 
 returns : tie.Need-returns
 returns c =
