@@ -9,6 +9,7 @@ use Rattle.columns.specs.declared.Upper.{Upper}
 use Rattle.columns.specs.declared.Upper.the-variants.{At, Endless}
 use Rattle.columns.specs.declared.Interval.{Interval}
 use Rattle.columns.specs.declared.Start.{Start}
+use Rattle.columns.specs.declared.Capture.{Capture}
 use Rattle.grammar_file.specs.File.{Contents}
 use Rattle.clauses.specs.Clauses.{Outcome, success, failure}
 use Rattle.clauses.specs.RunAnswer.{Reads}
@@ -79,3 +80,7 @@ upperFrom upper endless = cond endless Endless (At upper)
 abbrev pub startFrom : (node place lower upper : ℕ) (endless flag : Bool) (mode : ℕ) → Start
 startFrom node place lower upper endless flag mode =
     record { node = node; place = place; interval = to lower (upperFrom upper endless); flag = flag; mode = mode }
+
+-- The capture of plain values.
+abbrev pub captureFrom : (rule first after around : ℕ) → Capture
+captureFrom rule first after around = record { rule = rule; first = first; after = after; around = around }

@@ -1,5 +1,6 @@
-// The C interface: the four parts, the program's line and the names of a file over plain slices. `include/saktroum.h`
-// declares it for C.
+// The C interface: the four parts, captures and what is shown for them, the program's line and the names of a file, over
+// plain slices. `include/saktroum.h` declares it for C.
+use columns::Capture;
 use columns::Interval;
 use columns::Start;
 use columns::Upper;
@@ -10,9 +11,11 @@ ghost use Rattle.grammar_file.specs.File.{fieldsOf, nodeTable, ruleList, readAn
 ghost use Rattle.token_words.specs.Scan.{wordsOf, scanTokens, scanAnswer};
 ghost use Rattle.well_formed.specs.Check.{checkAnswer};
 ghost use Rattle.clauses.specs.RunAnswer.{runAnswer};
+ghost use Rattle.clauses.specs.ListAnswer.{listAnswer, listAfter};
+ghost use Rattle.shown_text.specs.Shown.{shownAnswer};
 ghost use Rattle.line.specs.Line.{lineCount, lineAfter};
-ghost use Rattle.reported.specs.Reported.{number, reported, contentsWords, countWords, RunReported};
-ghost use Rattle.reported.specs.Reported.{upperFrom, startFrom};
+ghost use Rattle.reported.specs.Reported.{number, reported, contentsWords, countWords, partWords};
+ghost use Rattle.reported.specs.Reported.{RunReported, ListReported, upperFrom, startFrom, captureFrom};
 ghost use Rattle.slices.specs.Copied.{copied};
 
 // Reads a grammar file. The answer is 0, with the counts of nodes, rules and keywords, the start node and its mode in
@@ -94,19 +97,98 @@ pub extern "C" fn saktroum_run(
         (startFrom node place lower upper endless flag mode))
         (now (result .exit)) ⌝ }
 {
+    let start = start_from(node, place, lower, upper, endless, flag, mode);
+    let x = interpreter::run(nodes, rules, tokens, start);
+    reported::report(x, result)
+}
+
+// Runs a grammar in the same way and lists its captures, four words each, with zeros behind them. A success has their
+// number in `result` besides.
+#[no_mangle]
+pub extern "C" fn saktroum_list(
+    nodes: &[u16],
+    rules: &[u16],
+    tokens: &[u32],
+    node: u16,
+    place: u32,
+    lower: u32,
+    upper: u32,
+    endless: bool,
+    flag: bool,
+    mode: u16,
+    captures: &mut [u32],
+    result: &mut [usize; 7],
+) -> u32
+    ensures { λ r. ⌜ r
+        ≡ number (listAnswer (now (nodes .entry)) (now (rules .entry)) (now (tokens .entry))
+        (startFrom node place lower upper endless flag mode) (length (now (captures .entry)))) ⌝ }
+    ensures { λ r. ⌜ now (captures .exit)
+        ≡ listAfter (now (nodes .entry)) (now (rules .entry)) (now (tokens .entry))
+        (startFrom node place lower upper endless flag mode) (now (captures .entry)) ⌝ }
+    ensures { λ r. ⌜ ListReported place (now (result .entry))
+        (listAnswer (now (nodes .entry)) (now (rules .entry)) (now (tokens .entry))
+        (startFrom node place lower upper endless flag mode) (length (now (captures .entry))))
+        (now (result .exit)) ⌝ }
+{
+    let start = start_from(node, place, lower, upper, endless, flag, mode);
+    let x = interpreter::list(nodes, rules, tokens, start, captures);
+    reported::report_list(x, result)
+}
+
+// Says where the text shown for a capture lies. The answer is 0, with its offset, its length and the slice that it lies
+// in, 0 for the report and 1 for the file, in `result`, or the number that refused the call.
+#[no_mangle]
+pub extern "C" fn saktroum_shown(
+    file: &[u8],
+    report: &[u8],
+    tokens: &[u32],
+    rule: u32,
+    first: u32,
+    after: u32,
+    around: u32,
+    result: &mut [usize; 3],
+) -> u32
+    ensures { λ r. ⌜ r
+        ≡ number (shownAnswer (now (file .entry)) (now (report .entry)) (now (tokens .entry))
+        (captureFrom rule first after around)) ⌝ }
+    ensures { λ r. ⌜ now (result .exit)
+        ≡ reported partWords
+        (shownAnswer (now (file .entry)) (now (report .entry)) (now (tokens .entry)) (captureFrom rule first after around))
+        (now (result .entry)) ⌝ }
+{
+    let capture = Capture {
+        rule,
+        first,
+        after,
+        around,
+    };
+    let x = shown_text::shown(file, report, tokens, capture);
+    reported::report_shown(x, result)
+}
+
+// The start of a run.
+fn start_from(
+    node: u16,
+    place: u32,
+    lower: u32,
+    upper: u32,
+    endless: bool,
+    flag: bool,
+    mode: u16,
+) -> Start
+    ensures { λ r. ⌜ r ≡ startFrom node place lower upper endless flag mode ⌝ }
+{
     let interval = Interval {
         lower,
         upper: upper_from(upper, endless),
     };
-    let start = Start {
+    Start {
         node,
         place,
         interval,
         flag,
         mode,
-    };
-    let x = interpreter::run(nodes, rules, tokens, start);
-    reported::report(x, result)
+    }
 }
 
 // The upper end of a start.

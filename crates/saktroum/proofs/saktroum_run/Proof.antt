@@ -3,8 +3,8 @@ use borrow.Author.Needs.{needs}
 use Rattle.saktroum.proofs.saktroum_run.Statement.{statement}
 use Rattle.saktroum.proofs.saktroum_run.Tie as tie
 
-upper-from-requires : tie.Need-upper-from-requires
-upper-from-requires c κs = search needs
+start-from-requires : tie.Need-start-from-requires
+start-from-requires c κs = search needs
 
 run-requires : tie.Need-run-requires
 run-requires c κs = search needs
@@ -15,10 +15,11 @@ report-requires c κs = search needs
 returns : tie.Need-returns
 returns c =
     let at-run = c .before .before in
-    let place = at-run .before .before .before .before .before .args .place in
+    let start = at-run .before .start-from .result in
+    let begun = at-run .before .start-from .ensures in
     let answered = at-run .run .ensures .0 in
-    let from-upper = at-run .before .upper-from .ensures in
-    (rw (answered, from-upper) at (c .report .ensures .0 place), rw (answered, from-upper) at (c .report .ensures .1 place))
+    let handed = c .report .ensures in
+    (rw (answered, begun) at (handed .0 (start .place)), rw (answered, begun) at (handed .1 (start .place)))
 
 pub saktroum-run-spec : {M : Type 1} → statement M
-saktroum-run-spec = tie.close (tie.spec upper-from-requires run-requires report-requires returns)
+saktroum-run-spec = tie.close (tie.spec start-from-requires run-requires report-requires returns)
