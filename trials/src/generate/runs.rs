@@ -23,7 +23,8 @@ impl RunInput {
     }
 }
 
-/// An input for the interpreter; its tables serve the check as well.
+/// An input for the interpreter; its tables serve the check as well. The stack must do for
+/// a run.
 pub fn run_input(rng: &mut Rng) -> RunInput {
     let alphabet = alphabet(rng);
     let mut grammar = if rng.chance(3) {

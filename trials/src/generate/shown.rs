@@ -17,7 +17,8 @@ pub struct ShownInput {
 }
 
 /// An input for the shown text. Mostly the tokens are the report's, and the capture is one
-/// of the file's own run on them; one or two things about them may be changed then.
+/// of the file's own run on them; one or two things about them may be changed then. The
+/// stack must do for that run.
 pub fn shown_input(rng: &mut Rng) -> ShownInput {
     let ReportInput {
         mut file, report, ..
