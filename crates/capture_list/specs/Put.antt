@@ -1,10 +1,12 @@
--- Captures in a lent slice (02, Note 2): one put at its place, the count, zeros from an index on.
+-- Captures in a lent slice (02, Note 2): the count, when it is put back, one capture put at its place, zeros from an index on.
 use Prim.Native.Nat.{ℕ, _+_, _-_, _*_, _/_, _^_, min}
-use mathlib.Core.Bool.{cond}
+use mathlib.Core.Bool.{Bool, true, cond}
 use mathlib.Core.List.{List, _++_}
 use lib.ListN.{length, set, take, replicate}
-use lib.Dec.{ltb}
+use lib.Dec.{ltb, eqb}
 use Rattle.columns.specs.declared.Capture.{Capture}
+use Rattle.columns.specs.declared.Outcome.{Outcome}
+use Rattle.columns.specs.declared.Outcome.the-variants.{Success, Failure}
 
 -- Where the count of captures stops; a choice of ours, above the places of every slice.
 abbrev pub mostCount : ℕ
@@ -13,6 +15,12 @@ mostCount = 2 ^ 62
 -- One capture more.
 abbrev pub oneMore : ℕ → ℕ
 oneMore n = min (n + 1) mostCount
+
+-- Whether the captures of what was walked first in a node of kind q are put back: "outside any not, any failed alternative
+-- and a repeat's last, failed round". Kind 5 is a not.
+abbrev pub putsBack : ℕ → Outcome → Bool
+putsBack q (Success u) = eqb q 5
+putsBack q Failure = true
 
 -- A slice with a capture's four words at place n.
 abbrev pub placed : ℕ → Capture → List ℕ → List ℕ

@@ -1,10 +1,13 @@
-// The list of captures while a grammar is walked, four words a place: one capture put at its place, the count of captures,
-// and the words behind the list.
+// The list of captures while a grammar is walked, four words a place: the count of captures, whether it is put back, one
+// capture put at its place, and the words behind the list.
 use columns::Capture;
+use columns::Outcome;
+use table::kinds;
 ghost use mathlib.Core.Path.{_≡_};
-ghost use Rattle.capture_list.specs.Put.{oneMore, capturePut, clearedFrom};
+ghost use Rattle.capture_list.specs.Put.{oneMore, putsBack, capturePut, clearedFrom};
 
-// Where the count stops: far above the places of any list. Rules can be so nested that there are more captures than numbers.
+// Where the count stops: far above the places of any list. Rules can be so nested that there are more
+// captures than a usize counts.
 const MOST: usize = 4611686018427387904;
 
 // One capture more.
@@ -15,6 +18,16 @@ pub fn more(n: usize) -> usize
         return n + 1;
     }
     MOST
+}
+
+// Whether the captures of what was walked first in a node of a kind are put back: where it failed, and in a not.
+pub fn puts_back(kind: u16, x: Outcome) -> bool
+    ensures { λ b. ⌜ b ≡ putsBack kind x ⌝ }
+{
+    match x {
+        Outcome::Failure => true,
+        Outcome::Success(_) => kind == kinds::NOT,
+    }
 }
 
 // Writes a capture at its place in the list, if there is such a place.

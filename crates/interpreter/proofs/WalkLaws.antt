@@ -36,12 +36,12 @@ use Rattle.theorems.proofs.ShownFacts.{shown, at-once}
 use Rattle.theorems.proofs.Existence.{outweighs}
 use Rattle.theorems.proofs.LimitLaws.{in-limits}
 use Rattle.after_child.specs.AfterChild.{leftState, alignedState}
-use Rattle.capture_list.specs.Put.{oneMore, capturePut}
+use Rattle.capture_list.specs.Put.{oneMore, putsBack, capturePut}
 use Rattle.capture_list.specs.InternalList.{aroundOf, soFar, Room, Lists, Leaves, lists, keeps}
 use Rattle.capture_list.proofs.ListLaws.{left-lists, left-keeps, lists-none, left-none, then-left, lists-back, room-less}
 use Rattle.capture_list.proofs.ListLaws.{room-then, keeps-rule, noted, lists-rule}
 use Rattle.interpreter.specs.InternalWalk.{stateOf, outcomeOf, childState, tokenOutcome, ReadyToken, weight, mostWeight, mostAmount, Checked}
-use Rattle.interpreter.specs.InternalWalk.{Ready, firstNode, ReadyFirst, ReadyRule, Gives, Walked, putsBack, WalkedFirst}
+use Rattle.interpreter.specs.InternalWalk.{Ready, firstNode, ReadyFirst, ReadyRule, Gives, Walked, WalkedFirst}
 use Rattle.interpreter.proofs.HighLaws.{ends-under}
 
 -- The form of a node, by its kind.

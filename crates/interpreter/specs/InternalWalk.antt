@@ -1,7 +1,7 @@
 -- What the walk's functions tell one another. No public promise rests on this file.
 use Prim.Native.Nat.{ℕ, zero, suc, _+_, _-_, _*_, _%_, _≤_, _<_, _^_}
 use mathlib.Core.Path.{_≡_}
-use mathlib.Core.Bool.{Bool, true, false, cond}
+use mathlib.Core.Bool.{true, false, cond}
 use mathlib.Core.List.{List}
 use lib.ListN.{length}
 use lib.Dec.{eqb}
@@ -24,6 +24,7 @@ use Rattle.clauses.specs.Trace.{Trace, dropped}
 use Rattle.clauses.specs.Evaluation.{reads}
 use Rattle.clauses.specs.Limits.{tokensOf, fails11}
 use Rattle.after_child.specs.AfterChild.{withInterval, withFlag}
+use Rattle.capture_list.specs.Put.{putsBack}
 use Rattle.capture_list.specs.InternalList.{Lists, Leaves}
 
 -- The declared states and outcomes as those of the clauses.
@@ -124,12 +125,7 @@ pub record Walked (nodes rules words : List ℕ) (τ : ℕ) (f : Form) (s : Stat
   pub gives : Gives nodes rules words τ f s o shown
   pub left : Leaves shown counts list counts' list' o
 
--- Whether the captures of what is walked first in a node of a kind are put back: where it failed, and in a not.
-abbrev pub putsBack : ℕ → Outcome → Bool
-putsBack q (Success u) = eqb q 5
-putsBack q Failure = true
-
--- What its walk shows.
+-- What the walk of what is walked first in a node of kind q shows: its captures, unless they are put back.
 pub record WalkedFirst (q : ℕ) (nodes rules words : List ℕ) (τ : ℕ) (f : Form) (s : State) (counts list : List ℕ) (o : Outcome)
     (counts' list' : List ℕ) : Type 0 where
   pub shown : Trace

@@ -12,6 +12,7 @@ use after_child::aligned;
 use after_child::left;
 use capture_list::more;
 use capture_list::put;
+use capture_list::puts_back;
 use columns::Capture;
 use columns::Outcome;
 use columns::State;
@@ -21,7 +22,7 @@ ghost use Prim.Native.Nat.{_+_};
 ghost use Rattle.table.specs.Form.{form, standsFor, rule as rule-form};
 ghost use Rattle.capture_list.specs.InternalList.{Room};
 ghost use Rattle.interpreter.specs.InternalWalk.{childState, firstNode, weight, Ready, ReadyFirst, ReadyRule};
-ghost use Rattle.interpreter.specs.InternalWalk.{Walked, putsBack, WalkedFirst};
+ghost use Rattle.interpreter.specs.InternalWalk.{Walked, WalkedFirst};
 
 // The outcome of a node in a mode from a state.
 pub(crate) fn expression(
@@ -160,16 +161,6 @@ fn first(
         return x;
     }
     x
-}
-
-// Whether the captures of what is walked first are put back: where it failed, and in a not.
-fn puts_back(kind: u16, x: Outcome) -> bool
-    ensures { λ b. ⌜ b ≡ putsBack kind x ⌝ }
-{
-    match x {
-        Outcome::Failure => true,
-        Outcome::Success(_) => kind == kinds::NOT,
-    }
 }
 
 // The outcome of a rule: that of its node. Its place in the list comes before those inside it.

@@ -21,7 +21,7 @@ use Rattle.after_child.proofs.left.Reads as left-reads
 use Rattle.interpreter.proofs.states.token.Reads as token-reads
 use Rattle.capture_list.proofs.more.Reads as more-reads
 use Rattle.capture_list.proofs.put.Reads as put-reads
-use Rattle.interpreter.proofs.walk.puts_back.Reads as puts-back-reads
+use Rattle.capture_list.proofs.puts_back.Reads as puts-back-reads
 use Rattle.interpreter.proofs.walk.+expression+first+rule.{statement}
 use Rattle.interpreter.proofs.walk.+expression+first+rule.Tie.{close}
 use mathlib.Core.Path.{_∙_}

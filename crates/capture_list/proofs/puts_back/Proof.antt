@@ -1,9 +1,9 @@
--- `interpreter::walk::puts_back` meets its contract.
+-- `capture_list::puts_back` meets its contract.
 use borrow.Author.Needs.{needs}
-use Rattle.interpreter.proofs.walk.puts_back.Statement.{statement}
-use Rattle.interpreter.proofs.walk.puts_back.Tie as tie
+use Rattle.capture_list.proofs.puts_back.Statement.{statement}
+use Rattle.capture_list.proofs.puts_back.Tie as tie
 use mathlib.Core.Path.{sym, ap}
-use Rattle.interpreter.specs.InternalWalk.{putsBack}
+use Rattle.capture_list.specs.Put.{putsBack}
 
 returns : tie.Need-returns
 returns c = sym (ap (putsBack (c .before .before .args .kind)) (c .enum-told .given .1))
