@@ -39,11 +39,11 @@ within node mode interval flag = record { node = node; place = 0; interval = int
 NAMED = ("equal", "greater", "atLeast", "any")
 
 
-def wrapped(items, first):
-    """Items with ∷ between them, in lines that are not too wide; the first begins the list or goes on with it."""
+def wrapped(items, first, sign="∷"):
+    """Items with a sign between them, in lines that are not too wide; the first begins the list or goes on with it."""
     lines, line = [], ""
     for item in items:
-        part = item if not line and first and not lines else f"∷ {item}"
+        part = item if not line and first and not lines else f"{sign} {item}"
         if line and len(f"{line} {part}".encode()) > WIDEST - 4:
             lines.append(line)
             line = part
@@ -158,6 +158,14 @@ def cases_part(grammars, reports, names):
     return case_list("handbookCases", "Case", lines)
 
 
+def capture_words(captures):
+    """The words of captures one behind the other, in lines."""
+    lines = wrapped([f"capture {' '.join(map(str, capture))}" for capture in captures], True, "++")
+    if not lines:
+        return ["[]"]
+    return ("(" + "\n".join(lines) + ")").split("\n")
+
+
 def lists_part(reports, names):
     """The list of runs with their captures, each into as many words as they take."""
     lines = []
@@ -166,10 +174,9 @@ def lists_part(reports, names):
             if case.captures is None:
                 continue
             count = len(case.captures)
-            words = " ++ ".join(f"capture {rule} {first} {after} {around}" for rule, first, after, around in case.captures)
             lines.append(titled(report, case))
             lines.append(f"∷ lists {call(report, case, names)} (nines {4 * count}) (counting {count} {answer(case.answer)})")
-            lines.append(f"({words})" if words else "[]")
+            lines += capture_words(case.captures)
     return case_list("handbookLists", "CaptureCase", lines)
 
 
