@@ -339,7 +339,8 @@ def main():
     if CASES.read_text(encoding="utf-8") != written:
         sys.exit(f"{CASES.relative_to(ROOT)}: not what the handbook's blocks make; --write writes it")
     runs = [case for report in reports for case in report.cases]
-    counts = f"{len(grammars)} grammars, {len(reports)} reports, {len(runs)} runs, {sum(c.entries for c in runs)} with their entries"
+    lists = sum(case.entries for case in runs)
+    counts = f"{len(grammars)} grammars, {len(reports)} reports, {len(runs)} runs, {lists} with entries"
     print(f"docs/HANDBOOK.md: {counts}, all as written")
 
 

@@ -6,6 +6,7 @@
 LIBRARY is the reader as a shared library (trials/library.py says how it is made).
 """
 
+import copy
 import sys
 import unittest
 
@@ -128,7 +129,18 @@ class Told(unittest.TestCase):
         self.says("(3) -> success", "3 -> success", f"25: {form}", LISTED)
         self.says("(1) entries ->", "(1) ->", "19: entries stand below a run with the part `entries`", LISTED)
         self.says("(1) entries ->", "(1) entry ->", "18: no such start: entry", LISTED)
-        self.says("(1) entries -> success 12", "(1) entries -> success 11", "18: the reader answers: success 12 0 0 clear", LISTED)
+        answers = "18: the reader answers: success 12 0 0 clear"
+        self.says("(1) entries -> success 12", "(1) entries -> success 11", answers, LISTED)
+
+    def test_parts(self):
+        """A run that lists, and the program's line, are asked for the same answer."""
+        told = {"list": "the run that lists answers: failure", "line": "the program's line is not the answer of the run"}
+        for part, says in told.items():
+            other = copy.copy(READER)
+            setattr(other, part, lambda *given: ("failure", []))
+            with self.assertRaises(handbook.Wrong) as wrong:
+                handbook.read_handbook(other, LISTED)
+            self.assertEqual(str(wrong.exception), f"docs/HANDBOOK.md:18: {says}")
 
     def test_list_cases(self):
         """A run with entries is a case of both lists."""
@@ -163,7 +175,8 @@ class Told(unittest.TestCase):
         listed = handbook.printed(READER, "entries", handbook.ROOT / "examples" / "report.txt")
         self.assertEqual(listed[:2], ["heading 1:1 Fusion splicer, arc table 4", "splice 2:1 splice 1"])
         self.assertEqual(listed[-2:], ["    cleave 10:5 cleave: 0.5, 0.3", "success 58 0 0 clear"])
-        right = ["../target/bin/reader < report.txt", "# success 58 0 0 clear", "../target/bin/entries < misplaced.txt", "# failure"]
+        right = ["../target/bin/reader < report.txt", "# success 58 0 0 clear"]
+        right += ["../target/bin/entries < misplaced.txt", "# failure"]
         right += ["", "../target/bin/entries < report.txt", *(f"# {line}" for line in listed)]
         handbook.read_commands(READER, handbook.Block("sh", 1, right))
         for missing, told in ((1, 1), (3, 3), (6, 6), (len(right) - 1, 6)):
