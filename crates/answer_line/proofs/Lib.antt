@@ -1,1 +1,3 @@
 pub mod PutLaws
+pub mod EntryLaws
+pub mod EntryCases

@@ -61,7 +61,7 @@ put-then {o} {at} {w} {v} p q =
     let b = q .place in
     record { place = omega arith; slice = q .slice ∙ rw (p .slice, p .place) (paste-next o at w v) }
 
-put-same : {o : List ℕ} {at : ℕ} {w v : List ℕ} {r : ℕ} {o' : List ℕ} → w ≡ v → Puts o at w r o' → Puts o at v r o'
+pub put-same : {o : List ℕ} {at : ℕ} {w v : List ℕ} {r : ℕ} {o' : List ℕ} → w ≡ v → Puts o at w r o' → Puts o at v r o'
 put-same e p = rw (← e) p
 
 -- A word, byte by byte.

@@ -1,2 +1,3 @@
 pub mod AnswerLine
+pub mod EntryLine
 pub mod InternalPut

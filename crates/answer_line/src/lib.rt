@@ -1,4 +1,5 @@
-// The line of an answer: from what a run answered to the bytes that the program prints.
+// The lines that the programs print: that of an answer, from what a run answered, and that of an entry (`entry`).
+pub mod entry;
 mod text;
 
 use columns::State;

@@ -1,2 +1,3 @@
 pub mod PartLaws
+pub mod RunLaws
 pub mod LowestNumber

@@ -20,7 +20,7 @@ use Rattle.token_words.specs.Places.{places}
 use Rattle.token_words.specs.Scan.{wordsOf, scanTokens, scanAnswer, fails8, fails9, fails10}
 use Rattle.well_formed.specs.Check.{checkAnswer, verdictFrom, isWell}
 use Rattle.clauses.specs.Limits.{fails11, fails12}
-use Rattle.line.specs.Line.{startAt, scanAndRun, checkAndRun, lineAnswer}
+use Rattle.line.specs.Line.{startAt, afterParts, lineAnswer}
 use Rattle.line.specs.Lowest.{Refuses, Gives, by-reader, by-check, by-scanner, by-interpreter, Lowest}
 
 -- A number that an answer refuses with is at least k.
@@ -231,7 +231,7 @@ module _ (file report : List ℕ) where
 
   -- "the lowest number that any of the four parts gives"
   pub lowest-number : (n : ℕ) → Refuses (lineAnswer file report) n → Lowest file report n
-  unfolding lineAnswer checkAndRun scanAndRun readAnswer scanAnswer fileAnswer checkAnswer tableAnswer runAnswer
+  unfolding lineAnswer afterParts readAnswer scanAnswer fileAnswer checkAnswer tableAnswer runAnswer
   lowest-number n e =
       let least = by-file (fails11 words) (fails12 nodes words start) (length (places report)) (contents fs) (ourOutcome nodes rules words start)
       (fails1 file) (fails2 fs) (fails3 nodes rules) (fails4 nodes rules) (fails5ByFile fs) (fails5 nodes rules)
@@ -267,7 +267,7 @@ module _ (file report : List ℕ) where
 
   -- Where the line has no number, no part gives one.
   pub no-number : (y : Outcome Interval) → given y ≡ lineAnswer file report → (m : ℕ) → Gives file report m → ⊥
-  unfolding lineAnswer checkAndRun scanAndRun readAnswer scanAnswer fileAnswer checkAnswer tableAnswer runAnswer
+  unfolding lineAnswer afterParts readAnswer scanAnswer fileAnswer checkAnswer tableAnswer runAnswer
   no-number y e m g =
       none-file (fails11 words) (fails12 nodes words start) (length (places report)) (contents fs) (ourOutcome nodes rules words start)
       (fails1 file) (fails2 fs) (fails3 nodes rules) (fails4 nodes rules) (fails5ByFile fs) (fails5 nodes rules)

@@ -1,2 +1,4 @@
 pub mod Line
+pub mod Entries
 pub mod Lowest
+pub mod InternalParts

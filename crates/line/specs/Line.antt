@@ -4,7 +4,7 @@ use mathlib.Core.Bool.{false, cond}
 use mathlib.Core.List.{List, _++_}
 use lib.ListN.{length, drop}
 use lib.Dec.{ltb}
-use Rattle.table.specs.Answer.{Answer, andThen}
+use Rattle.table.specs.Answer.{Answer, given, andThen}
 use Rattle.table.specs.Limits.{mostNodes, mostRules, mostTokens}
 use Rattle.columns.specs.Intervals.{to}
 use Rattle.columns.specs.declared.Upper.the-variants.{Endless}
@@ -21,23 +21,27 @@ use Rattle.answer_line.specs.AnswerLine.{lineBytes, room}
 abbrev pub startAt : ℕ → ℕ → Start
 startAt node mode = record { node = node; place = 0; interval = to 0 Endless; flag = false; mode = mode }
 
--- "the lowest number that any of the four parts gives": 8 to 10 by the scanner, and then the run. The scanner is lent what
--- the most tokens need.
-unfoldable pub scanAndRun : List ℕ → List ℕ → List ℕ → List ℕ → ℕ → ℕ → Answer (Outcome Interval)
-scanAndRun file report nodes rules node mode =
-    andThen (scanAnswer file report (mostTokens * 4))
-    (runAnswer nodes rules (wordsOf (scanTokens file report)) (startAt node mode))
+-- The file's start.
+abbrev pub fileStart : List ℕ → Start
+fileStart file = startAt (startNode (fieldsOf file)) (startMode (fieldsOf file))
 
--- Before these 7, by the check.
-unfoldable pub checkAndRun : List ℕ → List ℕ → List ℕ → List ℕ → ℕ → ℕ → Answer (Outcome Interval)
-checkAndRun file report nodes rules node mode = andThen (checkAnswer nodes rules) (scanAndRun file report nodes rules node mode)
+-- "the lowest number that any of the four parts gives": first 1 to 5, by the file reader, which is lent what the largest
+-- table needs; then 7, by the check; then 8 to 10, by the scanner, which is lent so many words; and then what follows.
+unfoldable pub afterParts : {A : Type 0} → List ℕ → List ℕ → ℕ → Answer A → Answer A
+afterParts file report lent next =
+    andThen (readAnswer file (mostNodes * 4) mostRules)
+    (andThen (checkAnswer (nodeTable (fieldsOf file)) (ruleList (fieldsOf file)))
+    (andThen (scanAnswer file report lent) next))
 
--- And first 1 to 5, by the file reader, which is lent what the largest table needs.
+-- What they answer by themselves.
+abbrev pub partsAnswer : List ℕ → List ℕ → ℕ → Answer Unit
+partsAnswer file report lent = afterParts file report lent (given tt)
+
+-- Then the run. The scanner is lent what the most tokens need.
 unfoldable pub lineAnswer : List ℕ → List ℕ → Answer (Outcome Interval)
 lineAnswer file report =
-    andThen (readAnswer file (mostNodes * 4) mostRules)
-    (checkAndRun file report (nodeTable (fieldsOf file)) (ruleList (fieldsOf file))
-    (startNode (fieldsOf file)) (startMode (fieldsOf file)))
+    afterParts file report (mostTokens * 4)
+    (runAnswer (nodeTable (fieldsOf file)) (ruleList (fieldsOf file)) (wordsOf (scanTokens file report)) (fileStart file))
 
 -- How many bytes are written to a slice of so many: all of the line, or none where it has fewer than 64.
 unfoldable pub lineCount : List ℕ → List ℕ → ℕ → ℕ

@@ -1,16 +1,40 @@
-// The program's line: from the bytes of a grammar file and a report to the bytes that the program prints.
+// From the bytes of a grammar file and a report: the line that the program `reader` prints, and what `entries` prints its
+// lines from.
 use answer_line::ROOM;
 use columns::Interval;
 use columns::Start;
 use columns::Upper;
 use grammar_file::FileRead;
+use interpreter::Listed;
 use interpreter::Ran;
 use token_words::Scanned;
 use well_formed::Verdict;
 ghost use mathlib.Core.Path.{_≡_};
 ghost use lib.ListN.{length};
-ghost use Rattle.interpreter.specs.Numbers.{numbers};
-ghost use Rattle.line.specs.Line.{lineAnswer, lineCount, lineAfter, checkAndRun, scanAndRun};
+ghost use Rattle.interpreter.specs.Numbers.{numbers, listNumbers};
+ghost use Rattle.line.specs.Line.{startAt, lineAnswer, lineCount, lineAfter};
+ghost use Rattle.line.specs.Entries.{entriesAnswer, outcomeAnswer, captureCount, tokenCount, tokensAfter, capturesAfter};
+ghost use Rattle.line.specs.InternalParts.{PartsGive};
+
+// What a run that lists answered, with the numbers of tokens and of captures that stand in the lent words.
+pub struct Entries {
+    pub answer: Ran,
+    pub tokens: usize,
+    pub captures: usize,
+}
+
+// What the parts before a run answer: the counts and the start, or the number of the first check that fails.
+enum Parts {
+    Ready {
+        nodes: usize,
+        rules: usize,
+        tokens: usize,
+        node: u16,
+        mode: u16,
+    },
+    Refused(u8),
+    IllFormed(u16),
+}
 
 // Writes the line, and says how many bytes it has. A slice of fewer than 64 bytes is left as it is, and the answer is 0.
 pub fn write(file: &[u8], report: &[u8], out: &mut [u8]) -> usize
@@ -23,15 +47,105 @@ pub fn write(file: &[u8], report: &[u8], out: &mut [u8]) -> usize
     answer_line::write(answer(file, report), out)
 }
 
-// What the four parts answer: the file reader first.
+// Lists the captures of the file's start: the report's tokens and the captures, four words each. The tokens are written
+// where 1 to 10 pass, the captures where nothing refuses.
+pub fn list(file: &[u8], report: &[u8], tokens: &mut [u32], captures: &mut [u32]) -> Entries
+    ensures { λ r. ⌜
+        numbers 0 (r .answer)
+        ≡ outcomeAnswer
+        (entriesAnswer (now (file .entry)) (now (report .entry)) (length (now (tokens .entry)))
+        (length (now (captures .entry))))
+        ⌝ }
+    ensures { λ r. ⌜
+        r .tokens ≡ tokenCount (now (file .entry)) (now (report .entry)) (length (now (tokens .entry)))
+        ⌝ }
+    ensures { λ r. ⌜
+        r .captures
+        ≡ captureCount
+        (entriesAnswer (now (file .entry)) (now (report .entry)) (length (now (tokens .entry)))
+        (length (now (captures .entry))))
+        ⌝ }
+    ensures { λ r. ⌜ now (tokens .exit) ≡ tokensAfter (now (file .entry)) (now (report .entry)) (now (tokens .entry)) ⌝ }
+    ensures { λ r. ⌜
+        now (captures .exit)
+        ≡ capturesAfter (now (file .entry)) (now (report .entry)) (length (now (tokens .entry)))
+        (now (captures .entry))
+        ⌝ }
+{
+    let mut nodes = [0u16; 2048];
+    let mut rules = [0u16; 128];
+    let x = prepare(file, report, &mut nodes, &mut rules, tokens);
+    match x {
+        Parts::Refused(number) => none(Ran::Refused(number)),
+        Parts::IllFormed(node) => none(Ran::IllFormed(node)),
+        Parts::Ready {
+            nodes: n,
+            rules: r,
+            tokens: t,
+            node,
+            mode,
+        } => {
+            let table = n * 4;
+            let words = t * 4;
+            let y = interpreter::list(
+                &nodes[..table],
+                &rules[..r],
+                &tokens[..words],
+                start_at(node, mode),
+                captures,
+            );
+            counted(y, t)
+        }
+    }
+}
+
+// What the four parts answer.
 fn answer(file: &[u8], report: &[u8]) -> Ran
     ensures { λ r. ⌜ numbers 0 r ≡ lineAnswer (now (file .entry)) (now (report .entry)) ⌝ }
 {
     let mut nodes = [0u16; 2048];
     let mut rules = [0u16; 128];
-    let x = grammar_file::read(file, &mut nodes, &mut rules);
+    let mut tokens = [0u32; 16384];
+    let x = prepare(file, report, &mut nodes, &mut rules, &mut tokens);
     match x {
-        FileRead::Refused(number) => Ran::Refused(number),
+        Parts::Refused(number) => Ran::Refused(number),
+        Parts::IllFormed(node) => Ran::IllFormed(node),
+        Parts::Ready {
+            nodes: n,
+            rules: r,
+            tokens: t,
+            node,
+            mode,
+        } => {
+            let table = n * 4;
+            let words = t * 4;
+            interpreter::run(
+                &nodes[..table],
+                &rules[..r],
+                &tokens[..words],
+                start_at(node, mode),
+            )
+        }
+    }
+}
+
+// The file reader, the check and the scanner: the table, the rules and the tokens of a run.
+fn prepare(
+    file: &[u8],
+    report: &[u8],
+    nodes: &mut [u16],
+    rules: &mut [u16],
+    tokens: &mut [u32],
+) -> Parts
+    requires { ⌜ (length (now nodes) ≡ 2048) × (length (now rules) ≡ 128) ⌝ }
+    ensures { λ r. ⌜
+        PartsGive (now (file .entry)) (now (report .entry)) (now (tokens .entry)) r (now (nodes .exit))
+        (now (rules .exit)) (now (tokens .exit))
+        ⌝ }
+{
+    let x = grammar_file::read(file, nodes, rules);
+    match x {
+        FileRead::Refused(number) => Parts::Refused(number),
         FileRead::Read {
             nodes: n,
             rules: r,
@@ -40,51 +154,80 @@ fn answer(file: &[u8], report: &[u8]) -> Ran
             mode,
         } => {
             let words = n * 4;
-            checked(file, report, &nodes[..words], &rules[..r], start, mode)
+            match well_formed::check(&nodes[..words], &rules[..r]) {
+                Verdict::Refused(number) => Parts::Refused(number),
+                Verdict::IllFormed(bad) => Parts::IllFormed(bad),
+                Verdict::Passes => match token_words::scan(file, report, tokens) {
+                    Scanned::Refused(number) => Parts::Refused(number),
+                    Scanned::Tokens(count) => Parts::Ready {
+                        nodes: n,
+                        rules: r,
+                        tokens: count,
+                        node: start,
+                        mode,
+                    },
+                },
+            }
         }
     }
 }
 
-// The check.
-fn checked(file: &[u8], report: &[u8], nodes: &[u16], rules: &[u16], node: u16, mode: u16) -> Ran
-    ensures { λ r. ⌜
-        numbers 0 r
-        ≡ checkAndRun (now (file .entry)) (now (report .entry)) (now (nodes .entry)) (now (rules .entry)) node
-        mode
-        ⌝ }
+// The file's start: from token 0, interval 0 without end, flag clear.
+fn start_at(node: u16, mode: u16) -> Start
+    ensures { λ r. ⌜ r ≡ startAt node mode ⌝ }
 {
-    match well_formed::check(nodes, rules) {
-        Verdict::Refused(number) => Ran::Refused(number),
-        Verdict::IllFormed(bad) => Ran::IllFormed(bad),
-        Verdict::Passes => scanned(file, report, nodes, rules, node, mode),
+    let interval = Interval {
+        lower: 0,
+        upper: Upper::Endless,
+    };
+    Start {
+        node,
+        place: 0,
+        interval,
+        flag: false,
+        mode,
     }
 }
 
-// The scanner and the interpreter.
-fn scanned(file: &[u8], report: &[u8], nodes: &[u16], rules: &[u16], node: u16, mode: u16) -> Ran
+// An answer with nothing listed.
+fn none(answer: Ran) -> Entries
+    ensures { λ r. ⌜ (r .answer ≡ answer) × (r .tokens ≡ 0) × (r .captures ≡ 0) ⌝ }
+{
+    Entries {
+        answer,
+        tokens: 0,
+        captures: 0,
+    }
+}
+
+// What a run that lists answered, over so many tokens.
+fn counted(x: Listed, tokens: usize) -> Entries
     ensures { λ r. ⌜
-        numbers 0 r
-        ≡ scanAndRun (now (file .entry)) (now (report .entry)) (now (nodes .entry)) (now (rules .entry)) node mode
+        (numbers 0 (r .answer) ≡ outcomeAnswer (listNumbers 0 x))
+        × (r .tokens ≡ tokens)
+        × (r .captures ≡ captureCount (listNumbers 0 x))
         ⌝ }
 {
-    let mut tokens = [0u32; 16384];
-    let x = token_words::scan(file, report, &mut tokens);
     match x {
-        Scanned::Refused(number) => Ran::Refused(number),
-        Scanned::Tokens(count) => {
-            let words = count * 4;
-            let interval = Interval {
-                lower: 0,
-                upper: Upper::Endless,
-            };
-            let start = Start {
-                node,
-                place: 0,
-                interval,
-                flag: false,
-                mode,
-            };
-            interpreter::run(nodes, rules, &tokens[..words], start)
-        }
+        Listed::Success(read, s, captures) => Entries {
+            answer: Ran::Success(read, s),
+            tokens,
+            captures,
+        },
+        Listed::Failure => Entries {
+            answer: Ran::Failure,
+            tokens,
+            captures: 0,
+        },
+        Listed::Refused(number) => Entries {
+            answer: Ran::Refused(number),
+            tokens,
+            captures: 0,
+        },
+        Listed::IllFormed(node) => Entries {
+            answer: Ran::IllFormed(node),
+            tokens,
+            captures: 0,
+        },
     }
 }

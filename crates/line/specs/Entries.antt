@@ -1,0 +1,56 @@
+-- What the program `entries` prints its lines from: the captures of the file's start on a report's tokens (02, Note 2).
+use Prim.Native.Nat.{ℕ}
+use mathlib.Core.List.{List}
+use lib.ListN.{length}
+use Rattle.table.specs.Answer.{Answer, given, refused, refusedAt, afterwards}
+use Rattle.grammar_file.specs.File.{fieldsOf, nodeTable, ruleList}
+use Rattle.token_words.specs.Scan.{wordsOf, scanTokens}
+use Rattle.columns.specs.declared.Capture.{Capture}
+use Rattle.columns.specs.declared.Interval.{Interval}
+use Rattle.clauses.specs.Clauses.{Outcome}
+use Rattle.clauses.specs.ListAnswer.{ourCaptures, Listing, listAnswer, listWords}
+use Rattle.line.specs.Line.{fileStart, afterParts, partsAnswer}
+
+-- The lowest number of the parts, then 13, then the outcome with the number of captures: for so many words lent for the
+-- tokens and for the captures.
+unfoldable pub entriesAnswer : List ℕ → List ℕ → ℕ → ℕ → Answer Listing
+entriesAnswer file report tokensLent capturesLent =
+    afterParts file report tokensLent
+    (listAnswer (nodeTable (fieldsOf file)) (ruleList (fieldsOf file)) (wordsOf (scanTokens file report))
+    (fileStart file) capturesLent)
+
+-- The outcome alone, by which the last line is printed.
+abbrev pub outcomeAnswer : Answer Listing → Answer (Outcome Interval)
+outcomeAnswer (given x) = given (x .outcome)
+outcomeAnswer (refused number) = refused number
+outcomeAnswer (refusedAt number node) = refusedAt number node
+
+-- The number of captures; none where the call is refused.
+abbrev pub captureCount : Answer Listing → ℕ
+captureCount (given x) = x .count
+captureCount (refused number) = 0
+captureCount (refusedAt number node) = 0
+
+-- The number of tokens, where 1 to 10 pass.
+abbrev pub givenCount : Answer ℕ → ℕ
+givenCount (given n) = n
+givenCount (refused number) = 0
+givenCount (refusedAt number node) = 0
+
+unfoldable pub tokenCount : List ℕ → List ℕ → ℕ → ℕ
+tokenCount file report lent = givenCount (afterParts file report lent (given (length (scanTokens file report))))
+
+-- The words lent for the tokens afterwards: those of the scan where 1 to 10 pass.
+unfoldable pub tokensAfter : List ℕ → List ℕ → List ℕ → List ℕ
+tokensAfter file report before =
+    afterwards (partsAnswer file report (length before)) (wordsOf (scanTokens file report)) before
+
+-- The captures of the file's start.
+abbrev pub entries : List ℕ → List ℕ → List Capture
+entries file report =
+    ourCaptures (nodeTable (fieldsOf file)) (ruleList (fieldsOf file)) (wordsOf (scanTokens file report)) (fileStart file)
+
+-- The words lent for the captures afterwards: the list and zeros behind it, where nothing refuses.
+unfoldable pub capturesAfter : List ℕ → List ℕ → ℕ → List ℕ → List ℕ
+capturesAfter file report tokensLent before =
+    afterwards (entriesAnswer file report tokensLent (length before)) (listWords (entries file report) (length before)) before
