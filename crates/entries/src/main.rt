@@ -32,7 +32,8 @@ fn print(file: &[u8], report: &[u8]) {
     let read = slices::front_tokens(&tokens, x.tokens);
     print_entries(file, report, read, &captures, x.captures);
     let mut out = [0u8; 64];
-    let k = answer_line::write(x.answer, &mut out);
+    let answer = x.answer;
+    let k = answer_line::write(answer, &mut out);
     io::write_all(libc::STDOUT_FILENO, slices::front(&out, k));
 }
 
