@@ -66,14 +66,15 @@ def early_file(chosen):
     )
 
 
-def late_table(chosen):
-    """The words of a table with faults of 3, 4, 5 and 7, which is at node 0. With none: terminals 1 and 2 and
-    a rule of each."""
-    nodes = [table_nodes.rule(0) if 7 in chosen else terminal(1), (10, 0, 0, 0) if 4 in chosen else terminal(2)]
-    return flat(nodes) + [0] * (3 in chosen), [0, 2 if 5 in chosen else 1]
+def late_table(chosen, *more):
+    """The words of a table with faults of 3, 4, 5 and 7, which is at node 0. With none: terminals 1 and 2, the nodes
+    given, and a rule of each terminal."""
+    nodes = [table_nodes.rule(0) if 7 in chosen else terminal(1), (10, 0, 0, 0) if 4 in chosen else terminal(2), *more]
+    return flat(nodes) + [0] * (3 in chosen), [0, len(nodes) if 5 in chosen else 1]
 
 
-def early_table(chosen, number):
-    """The same, 7 at node 2. With none: terminal `number`, empty, a repeat of the terminal, and two rules."""
-    nodes = [terminal(256 if 4 in chosen else number), table_nodes.EMPTY, repeat(1 if 7 in chosen else 0)]
-    return flat(nodes), [3 if 5 in chosen else 2] + [0] * (128 if 3 in chosen else 1)
+def early_table(chosen, number, *more):
+    """The same, 7 at node 2. With none: terminal `number`, empty, a repeat of the terminal, the nodes given, and two
+    rules, of the repeat and of the terminal."""
+    nodes = [terminal(256 if 4 in chosen else number), table_nodes.EMPTY, repeat(1 if 7 in chosen else 0), *more]
+    return flat(nodes), [len(nodes) if 5 in chosen else 2] + [0] * (128 if 3 in chosen else 1)

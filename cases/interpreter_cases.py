@@ -6,12 +6,13 @@ calls has one answer for all, or the rule that gives each, in its loop or functi
 words of document 01 or 02 or names the clause of document 001 that decide it.
 
 Expressions are written as README.md says: a to z are terminals 1 to 26. A token is a letter and a column. An
-interval is its two ends, and an answer the tokens read, the interval and the flag.
+interval is its two ends, and an answer the tokens read, the interval and the flag. A capture is the name of its rule,
+its first token, the token after its last and the number of captures around it.
 """
 
 import faults
 from expressions import Table, named_columns, relation_number, written, written_rules
-from records import Cases, Payloads, begin, wide
+from records import Cases, Payloads, begin, spaced, wide
 from table_nodes import EMPTY, align, choice, flat, indent, not_, over, position, repeat, rule, sequence, step, terminal
 
 CASES = Cases("interpreter_cases")
@@ -34,7 +35,7 @@ KIND_10 = (10, 0, 0, 0)
 # --- Records and lines ---------------------------------------------------------------------------
 
 
-def record(label, nodes, rules, tokens, line, mode=2, **start):
+def record(label, nodes, rules, tokens, line, mode=2, kind="r", lent=0, **start):
     """One call and the line expected of it. The layout is that of the program's first comment. Tokens are written, or
     are words. The start is told as in `begin`; unless said it is node 0, place 0, from 0 without end, flag clear,
     mode at least."""
@@ -42,7 +43,7 @@ def record(label, nodes, rules, tokens, line, mode=2, **start):
     same_bytes, table = TABLE_BYTES.front(wide(2, *node_words, *rules))
     numbers, rest = TOKEN_BYTES.stretch(wide(4, *(token_words(tokens) if isinstance(tokens, str) else tokens)))
     header = begin(mode=mode, **start) + wide(2, len(node_words), len(rules), same_bytes) + wide(3, *numbers)
-    CASES.add(label, line, "r", header, table, rest)
+    CASES.add(label, line, kind, header + wide(2, lent), table, rest)
 
 
 def token_words(text, rest=REST):
@@ -80,8 +81,9 @@ def same(label, nodes, rules=(), tokens=(), **start):
     runs(label, SAME, nodes, rules, tokens, **start)
 
 
-def given(expression, mode, tokens, answer, rules="", start="0 inf", flag="clear", place=0, name=""):
-    """A run of an expression. Without a name, or behind the name of a case, the label tells all."""
+def told(expression, mode, tokens, rules="", start="0 inf", flag="clear", place=0, name=""):
+    """The label of a run of an expression, and the call as `record` takes it. Without a name, or behind the name of a
+    case, the label tells all."""
     table = Table(written_rules(rules), written(expression))
     lower, upper = start.split()
     label = name
@@ -92,9 +94,17 @@ def given(expression, mode, tokens, answer, rules="", start="0 inf", flag="clear
         label += f", from {lower} to {upper}" if start != "0 inf" else ""
         label += ", flag set" if flag == "set" else ""
         label += f", place {place}" if place else ""
-    line = answer if answer == "failure" else success(answer, place)
-    record(label, table.nodes, table.rules, tokens, line, relation_number(mode), node=table.start, place=place,
-           lower=int(lower), upper=None if upper == "inf" else int(upper), flag=flag == "set")
+    return label, {
+        "nodes": table.nodes, "rules": table.rules, "tokens": tokens, "mode": relation_number(mode),
+        "node": table.start, "place": place, "lower": int(lower), "upper": None if upper == "inf" else int(upper),
+        "flag": flag == "set",
+    }
+
+
+def given(expression, mode, tokens, answer, rules="", start="0 inf", flag="clear", place=0, name=""):
+    """A run of an expression."""
+    label, call = told(expression, mode, tokens, rules, start, flag, place, name)
+    record(label, line=answer if answer == "failure" else success(answer, place), **call)
 
 
 def row(expression, mode, start, answers, flag="clear", first=0):
@@ -102,6 +112,35 @@ def row(expression, mode, start, answers, flag="clear", first=0):
     for column, cell in enumerate(answers.split(), first):
         answer = "failure" if cell == "-" else f"1 {cell.replace('-', ' ')} clear"
         given(expression, mode, f"a{column}", answer, start=start, flag=flag)
+
+
+def lists(expression, mode, tokens, answer, captures, rules="", lents=None, **more):
+    """Runs of an expression that list these captures: `X 0 1 0, Y 1 2 0`."""
+    label, call = told(expression, mode, tokens, rules, **more)
+    names = list(written_rules(rules))
+    parts = [part.split() for part in captures.split(", ") if part]
+    listed(label, answer, [(names.index(name), *map(int, numbers)) for name, *numbers in parts], lents, **call)
+
+
+def listed(label, answer, captures, lents=None, place=0, **call):
+    """Runs that list these captures, their rules by number, one for each number of words lent: unless said just enough
+    of them, one less and six more.
+
+    "13, fewer capture places than the list needs"; "Nothing is written." else "the slice's words past the list are 0; a
+    failure lists none"."""
+    need = 4 * len(captures)
+    for lent in (need - 1, need, need + 6) if lents is None else lents:
+        if lent >= need:
+            head = answer if answer == "failure" else f"{success(answer, place)} | captures {len(captures)}"
+            line = "".join([head, *(spaced(" |", capture) for capture in captures), f" | {lent - need} zeros"])
+            record(f"list, {label}, {lent} words", line=line, kind="l", lent=lent, place=place, **call)
+        elif lent >= 0:
+            unlisted(f"{label}, {lent} words", "refused 13", lent, place=place, **call)
+
+
+def unlisted(label, answer, lent, **call):
+    """A run that lists and is refused. "Nothing is written." """
+    record(f"list, {label}", line=f"{answer} | {lent} kept", kind="l", lent=lent, **call)
 
 
 def by_mode(*rows):
@@ -1339,6 +1378,250 @@ given("X", "any", MOST, "4096 65535 inf clear", rules=DEEPER, start="65535 inf",
 given("X", "equal", MOST, "1 7 7 clear", rules=DEEPER, name="X = a indent greater X / empty, 4096 a, mode equal")
 given("(indent greater a)*", "equal", MOST, "4096 0 6 clear", name="(indent greater a)*, 4096 a, mode equal")
 given("(a a)*", "greater", "a7 " * 4095, "4094 0 6 clear", name="(a a)*, 4095 a, mode greater")
+
+
+# --- Lists of captures (02, Note 2) --------------------------------------------------------------
+
+# "A run may also list its captures: every rule that succeeded on the way to the final success". Mode any leaves the
+# interval alone. `a` is not the rule's node, and no rule is on the way.
+lists("X", "any", "a0", "1 0 inf clear", "X 0 1 0", rules="X = a")
+lists("Y", "any", "a0", "1 0 inf clear", "Y 0 1 0", rules="X = b; Y = a")
+lists("a", "any", "a0", "1 0 inf clear", "", rules="X = a")
+lists("empty", "any", "a0", "0 0 inf clear", "", rules="X = a")
+# A start at the rule, and at the node that it stands for: there the rule is not on the way, but one below it is.
+BELOW = [A, rule(1), rule(0)]
+listed("a start at a rule", "1 0 2 clear", [(0, 0, 1, 0)], nodes=[A, rule(0)], rules=[0], tokens="a2", node=1)
+listed("a start at the rule's node", "1 0 2 clear", [], nodes=[A, rule(0)], rules=[0], tokens="a2", node=0)
+for node, captures in ((2, [(0, 0, 1, 0), (1, 0, 1, 1)]), (1, [(1, 0, 1, 0)]), (0, [])):
+    listed(f"start node {node} of a, Y = a, X = Y", "1 0 2 clear", captures, nodes=BELOW, rules=[1, 0], tokens="a2",
+           node=node)
+
+# "an outer one stands before those inside it, and otherwise they stand in the order in which they were read"; "the
+# number of captures around it". The order of the rules says nothing.
+lists("X Y", "any", "a0 b0", "2 0 inf clear", "X 0 1 0, Y 1 2 0", rules="X = a; Y = b")
+lists("Y X", "any", "b0 a0", "2 0 inf clear", "Y 0 1 0, X 1 2 0", rules="X = a; Y = b")
+lists("X", "any", "a0", "1 0 inf clear", "X 0 1 0, Y 0 1 1", rules="X = Y; Y = a")
+lists("Y", "any", "a0", "1 0 inf clear", "Y 0 1 0, X 0 1 1", rules="X = a; Y = X")
+lists("X", "any", "a0", "1 0 inf clear", "X 0 1 0, Y 0 1 1, Z 0 1 2", rules="X = Y; Y = Z; Z = a")
+lists("X", "any", "a0 b0 c0", "3 0 inf clear", "X 0 3 0, Y 1 2 1, Z 2 3 1", rules="X = a Y Z; Y = b; Z = c")
+lists("X", "any", "a0 b0 b0", "3 0 inf clear", "X 0 3 0, Y 0 2 1, Z 1 2 2, Z 2 3 1", rules="X = Y Z; Y = a Z; Z = b")
+lists("X Z", "any", "b0 a0 b0 b0", "4 0 inf clear", "X 0 3 0, Z 0 1 1, Y 1 3 1, Z 2 3 2, Z 3 4 0",
+      rules="X = Z Y; Y = a Z; Z = b")
+lists("(X X) X", "any", "a0 a0 a0", "3 0 inf clear", "X 0 1 0, X 1 2 0, X 2 3 0", rules="X = a")
+lists("X (X X)", "any", "a0 a0 a0", "3 0 inf clear", "X 0 1 0, X 1 2 0, X 2 3 0", rules="X = a")
+lists("a X b Y c", "any", "a0 a0 b0 b0 c0", "5 0 inf clear", "X 1 2 0, Y 3 4 0", rules="X = a; Y = b")
+# One rule twice at one place: the first time in vain; reading nothing; reading nothing the first time, where a is not
+# right of 3.
+lists("X", "any", "a0", "1 0 inf clear", "X 0 1 0, Y 0 1 1, Z 0 1 2, Z 1 1 1",
+      rules="X = Y Z; Y = Z b / Z; Z = a / empty")
+lists("X", "any", "a0", "0 0 inf clear", "X 0 0 0, Y 0 0 1, Y 0 0 1", rules="X = Y Y; Y = empty")
+lists("(indent greater X) X", "equal", "a3", "1 3 3 clear", "X 0 0 0, X 0 1 0", rules="X = a / empty", start="3 3")
+
+# "first token, token after the last": both are places in the token list, also from a start inside it, and equal where
+# nothing was read.
+lists("X", "any", "a0 a0 a0", "1 0 inf clear", "X 2 3 0", rules="X = a", place=2)
+lists("a X", "any", "b0 a0 a0 b0", "2 0 inf clear", "X 2 3 0", rules="X = a", place=1)
+lists("X", "any", "c0 c0 a0 b0", "2 0 inf clear", "X 2 4 0, Y 3 4 1", rules="X = a Y; Y = b", place=2)
+lists("X*", "any", "a0 a0 a0 a0", "3 0 inf clear", "X 1 2 0, X 2 3 0, X 3 4 0", rules="X = a", place=1)
+lists("X", "any", "a0 a0", "0 0 inf clear", "X 2 2 0", rules="X = empty", place=2)
+lists("X / Y", "any", "a0 b0", "1 0 inf clear", "Y 1 2 0", rules="X = a; Y = b", place=1)
+lists("X", "any", "a0 a0", "failure", "", rules="X = a", place=2)
+# A capture may be 0 0 0 0, as the words behind the list are: the count tells them apart.
+lists("X", "any", "", "0 0 inf clear", "X 0 0 0", rules="X = empty")
+lists("X", "any", "a0", "0 0 inf clear", "X 0 0 0", rules="X = empty")
+lists("X X X", "any", "a0", "0 0 inf clear", "X 0 0 0, X 0 0 0, X 0 0 0", rules="X = empty")
+lists("a X X b Y", "any", "a0 b0", "2 0 inf clear", "X 1 1 0, X 1 1 0, Y 2 2 0", rules="X = empty; Y = empty")
+lists("X", "any", "a0", "1 0 inf clear", "X 0 1 0, Y 0 0 1, Y 1 1 1", rules="X = Y a Y; Y = empty")
+lists("X X X", "any", "a0", "1 0 inf clear", "X 0 1 0, X 1 1 0, X 1 1 0", rules="X = a / empty")
+lists("X", "any", "a0", "0 0 inf clear", "X 0 0 0, Y 0 0 1, Z 0 0 2", rules="X = Y; Y = Z; Z = b*")
+
+# "13, fewer capture places than the list needs": a place has four words, so three lists of 3, 1 and 0 captures need 12,
+# 4 and 0. Lent more, "the slice's words past the list are 0".
+lists("X", "any", "a0 b0 c0", "3 0 inf clear", "X 0 3 0, Y 1 2 1, Z 2 3 1", rules="X = a Y Z; Y = b; Z = c",
+      lents=(0, 1, 2, 3, 4, 5, 7, 8, 9, 10, 13, 14, 15, 16, 17, 100, 16500))
+lists("X", "any", "a0", "1 0 inf clear", "X 0 1 0", rules="X = a", lents=(0, 1, 2, 5, 6, 7, 8, 9, 11, 12, 16500))
+lists("a", "any", "a0", "1 0 inf clear", "", rules="X = a", lents=(1, 2, 3, 4, 5, 7, 8, 16500))
+# "a failure lists none", and so needs no place; all words are past the list. Captures that are read before it are not
+# on the way to a success.
+lists("X", "any", "b0", "failure", "", rules="X = a", lents=(0, 1, 2, 3, 4, 5, 6, 7, 8, 100, 16500))
+lists("X Y c", "any", "a0 b0", "failure", "", rules="X = a; Y = b", lents=(0, 1, 2, 3, 4, 5, 6, 7, 8, 9, 11, 12, 16500))
+lists("X", "any", "a0 a0 b0", "failure", "", rules="X = Y Y Y; Y = a", lents=(0, 1, 3, 4, 5, 11, 12, 13, 16))
+lists("X* c", "any", "a0 a0 a0", "failure", "", rules="X = a", lents=(0, 3, 4, 12, 20))
+lists("!X", "any", "a0", "failure", "", rules="X = a", lents=(0, 3, 4, 9))
+
+# "outside .. any failed alternative": what it read is gone, and takes no place: just enough for the final list is
+# enough, where the abandoned one was longer, as long or shorter.
+lists("X Y c / Z", "any", "a0 b0", "2 0 inf clear", "Z 0 2 0", rules="X = a; Y = b; Z = a b")
+lists("X X X X b / Z", "any", "a0 a0 a0 a0", "4 0 inf clear", "Z 0 4 0", rules="X = a; Z = a a a a")
+lists("X b / Y c", "any", "a0 c0", "2 0 inf clear", "Y 0 1 0", rules="X = a; Y = a")
+lists("X c / Y Z", "any", "a0 b0", "2 0 inf clear", "Y 0 1 0, Z 1 2 0", rules="X = a; Y = a; Z = b")
+lists("X Y c / a b", "any", "a0 b0", "2 0 inf clear", "", rules="X = a; Y = b")
+lists("X Y c / empty", "any", "a0 b0", "0 0 inf clear", "", rules="X = a; Y = b")
+lists("X / Y", "any", "a0 a0", "2 0 inf clear", "Y 0 2 0, Z 1 2 1", rules="X = Z Z c; Y = a Z; Z = a")
+lists("X b / X c / X d", "any", "a0 d0", "2 0 inf clear", "X 0 1 0", rules="X = a")
+lists("(X b / X c) / X X", "any", "a0 a0", "2 0 inf clear", "X 0 1 0, X 1 2 0", rules="X = a")
+# Inside a rule, the count around is that of what is left.
+lists("X", "any", "a0 c0", "2 0 inf clear", "X 0 2 0, Y 0 1 1, Z 0 1 2", rules="X = Y b / Y c; Y = Z; Z = a")
+lists("X Z", "any", "a0 c0 c0", "3 0 inf clear", "X 0 2 0, Y 0 1 1, Z 1 2 1, Z 2 3 0",
+      rules="X = Y Y b / Y Z; Y = a; Z = c")
+lists("X", "any", "a0 a0 a0", "3 0 inf clear", "X 0 3 0, Y 0 1 1, Y 1 2 1, Y 2 3 1",
+      rules="X = Y X' / Y Y Y; Y = a; X' = Y b")
+# The first alternative's captures are on the way where it succeeds, the second's are not looked for.
+lists("X / Y", "any", "a0", "1 0 inf clear", "X 0 1 0", rules="X = a; Y = a")
+lists("empty / X", "any", "a0", "0 0 inf clear", "", rules="X = a")
+lists("X / empty", "any", "b0", "0 0 inf clear", "", rules="X = a")
+# Captures before the choice stay, and those behind it follow.
+lists("X (Y c / Z) W", "any", "a0 b0 d0", "3 0 inf clear", "X 0 1 0, Z 1 2 0, W 2 3 0",
+      rules="X = a; Y = b; Z = b; W = d")
+lists("X (Y Y c / empty) Y", "any", "a0 b0 b0", "2 0 inf clear", "X 0 1 0, Y 1 2 0", rules="X = a; Y = b")
+# A sequence that fails behind a rule that succeeded as a whole, with captures of its own.
+lists("X b / a*", "any", "a0 a0 a0", "3 0 inf clear", "", rules="X = Y Y Y; Y = a")
+lists("X b / Y*", "any", "a0 a0 a0", "3 0 inf clear", "Y 0 1 0, Y 1 2 0, Y 2 3 0", rules="X = Y Y Y; Y = a")
+
+# "outside any not": inside a not, two nots and a not in a rule, whatever succeeded there. It needs no place, and does
+# not count as around.
+lists("!X b", "any", "b0", "1 0 inf clear", "", rules="X = a")
+lists("!(X b) a", "any", "a0", "1 0 inf clear", "", rules="X = a")
+lists("!(X b) X", "any", "a0", "1 0 inf clear", "X 0 1 0", rules="X = a")
+lists("!!X", "any", "a0", "0 0 inf clear", "", rules="X = a")
+lists("!!X X", "any", "a0", "1 0 inf clear", "X 0 1 0", rules="X = a")
+lists("!!!(X b) X", "any", "a0", "1 0 inf clear", "X 0 1 0", rules="X = a")
+lists("X !!Y Y", "any", "a0 b0", "2 0 inf clear", "X 0 1 0, Y 1 2 0", rules="X = a; Y = b")
+lists("X", "any", "a0", "1 0 inf clear", "X 0 1 0, Z 0 1 1", rules="X = !!Y Z; Y = Z; Z = a")
+lists("X", "any", "a0", "0 0 inf clear", "X 0 0 0", rules="X = !!Y; Y = Z; Z = a")
+lists("X", "any", "a0 b0", "1 0 inf clear", "X 0 1 0, Y 0 1 1", rules="X = Y !(Z Z); Y = a; Z = b")
+lists("!!(X Y X) a", "any", "a0 b0 a0", "1 0 inf clear", "", rules="X = a; Y = b")
+lists("!(X / Y) Z / Y", "any", "b0", "1 0 inf clear", "Y 0 1 0", rules="X = a; Y = b; Z = b")
+lists("(!X Y)*", "any", "b0 b0 a0", "2 0 inf clear", "Y 0 1 0, Y 1 2 0", rules="X = a; Y = a / b")
+
+# "outside .. a repeat's last, failed round": each round that succeeded has its captures, and the last has none, however
+# far it came.
+lists("X*", "any", "b0", "0 0 inf clear", "", rules="X = a")
+lists("X*", "any", "a0 a0 a0 b0", "3 0 inf clear", "X 0 1 0, X 1 2 0, X 2 3 0", rules="X = a")
+lists("(X b)*", "any", "a0", "0 0 inf clear", "", rules="X = a")
+lists("(X Y)*", "any", "a0 b0 a0", "2 0 inf clear", "X 0 1 0, Y 1 2 0", rules="X = a; Y = b")
+lists("(X Y)* X", "any", "a0 b0 a0", "3 0 inf clear", "X 0 1 0, Y 1 2 0, X 2 3 0", rules="X = a; Y = b")
+lists("(X Y)* Z", "any", "a0 b0 a0 c0", "4 0 inf clear", "X 0 1 0, Y 1 2 0, Z 2 4 0", rules="X = a; Y = b; Z = a c")
+lists("(X X X)*", "any", "a0 " * 5, "3 0 inf clear", "X 0 1 0, X 1 2 0, X 2 3 0", rules="X = a")
+lists("(X X X X)*", "any", "a0 a0 a0", "0 0 inf clear", "", rules="X = a")
+lists("X", "any", "a0 a0 b0", "2 0 inf clear", "X 0 2 0, Y 0 1 1, Y 1 2 1", rules="X = Y*; Y = a")
+lists("X", "any", "b0", "0 0 inf clear", "X 0 0 0", rules="X = Y*; Y = a")
+lists("X", "any", "a0 b0 b0 a0 b0", "5 0 inf clear", "X 0 5 0, Y 0 3 1, Z 1 2 2, Z 2 3 2, Y 3 5 1, Z 4 5 2",
+      rules="X = Y*; Y = a Z*; Z = b")
+lists("(X Y / X Z)*", "any", "a0 b0 a0 c0 a0 d0", "4 0 inf clear", "X 0 1 0, Y 1 2 0, X 2 3 0, Z 3 4 0",
+      rules="X = a; Y = b; Z = c")
+lists("X* b / Y*", "any", "a0 a0", "2 0 inf clear", "Y 0 1 0, Y 1 2 0", rules="X = a; Y = a")
+lists("((X Y)* c)* X", "any", "a0 b0 c0 a0 b0 a0", "4 0 inf clear", "X 0 1 0, Y 1 2 0, X 3 4 0", rules="X = a; Y = b")
+
+# Under indent, align and position: the columns decide which alternative and how many rounds there are.
+lists("indent greater X", "equal", "a5", "1 0 4 clear", "X 0 1 0", rules="X = a")
+lists("align X", "greater", "a5", "1 5 5 clear", "X 0 1 0", rules="X = a")
+lists("position any X", "equal", "a0", "1 3 6 clear", "X 0 1 0", rules="X = a", start="3 6")
+lists("X", "greater", "a5", "1 5 5 clear", "X 0 1 0", rules="X = a", flag="set")
+lists("X", "greater", "a2", "0 3 6 set", "X 0 0 0", rules="X = a / empty", start="3 6", flag="set")
+lists("indent greater X", "equal", "a0", "failure", "", rules="X = a", lents=(0, 4, 5))
+lists("indent greater X / Y", "equal", "a3", "1 3 3 clear", "Y 0 1 0", rules="X = a; Y = a", start="3 6")
+lists("align X / Y", "greater", "a9", "1 3 6 clear", "Y 0 1 0", rules="X = a; Y = a", start="3 6")
+lists("(indent greater (X X)) / Y", "equal", "a3 a4", "1 3 3 clear", "Y 0 1 0", rules="X = a; Y = a")
+lists("position greater (X Y)", "equal", "a5 b3", "2 0 2 clear", "X 0 1 0, Y 1 2 0", rules="X = a; Y = b")
+lists("X*", "equal", "a2 a2 a3", "2 2 2 clear", "X 0 1 0, X 1 2 0", rules="X = a")
+lists("(align X)*", "greater", "a2 a2 a3", "2 2 2 clear", "X 0 1 0, X 1 2 0", rules="X = a")
+# The third a, at 5, is not right of 5: X reads nothing there.
+lists("X", "equal", "a0 a1 a2", "3 0 0 clear", "X 0 3 0, X 1 3 1, X 2 3 2, X 3 3 3", rules=DEEPER)
+lists("X", "equal", "a3 a5 a5", "2 3 3 clear", "X 0 2 0, X 1 2 1, X 2 2 2", rules=DEEPER)
+# d0; inside, aligned at 2, a2 and no second statement, since a3 is not at 2.
+lists("D", "at-least", "d0 a2 a3", "2 0 0 clear", "D 0 2 0, L 1 2 1, S 1 2 2, L 2 2 2", rules=BLOCK)
+# a0; under it a2 with nothing under it, and a2 with a4; a1 is at no open baseline.
+lists("X", "at-least", "a0 a2 a2 a4 a1", "4 0 0 clear", "X 0 4 0, X 1 4 1, X 2 2 2, X 3 4 2, X 4 4 3", rules=OUTLINE)
+# 02, Note 1: two columns a level. a0; under it a2 with a4 under it, and a2 with nothing; then a0 with nothing. A stray
+# a5 ends it.
+lists("X", "at-least", "a0 a2 a4 a2 a0", "5 0 0 clear",
+      "X 0 5 0, X 1 4 1, X 2 3 2, X 3 3 3, X 4 4 2, X 5 5 1", rules=LEVELS)
+lists("X", "at-least", "a0 a2 a5 a2 a0", "2 0 0 clear", "X 0 2 0, X 1 2 1, X 2 2 2", rules=LEVELS)
+lists("indent +2 X / Y", "equal", "a5", "1 5 5 clear", "Y 0 1 0", rules="X = a b; Y = a")
+
+# "the number of captures around it" in deep lists: X at place k has those at 0 to k - 1 around it, and ends where they
+# do.
+lists("X", "any", "a0 " * 5, "5 0 inf clear", "X 0 5 0, X 1 5 1, X 2 5 2, X 3 5 3, X 4 5 4, X 5 5 5", rules=LIST)
+lists("X", "any", "a0 a0 a0 b0 b0 b0 b0", "6 0 inf clear", "X 0 6 0, X 1 5 1, X 2 4 2, X 3 3 3", rules=PAIRS)
+lists("X", "any", "a0 a0 a0 b0 b0", "0 0 inf clear", "X 0 0 0", rules=PAIRS)
+for count in (100, 300):
+    lists("X", "any", "a0 " * count, f"{count} 0 inf clear", ", ".join(f"X {k} {count} {k}" for k in range(count + 1)),
+          rules=LIST, name=f"X = a X / empty, {count} a")
+    lists("X*", "any", "a0 " * count, f"{count} 0 inf clear", ", ".join(f"X {k} {k + 1} 0" for k in range(count)),
+          rules="X = a", name=f"X* where X = a, {count} a")
+lists("X", "any", "a0 " * 300, "120 0 inf clear", ", ".join(f"X {180 + k} 300 {k}" for k in range(121)), rules=LIST,
+      place=180, name="X = a X / empty, 300 a, place 180")
+# The most tokens: 4097 captures would need 16388 words. Without the last alternative all of them fail.
+lists("X", "any", MOST, "4096 0 inf clear", ", ".join(f"X {k} 4096 {k}" for k in range(4097)), rules=LIST,
+      lents=(0, 4, 16384, 16387), name="X = a X / empty, 4096 a")
+lists("X", "any", MOST, "failure", "", rules="X = a X", lents=(0, 16387, 16388, 16500), name="X = a X, 4096 a")
+lists("X*", "any", MOST, "1 0 inf clear", "X 4095 4096 0", rules="X = a", place=4095,
+      name="X* where X = a, 4096 a, place 4095")
+# 128 rules, each the next one's name, from the second on: rule k has rules 1 to k - 1 around it.
+listed("128 rules in a row to a, from the second", "1 0 4 clear", [(k, 0, 1, k - 1) for k in range(1, 128)],
+       nodes=[A] + [rule(n) for n in range(1, 128)], rules=[*range(1, 128), 0], tokens="a4", node=1)
+
+
+def doubled(count):
+    """A call over a table where rule 0 is empty and each of so many others is twice the one before it, and the number
+    of the node that is the last rule. Three nodes further on it is in a failed alternative, five in two nots."""
+    nodes = [EMPTY]
+    for number in range(count):
+        nodes += [rule(number), sequence(len(nodes), len(nodes))]
+    last = len(nodes)
+    nodes += [rule(count), not_(0), sequence(last, last + 1), choice(last + 2, 0), not_(last), not_(last + 4)]
+    return {"nodes": nodes, "rules": list(range(0, last, 2)), "tokens": "a0"}, last
+
+
+def twice(number, around=0):
+    """The captures of such a rule: its own, then twice those of the one before it."""
+    inside = twice(number - 1, around + 1) * 2 if number else []
+    return [(number, 0, 0, around), *inside]
+
+
+# Rule k has 2^(k+1) - 1 captures, with nothing read. In a failed alternative and in two nots they need no place.
+for count in (1, 3, 5):
+    call, last = doubled(count)
+    listed(f"{count} doubled rules", SAME, twice(count), node=last, **call)
+for count, lents in ((10, (0, 4, 8187)), (20, (16500,))):
+    call, last = doubled(count)
+    for lent in lents:
+        unlisted(f"{count} doubled rules, {lent} words", "refused 13", lent, node=last, **call)
+call, last = doubled(14)
+listed("14 doubled rules in a failed alternative", SAME, [], (0, 4, 16500), node=last + 3, **call)
+listed("14 doubled rules in two nots", SAME, [], (0, 4, 16500), node=last + 5, **call)
+
+# "New numbers: 13, .. after 12", and "Nothing is written": every choice of faults from seven, one of each number. With
+# none, rule 0 reads a5: one capture, which takes four words; 13 is to lend three.
+
+
+def ordered_list(said, chosen, ill, table, tokens, **start):
+    label, lent = faults.label(said, chosen), 3 if 13 in chosen else 4
+    call = {"nodes": table[0], "rules": table[1], "tokens": tokens, **start}
+    if chosen:
+        unlisted(label, f"refused 7 {ill}" if chosen[0] == 7 else f"refused {chosen[0]}", lent, **call)
+    else:
+        listed(label, "1 0 5 clear", [(0, 0, 1, 0)], (lent,), **call)
+
+
+for chosen in faults.choices(3, 4, 5, 7, 11, 12, 13):
+    tokens = token_words("a5") + ([1, 1, 1] if 11 in chosen else [])
+    ordered_list("late", chosen, 0, faults.late_table(chosen, rule(0)), tokens, node=2, mode=35 if 12 in chosen else 2)
+for chosen in faults.choices(3, 4, 5, 7, 11, 12, 13):
+    tokens = [1, 5, 0, 0, 256 if 11 in chosen else 2, 0, 0, 0]
+    ordered_list("early", chosen, 2, faults.early_table(chosen, 1, rule(0)), tokens, node=4 if 12 in chosen else 3)
+# The small inputs of 3, 4, 5, 7, 11 and 12, lent no word, some, and many.
+for lent in (0, 1, 4, 7, 16500):
+    for number, said, call in (
+        (3, "no node", {"nodes": [], "rules": []}),
+        (4, "node 0 a repeat of 0", {"nodes": [repeat(0)], "rules": []}),
+        (5, "rule 0 = node 1 of 1", {"nodes": [EMPTY], "rules": [1]}),
+        ("7 0", "rule 0 = node 0 = rule 0", {"nodes": [rule(0)], "rules": [0]}),
+        (11, "3 token words", {"nodes": [EMPTY], "rules": [], "tokens": [0] * 3}),
+        (12, "interval 5 to 4", {"nodes": [EMPTY], "rules": [], "lower": 5, "upper": 4}),
+    ):
+        unlisted(f"{said}, {lent} words", f"refused {number}", lent, **{"tokens": (), **call})
 
 
 if __name__ == "__main__":

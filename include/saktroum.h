@@ -1,24 +1,25 @@
 /* Saktroum: a reader for indentation grammars. The C interface of the archive libsaktroum.a (x86-64 Linux).
  *
- * Four parts: a grammar file reader, a report scanner, a well-formedness check and an interpreter; the line of the program
- * over them; and the keywords and rule names of a grammar file (docs/FORMAT.md says what such a file is). Every call ends
- * and keeps no state between calls; calls from several threads at once are fine. What a call answers and writes is proved;
- * what it is owed by its caller is not checked:
+ * Four parts: a grammar file reader, a report scanner, a well-formedness check and an interpreter, which may also list its
+ * captures, what each rule read; the text shown for a capture; the line of the program over them; and the keywords and rule
+ * names of a grammar file (docs/FORMAT.md says what such a file is). Every call ends and keeps no state between calls;
+ * calls from several threads at once are fine. What a call answers and writes is proved; what it is owed by its caller is
+ * not checked:
  *
  * - A slice is a pointer and the number of its elements. The pointer is not null, even for 0 elements, is aligned for
  *   its element type, and the elements are there and set. `result` points to as many words as its brackets say. A bool
  *   is 0 or 1.
  * - What a call may write (a pointer without `const`) overlaps no other argument of the call.
  * - Until the call ends nothing else reads or writes what it may write, and nothing writes what it may read.
- * - saktroum_run and saktroum_line call themselves as deep as grammar and tokens make them, and no proof speaks of the
- *   stack: where it is too small, the system ends the program. By measurement 1 GiB is enough for every grammar and
- *   4,096 tokens, and the usual 8 MiB are not (docs/BENCHMARKS.md). saktroum_stack.h has a function that runs the
- *   caller's work on a thread with 1 GiB. The other calls do not nest and need little.
+ * - saktroum_run, saktroum_list and saktroum_line call themselves as deep as grammar and tokens make them, and no proof
+ *   speaks of the stack: where it is too small, the system ends the program. By measurement 1 GiB is enough for every
+ *   grammar and 4,096 tokens, and the usual 8 MiB are not (docs/BENCHMARKS.md). saktroum_stack.h has a function that runs
+ *   the caller's work on a thread with 1 GiB. The other calls do not nest and need little.
  *
- * The answer of the first four is 0 if the call passed every check, or else the number of the first check it failed, for 7
+ * The answer of the first six is 0 if the call passed every check, or else the number of the first check it failed, for 7
  * with the node: 7 + 65,536 * node. saktroum_number and saktroum_node take it apart; enum saktroum_refusal has a name for
- * each number. If one of the first four answers anything but 0, it has written nothing. After success, words past those
- * written are as before.
+ * each number. If one of the first six answers anything but 0, it has written nothing. If it answers 0, words past those
+ * written are as before; saktroum_list writes every word of `captures`, 0 behind the list.
  */
 #ifndef SAKTROUM_H
 #define SAKTROUM_H
@@ -33,7 +34,7 @@
 extern "C" {
 #endif
 
-/* Lent slices of these lengths are always long enough. */
+/* Lent slices of these lengths are always long enough. (For captures no length is.) */
 enum {
     SAKTROUM_NODE_WORDS = 2048,
     SAKTROUM_RULE_WORDS = 128,
@@ -60,9 +61,13 @@ enum saktroum_refusal {
     SAKTROUM_REFUSED_TOKEN_ROOM = 10, /* over 4,096 tokens, or too few words lent */
     SAKTROUM_REFUSED_TOKENS = 11,     /* token words no multiple of 4, over 4,096 tokens, terminal over 255, column over
                                          65,535 */
-    SAKTROUM_REFUSED_START = 12       /* start node past the table, place past the tokens (right behind the last is
+    SAKTROUM_REFUSED_START = 12,      /* start node past the table, place past the tokens (right behind the last is
                                          allowed), lower end over the upper or over 65,535, upper end over 65,535, mode
                                          over 34 */
+    SAKTROUM_REFUSED_CAPTURE_ROOM = 13, /* fewer places for captures than the list needs, four words each */
+    SAKTROUM_REFUSED_CAPTURE = 14     /* a capture whose rule or tokens are not there, whose first token comes after the
+                                         token that follows it, whose tokens' offsets fall, or whose last token ends past
+                                         the report */
 };
 
 /* The kinds of nodes; a, b and relation are words 1 to 3 of a node, 0 where they are not used. */
@@ -118,6 +123,34 @@ uint32_t saktroum_run(const uint16_t *nodes, size_t node_words,
                       uint16_t node, uint32_t place, uint32_t lower, uint32_t upper,
                       bool endless, bool flag, uint16_t mode,
                       size_t result[6]);
+
+/* Runs a grammar as saktroum_run does and lists its captures (3, 4, 5, 7, 11, 12, 13; mind the stack, above): every rule
+ * that succeeded on the way to the final success, outside any not, any failed alternative and a repeat's last, failed round.
+ * Writes four words a capture (rule, first token, token after the last, number of captures around it) to `captures`, an
+ * outer one before those inside it, otherwise in the order in which they were read, and 0 to every word behind them.
+ * result, on success: the six words of saktroum_run, then the number of captures, which tells a list of one capture with
+ * the words 0 0 0 0 from an empty one. On failure: result[0] is 0, the others are as before; every word of `captures` is 0.
+ * After 13 lend more words: a list may be of any length, and the answer does not say of which. */
+uint32_t saktroum_list(const uint16_t *nodes, size_t node_words,
+                       const uint16_t *rules, size_t rule_words,
+                       const uint32_t *tokens, size_t token_words,
+                       uint16_t node, uint32_t place, uint32_t lower, uint32_t upper,
+                       bool endless, bool flag, uint16_t mode,
+                       uint32_t *captures, size_t capture_words,
+                       size_t result[7]);
+
+/* Where a shown text lies. */
+enum { SAKTROUM_IN_REPORT = 0, SAKTROUM_IN_FILE = 1 };
+
+/* Says where the text shown for a capture lies (1 to 5, 8, 11, 14), given its four words, a report and its tokens, and the
+ * grammar file that they were scanned by. result: the offset of its first byte, the number of its bytes, and
+ * SAKTROUM_IN_REPORT, for a text from its first token's first byte to its last token's end, or SAKTROUM_IN_FILE, for the
+ * name of its rule if it read no token. `around` is not looked at. Each call checks the whole file, report and tokens. */
+uint32_t saktroum_shown(const uint8_t *file, size_t file_bytes,
+                        const uint8_t *report, size_t report_bytes,
+                        const uint32_t *tokens, size_t token_words,
+                        uint32_t rule, uint32_t first, uint32_t after, uint32_t around,
+                        size_t result[3]);
 
 /* Writes the line that the program prints for a grammar file and a report, with its line break, to `out` and answers how
  * many bytes it has. A slice of fewer than 64 bytes is left as it is, and the answer is 0. */

@@ -37,6 +37,8 @@ NODES, RULES = 512, 128
 EMPTY_NODE = LIST.index(EMPTY)
 ALL_READ = f"success {TOKENS} 0 0 clear"
 NONE_READ = "success 0 0 inf clear"
+# X behind each of the tokens; the start is the node that X stands for, and no capture.
+LISTED, NONE_LISTED = f"captures {TOKENS}", "captures 0"
 ALL_READ_ENDLESS = f"success {TOKENS} 0 inf clear"
 
 
@@ -68,14 +70,14 @@ def grammar_file(nodes):
 class Shape:
     """A grammar whose rule 0 stands for its last node, with the answer of a run and a limit in MiB."""
 
-    def __init__(self, name, nodes, answer=ALL_READ, rules=(), mode=AT_LEAST, limit=1024):
+    def __init__(self, name, nodes, answer=ALL_READ, rules=(), mode=AT_LEAST, limit=1024, listing=False):
         self.name, self.nodes, self.answer, self.mode, self.limit = name, nodes, answer, mode, limit
-        self.rules = rules
+        self.rules, self.listing = rules, listing
         # Every node calls the next but a, X behind a (a tail, walked by its sequence's call) and empty.
         self.round = len(nodes) - 3
 
     def words(self, tokens=TOKENS):
-        return depth.shape(self.nodes, self.rules, self.mode, tokens)
+        return depth.shape(self.nodes, self.rules, self.mode, tokens, self.listing)
 
 
 def shapes():
@@ -84,7 +86,9 @@ def shapes():
     return [
         Shape("list: X = (a X) / empty", LIST, limit=4),
         Shape("repeat: X = (a X)*", [*LIST[:4], (6, 2, 0, 0)], limit=4),
+        Shape("list, and its captures", LIST, LISTED, limit=4, listing=True),
         Shape("aligns", chain(9, free)),
+        Shape("aligns, and captures", chain(9, free), LISTED, listing=True),
         Shape("indents, at least", chain(7, free, relation=2)),
         Shape("indents, any", chain(7, free, relation=3), ALL_READ_ENDLESS),
         Shape("indents, greater", chain(7, free, relation=1), ALL_READ_ENDLESS, mode=ANY),
@@ -143,7 +147,7 @@ def measure(shape, folder):
     """Prints a line for a shape, and answers whether it keeps its limit."""
     file = folder / "shape"
     file.write_bytes(shape.words(0))
-    base = least(PROGRAM, folder, NONE_READ, MIB)
+    base = least(PROGRAM, folder, NONE_LISTED if shape.listing else NONE_READ, MIB)
     file.write_bytes(shape.words())
     need = least(PROGRAM, folder, shape.answer, shape.limit * MIB)
     if base is None or need is None:

@@ -11,9 +11,12 @@ LIBRARY is the reader as a shared library (trials/library.py says how it is made
     report     a report, and below it a line for each run: `(NUMBER) START -> ANSWER`, by the grammar above it
     sh         commands; what a call of tools/build.py or of the program writes stands on the next line, behind `# `
 
-START is empty or parts with commas between them: `rule NAME`, `mode RELATION`, `from L to H`, `from L on`, `flag set`.
+START is empty or parts with commas between them: `rule NAME`, `mode RELATION`, `from L to H`, `from L on`, `flag set`, and
+`entries`. Below a run with `entries` stand its captures as the program `entries` prints them, a line for each, behind five
+blanks and two more for each capture around it: `NAME LINE:COLUMN TEXT`, or `NAME -` for one that read no token.
 """
 
+import itertools
 import pathlib
 import re
 import sys
@@ -30,9 +33,10 @@ HANDBOOK = ROOT / "docs" / "HANDBOOK.md"
 CASES = ROOT / "crates" / "clauses" / "specs" / "HandbookCases.antt"
 
 CASE = re.compile(r"\((?P<number>\d+)\) (?:(?P<start>.+?) )?-> (?P<answer>.+)")
+ENTRY = " " * 5  # before each line of a list
 ANSWER = re.compile(r"failure|success (\d+) (\d+) (\d+|inf) (clear|set)")
 BUILDS = re.compile(r"python3 tools/build\.py (?P<grammar>[^-\s]\S*) (?P<file>\S+)")
-READS = re.compile(r"\.\./target/bin/reader < (?P<report>\S+)")
+READS = re.compile(r"\.\./target/bin/(?P<program>reader|entries) < (?P<report>\S+)")
 
 
 class Wrong(Exception):
@@ -60,7 +64,7 @@ class Grammar(NamedTuple):
 
 
 class Case(NamedTuple):
-    """A run: its number, how its start is written, the start, and the answer that the handbook gives."""
+    """A run: its number, how its start is written, the start, the answer that the handbook gives, and its captures."""
 
     line: int
     number: int
@@ -70,7 +74,13 @@ class Case(NamedTuple):
     lower: int
     upper: Optional[int]
     flag: bool
+    entries: bool
     answer: str
+    captures: Optional[list] = None
+
+    def usual(self):
+        """Whether the program starts so."""
+        return self.written in ("", "entries")
 
 
 class Report(NamedTuple):
@@ -140,6 +150,35 @@ def read_grammar(reader, block):
     return grammar
 
 
+# Lists
+
+
+def entry_line(reader, file, report, tokens, capture):
+    """The line of a capture, as the program `entries` prints it."""
+    rule, first, after, around = capture
+    text = reader.shown(file, report, tokens, capture).decode()
+    if first == after:
+        return f"{'  ' * around}{text} -"
+    _, column, offset, _ = tokens[first]
+    line = report.count(b"\n", 0, offset) + 1
+    first_line = text.split("\n")[0]
+    return f"{'  ' * around}{reader.rule_name(file, rule).decode()} {line}:{column + 1} {first_line}"
+
+
+def entry_lines(reader, file, report, tokens, captures):
+    return [entry_line(reader, file, report, tokens, capture) for capture in captures]
+
+
+def check_entries(case, written, listed):
+    """The lines below a run are those of its captures. A run without `entries` has none."""
+    if written and not case.entries:
+        raise Wrong(case.line + 1, "entries stand below a run with the part `entries`")
+    listed = [ENTRY + line for line in listed]
+    for number, (stands, lists) in enumerate(itertools.zip_longest(written, listed), case.line + 1):
+        if stands != lists:
+            raise Wrong(number, "the reader lists:\n" + "\n".join(listed or ["nothing"]))
+
+
 # Reports
 
 
@@ -149,7 +188,7 @@ def read_case(grammar, number, line):
     if not found or not ANSWER.fullmatch(found["answer"]):
         raise Wrong(number, "a run is written `(NUMBER) START -> success N L H clear` or `.. -> failure`")
     table = grammar.table
-    start = {"node": table.start, "mode": table.mode, "lower": 0, "upper": None, "flag": False}
+    start = {"node": table.start, "mode": table.mode, "lower": 0, "upper": None, "flag": False, "entries": False}
     for part in (found["start"] or "").split(", ") if found["start"] else []:
         start.update(start_part(table, number, part))
     return Case(number, int(found["number"]), found["start"] or "", answer=found["answer"], **start)
@@ -166,46 +205,78 @@ def start_part(table, number, part):
         return {"lower": int(words[1]), "upper": None if words[2] == "on" else int(words[3])}
     if part == "flag set":
         return {"flag": True}
+    if part == "entries":
+        return {"entries": True}
     raise Wrong(number, f"no such start: {part}")
 
 
 def read_report(reader, grammar, block):
-    """Runs the cases of a report block, and asks for the answers that stand there."""
+    """Runs the cases of a report block, and asks for the answers and the lists that stand there."""
     if grammar is None or grammar.file is None:
         raise Wrong(block.line, "no grammar that builds stands above this report")
     body, lines = answered(block, CASE.match)
     if not lines:
         raise Wrong(block.line, "no run stands below this report")
     text = "".join(f"{line}\n" for line in body)
-    tokens = reader.scan(grammar.file, text.encode())
-    cases = [read_case(grammar, number, line) for number, line in lines]
-    for case in cases:
-        table = (grammar.table.nodes, list(grammar.table.rules.values()))
-        answer = reader.run(*table, tokens, case.node, case.mode, case.lower, case.upper, case.flag)
-        if not case.written and reader.line(grammar.file, text.encode()) != answer:
-            raise Wrong(case.line, "the program's line is not the answer of the run")
-        if answer != case.answer:
-            raise Wrong(case.line, f"the reader answers: {answer}")
-    return Report(grammar, text, tokens, cases)
+    report = Report(grammar, text, reader.scan(grammar.file, text.encode()), [])
+    while lines:
+        case = read_case(grammar, *lines.pop(0))
+        written = []
+        while lines and lines[0][1].startswith(ENTRY):
+            written.append(lines.pop(0)[1])
+        report.cases.append(run_case(reader, report, case, written))
+    return report
+
+
+def run_case(reader, report, case, written):
+    """A run with its captures, whose answer and list are as written."""
+    file, text, table = report.grammar.file, report.text.encode(), report.grammar.table
+    run = (table.nodes, list(table.rules.values()), report.tokens)
+    run += (case.node, case.mode, case.lower, case.upper, case.flag)
+    answer = reader.run(*run)
+    if case.usual() and reader.line(file, text) != answer:
+        raise Wrong(case.line, "the program's line is not the answer of the run")
+    if answer != case.answer:
+        raise Wrong(case.line, f"the reader answers: {answer}")
+    with_list, captures = reader.list(*run)
+    if with_list != answer:
+        raise Wrong(case.line, f"the run that lists answers: {with_list}")
+    listed = entry_lines(reader, file, text, report.tokens, captures) if case.entries else []
+    check_entries(case, written, listed)
+    return case._replace(captures=captures if case.entries else None)
 
 
 # Commands
 
 
 def read_commands(reader, block):
-    """What the builder and the program write stands below each call of them."""
-    for number, (line, below) in enumerate(zip(block.lines, [*block.lines[1:], ""]), block.line):
+    """What the builder and the programs write stands below each call of them."""
+    for number, line in enumerate(block.lines, block.line):
         builds, reads = BUILDS.fullmatch(line), READS.fullmatch(line)
         if builds:
             grammar, file = build.built((ROOT / builds["grammar"]).read_text(encoding="utf-8"))
-            says = f"{builds['file']}: {grammar.summary()}"
+            says = [f"{builds['file']}: {grammar.summary()}"]
             if (ROOT / builds["file"]).read_bytes() != file:
                 raise Wrong(number, f"{builds['file']} is not what {builds['grammar']} builds")
         elif reads:
-            examples = ROOT / "examples"
-            says = reader.line((examples / "grammar.bin").read_bytes(), (examples / reads["report"]).read_bytes())
-        if (builds or reads) and below != f"# {says}":
-            raise Wrong(number, f"this writes: {says}")
+            says = printed(reader, reads["program"], ROOT / "examples" / reads["report"])
+        else:
+            continue
+        below = itertools.takewhile(lambda under: under.startswith("# "), block.lines[number + 1 - block.line :])
+        if list(below) != [f"# {said}" for said in says]:
+            raise Wrong(number, "this writes: " + "\n".join(says))
+
+
+def printed(reader, program, path):
+    """The lines that a program prints on a report of the examples."""
+    file, report = (ROOT / "examples" / "grammar.bin").read_bytes(), path.read_bytes()
+    says = reader.line(file, report)
+    if program == "reader" or not says.startswith("success"):
+        return [says]
+    nodes, rules, *start = reader.read(file)
+    tokens = reader.scan(file, report)
+    _, captures = reader.list(nodes, rules, tokens, *start)
+    return [*entry_lines(reader, file, report, tokens, captures), says]
 
 
 # The whole
@@ -267,8 +338,10 @@ def main():
         CASES.write_text(written, encoding="utf-8")
     if CASES.read_text(encoding="utf-8") != written:
         sys.exit(f"{CASES.relative_to(ROOT)}: not what the handbook's blocks make; --write writes it")
-    runs = sum(len(report.cases) for report in reports)
-    print(f"docs/HANDBOOK.md: {len(grammars)} grammars, {len(reports)} reports, {runs} runs, all as written")
+    runs = [case for report in reports for case in report.cases]
+    lists = sum(case.entries for case in runs)
+    counts = f"{len(grammars)} grammars, {len(reports)} reports, {len(runs)} runs, {lists} with entries"
+    print(f"docs/HANDBOOK.md: {counts}, all as written")
 
 
 if __name__ == "__main__":

@@ -10,13 +10,14 @@ import build  # noqa: E402
 WIDEST = 120  # in bytes
 
 HEAD = """\
--- The blocks of docs/HANDBOOK.md as cases: each run of a report by a grammar, then a check of each grammar. This file is made
--- from the handbook by trials/handbook.py: nodes as tools/build.py numbers them, tokens as the scanner gives them, the answers
--- as the handbook has them, where they follow from 01, "Columns and states", 02, note 1, and 001, section 2.1, by hand.
--- `HandbookHold`, in proofs, computes them all.
+-- The blocks of docs/HANDBOOK.md as cases: each run of a report by a grammar, then a check of each grammar, and the runs whose
+-- entries the handbook has once more, with their captures. This file is made from the handbook by trials/handbook.py: nodes as
+-- tools/build.py numbers them, tokens as the scanner gives them, the answers as the handbook has them, where they follow from
+-- 01, "Columns and states", 02, notes 1 and 2, and 001, section 2.1, by hand; the words of captures as the reader lists them,
+-- for the entries that the handbook has. `HandbookHold`, in proofs, computes them all.
 use Prim.Native.Nat.{ℕ}
 use mathlib.Core.Bool.{Bool, true, false}
-use mathlib.Core.List.{List, [], _∷_}
+use mathlib.Core.List.{List, [], _∷_, _++_}
 use Rattle.table.specs.Answer.{given, refusedAt}
 use Rattle.table.specs.Form.{Form, empty, terminal, rule, sequence, choice, not, repeat, indent, position, align}
 use Rattle.columns.specs.Relations.{equal, greater, atLeast, any, step}
@@ -25,6 +26,7 @@ use Rattle.columns.specs.declared.Upper.the-variants.{At, Endless}
 use Rattle.columns.specs.declared.Interval.{Interval}
 use Rattle.columns.specs.declared.Start.{Start}
 use Rattle.clauses.specs.Cases.{TokenAt, _at_, reads, fails, Case, run, check, from}
+use Rattle.clauses.specs.CaptureCases.{CaptureCase, lists, counting, nines, capture}
 
 -- A start at the first token: node, mode, interval, flag.
 abbrev pub within : ℕ → ℕ → Interval → Bool → Start
@@ -37,11 +39,11 @@ within node mode interval flag = record { node = node; place = 0; interval = int
 NAMED = ("equal", "greater", "atLeast", "any")
 
 
-def wrapped(items, first):
-    """Items with ∷ between them, in lines that are not too wide; the first begins the list or goes on with it."""
+def wrapped(items, first, sign="∷"):
+    """Items with a sign between them, in lines that are not too wide; the first begins the list or goes on with it."""
     lines, line = [], ""
     for item in items:
-        part = item if not line and first and not lines else f"∷ {item}"
+        part = item if not line and first and not lines else f"{sign} {item}"
         if line and len(f"{line} {part}".encode()) > WIDEST - 4:
             lines.append(line)
             line = part
@@ -121,23 +123,61 @@ def start(case):
     return f"(within {case.node} {relation(case.mode)} (to {case.lower} {upper}) {'true' if case.flag else 'false'})"
 
 
+def call(report, case, names):
+    """The arguments of a run: grammar, tokens and start."""
+    name = report.grammar.name
+    return f"{name}Nodes {name}Rules {names[tokens_of(report)]} {start(case)}"
+
+
+def titled(report, case):
+    """A comment with the number of a run and how it is written."""
+    written, text = f", {case.written}," if case.written else "", "|".join(report.text.splitlines())
+    return f"-- {case.number}. {report.grammar.name}.grammar{written} on |{text}|"
+
+
+def case_list(name, kind, lines):
+    """A list of cases; each begins with ∷, which the first does not need."""
+    first = next((i for i, line in enumerate(lines) if line.startswith("∷ ")), None)
+    lines = [line[2:] if i == first else line for i, line in enumerate(lines)]
+    body = "\n".join(f"    {line}" for line in [*lines, "[]" if first is None else "∷ []"])
+    return f"unfoldable pub {name} : List {kind}\n{name} =\n{body}\n"
+
+
 def cases_part(grammars, reports, names):
     """The list of all cases: runs, then checks."""
     lines = []
     for report in reports:
-        name, text = report.grammar.name, "|".join(report.text.splitlines())
         for case in report.cases:
-            written = f", {case.written}," if case.written else ""
-            lines.append(f"-- {case.number}. {name}.grammar{written} on |{text}|")
-            lines.append(f"∷ run {name}Nodes {name}Rules {names[tokens_of(report)]} {start(case)} {answer(case.answer)}")
+            lines.append(titled(report, case))
+            lines.append(f"∷ run {call(report, case, names)} {answer(case.answer)}")
     lines.append("-- Each grammar: it passes the check, or the builder tells that it does not.")
     for grammar in grammars:
         refusal = grammar.refusal
         verdict = f"(refusedAt 7 {refusal.node})" if refusal else "(given tt)"
         lines.append(f"∷ check {grammar.name}Nodes {grammar.name}Rules {verdict}")
-    lines[1] = lines[1][2:]
-    body = "\n".join(f"    {line}" for line in [*lines, "∷ []"])
-    return f"unfoldable pub handbookCases : List Case\nhandbookCases =\n{body}\n"
+    return case_list("handbookCases", "Case", lines)
+
+
+def capture_words(captures):
+    """The words of captures one behind the other, in lines."""
+    lines = wrapped([f"capture {' '.join(map(str, capture))}" for capture in captures], True, "++")
+    if not lines:
+        return ["[]"]
+    return ("(" + "\n".join(lines) + ")").split("\n")
+
+
+def lists_part(reports, names):
+    """The list of runs with their captures, each into as many words as they take."""
+    lines = []
+    for report in reports:
+        for case in report.cases:
+            if case.captures is None:
+                continue
+            count = len(case.captures)
+            lines.append(titled(report, case))
+            lines.append(f"∷ lists {call(report, case, names)} (nines {4 * count}) (counting {count} {answer(case.answer)})")
+            lines += capture_words(case.captures)
+    return case_list("handbookLists", "CaptureCase", lines)
 
 
 def tokens_of(report):
@@ -155,4 +195,4 @@ def file_of(grammars, reports):
             if tokens_of(report) not in names:
                 names[tokens_of(report)] = f"report{len(names) + 1}"
                 parts.append(report_part(names[tokens_of(report)], report))
-    return "\n".join([HEAD, *parts, cases_part(tables, reports, names)])
+    return "\n".join([HEAD, *parts, cases_part(tables, reports, names), lists_part(reports, names)])

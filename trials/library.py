@@ -10,7 +10,8 @@ import ctypes
 import pathlib
 from ctypes import byref, c_bool, c_size_t, c_uint8, c_uint16, c_uint32
 
-NODE_WORDS, RULE_WORDS, TOKEN_WORDS, LINE_BYTES = 2048, 128, 16384, 64
+NODE_WORDS, RULE_WORDS, TOKEN_WORDS, LINE_BYTES, NAME_BYTES = 2048, 128, 16384, 64, 32
+CAPTURE_ROOM = 13  # the number of a list that needs more words
 
 
 class Refused(Exception):
@@ -35,12 +36,26 @@ def passed(answer):
         raise Refused(answer)
 
 
+def start_of(node, mode, lower=0, upper=None, flag=False):
+    """A start at the first token; an upper end of none is without end."""
+    columns = (c_uint32(lower), c_uint32(upper or 0), c_bool(upper is None))
+    return c_uint16(node), c_uint32(0), *columns, c_bool(flag), c_uint16(mode)
+
+
+def ran_line(ran):
+    """The line of a run's six words."""
+    if not ran[0]:
+        return "failure"
+    return f"success {ran[1]} {ran[2]} {'inf' if ran[4] else ran[3]} {'set' if ran[5] else 'clear'}"
+
+
 class Reader:
     def __init__(self, path):
         self.library = ctypes.CDLL(str(pathlib.Path(path).resolve()))
-        for part in ("read", "check", "scan", "run"):
+        for part in ("read", "check", "scan", "run", "list", "shown"):
             getattr(self.library, f"saktroum_{part}").restype = c_uint32
-        self.library.saktroum_line.restype = c_size_t
+        for part in ("line", "rule_name"):
+            getattr(self.library, f"saktroum_{part}").restype = c_size_t
 
     def read(self, file):
         """The nodes, rules, start node and mode of a grammar file."""
@@ -53,6 +68,9 @@ class Reader:
         words = [word for node in nodes for word in node]
         return *slice_of(words, c_uint16), *slice_of(rules, c_uint16)
 
+    def token_words(self, tokens):
+        return slice_of([word for token in tokens for word in token], c_uint32)
+
     def check(self, nodes, rules):
         passed(self.library.saktroum_check(*self.table(nodes, rules)))
 
@@ -63,15 +81,38 @@ class Reader:
         passed(self.library.saktroum_scan(*given, tokens, c_size_t(TOKEN_WORDS), byref(count)))
         return fours(tokens, count[0])
 
-    def run(self, nodes, rules, tokens, node, mode, lower=0, upper=None, flag=False):
-        """The line of a run from the first token; an upper end of none is without end."""
+    def run(self, nodes, rules, tokens, *start):
+        """The line of a run from the first token; the start is a node, a mode and, if not as usual, two ends and a flag."""
         ran = (c_size_t * 6)()
-        start = (c_uint16(node), c_uint32(0), c_uint32(lower), c_uint32(upper or 0), c_bool(upper is None), c_bool(flag))
-        words = slice_of([word for token in tokens for word in token], c_uint32)
-        passed(self.library.saktroum_run(*self.table(nodes, rules), *words, *start, c_uint16(mode), byref(ran)))
-        if not ran[0]:
-            return "failure"
-        return f"success {ran[1]} {ran[2]} {'inf' if ran[4] else ran[3]} {'set' if ran[5] else 'clear'}"
+        words = self.token_words(tokens)
+        passed(self.library.saktroum_run(*self.table(nodes, rules), *words, *start_of(*start), byref(ran)))
+        return ran_line(ran)
+
+    def list(self, nodes, rules, tokens, *start):
+        """The line of such a run and its captures: rule, first token, token after the last and number around, of each."""
+        ran, room = (c_size_t * 7)(), 4
+        given = (*self.table(nodes, rules), *self.token_words(tokens), *start_of(*start))
+        while True:
+            captures = (c_uint32 * room)()
+            answer = self.library.saktroum_list(*given, captures, c_size_t(room), byref(ran))
+            if answer != CAPTURE_ROOM:
+                break
+            room *= 2
+        passed(answer)
+        return ran_line(ran), fours(captures, ran[6])
+
+    def shown(self, file, report, tokens, capture):
+        """The text shown for a capture: a part of the report, or the name of its rule."""
+        part = (c_size_t * 3)()
+        given = (*slice_of(file, c_uint8), *slice_of(report, c_uint8), *self.token_words(tokens))
+        passed(self.library.saktroum_shown(*given, *map(c_uint32, capture), byref(part)))
+        offset, length, in_file = part
+        return (file if in_file else report)[offset : offset + length]
+
+    def rule_name(self, file, rule):
+        name = (c_uint8 * NAME_BYTES)()
+        given = (*slice_of(file, c_uint8), c_size_t(rule))
+        return bytes(name[: self.library.saktroum_rule_name(*given, name, c_size_t(NAME_BYTES))])
 
     def line(self, file, report):
         """The line that the program prints."""

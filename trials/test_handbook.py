@@ -6,6 +6,7 @@
 LIBRARY is the reader as a shared library (trials/library.py says how it is made).
 """
 
+import copy
 import sys
 import unittest
 
@@ -49,11 +50,11 @@ left = left word
 
 
 class Told(unittest.TestCase):
-    def says(self, old, new, message):
+    def says(self, old, new, message, right=RIGHT):
         """With one change, the first thing told is this."""
-        self.assertEqual(RIGHT.count(old), 1)
+        self.assertEqual(right.count(old), 1)
         with self.assertRaises(handbook.Wrong) as wrong:
-            handbook.read_handbook(READER, RIGHT.replace(old, new))
+            handbook.read_handbook(READER, right.replace(old, new))
         self.assertEqual(str(wrong.exception), f"docs/HANDBOOK.md:{message}")
 
     def test_answers(self):
@@ -99,6 +100,90 @@ class Told(unittest.TestCase):
         self.assertIn("\n    terminal 1 ∷ position 0 (step 1) ∷ indent 1 (step 31) ∷ choice 0 2\n", cases)
         self.assertEqual(cases[cases.index("unfoldable") :], STEP_CASES)
 
+    def lists(self, old, new, line, listed=None):
+        """With one change, what the reader lists is told, with the first line that is wrong."""
+        self.says(old, new, f"{line}: the reader lists:\n{listed or LIST}", LISTED)
+
+    def test_entries(self):
+        """A rule, a line, a column, a text, the captures around; and a list that changes with the report."""
+        self.lists("     splice 1:1", "     report 1:1", 19)
+        self.lists("entry 3:3 loss", "entry 2:3 loss", 22)
+        self.lists("entry 3:3 loss", "entry 3:2 loss", 22)
+        self.lists("entry 2:3 * loss: 0.03", "entry 2:3 * loss:", 20)
+        self.lists("         mark 2:3", "       mark 2:3", 21)
+        self.lists("         mark -", "         mark 3:3", 23)
+        self.lists("     splice 1:1", "       splice 1:1", 19)
+        self.lists("     splice 1:1", "    splice 1:1", 19)
+        self.lists("  loss: 0.05\n\n", "  loss: 0.06\n\n", 22, LIST.replace("0.05", "0.06"))
+        self.lists("\n  * loss: 0.03\n  l", "\n   * loss: 0.03\n   l", 20, LIST.replace(":3", ":4"))
+
+    def test_count_of_entries(self):
+        """An entry that is missing or too many, and those of a run that fails."""
+        self.lists("         mark 2:3 *\n", "", 21)
+        self.lists("         mark -\n", "", 23)
+        self.lists("         mark -\n", "         mark -\n         mark -\n", 24)
+        self.lists("entries -> failure\n", "entries -> failure\n     mark -\n", 25, "nothing")
+
+    def test_forms_of_entries(self):
+        form = "a run is written `(NUMBER) START -> success N L H clear` or `.. -> failure`"
+        self.says("(3) -> success", "3 -> success", f"25: {form}", LISTED)
+        self.says("(1) entries ->", "(1) ->", "19: entries stand below a run with the part `entries`", LISTED)
+        self.says("(1) entries ->", "(1) entry ->", "18: no such start: entry", LISTED)
+        answers = "18: the reader answers: success 12 0 0 clear"
+        self.says("(1) entries -> success 12", "(1) entries -> success 11", answers, LISTED)
+
+    def test_parts(self):
+        """A run that lists, and the program's line, are asked for the same answer."""
+        told = {"list": "the run that lists answers: failure", "line": "the program's line is not the answer of the run"}
+        for part, says in told.items():
+            other = copy.copy(READER)
+            setattr(other, part, lambda *given: ("failure", []))
+            with self.assertRaises(handbook.Wrong) as wrong:
+                handbook.read_handbook(other, LISTED)
+            self.assertEqual(str(wrong.exception), f"docs/HANDBOOK.md:18: {says}")
+
+    def test_list_cases(self):
+        """A run with entries is a case of both lists."""
+        cases = handbook_cases.file_of(*handbook.read_handbook(READER, LISTED))
+        self.assertEqual(cases[cases.index("unfoldable") :], LIST_CASES)
+
+    def test_wide_lists(self):
+        """Room for a list grows, and its words go over several lines."""
+        grammar = "```grammar\n# wide.grammar\nstart all\nmode any\n\nall = one*\none = word\n```\n"
+        entries = "".join(f"     one 1:{2 * i + 1} a\n" for i in range(30))
+        report = f"```report\n{'a ' * 30}\n\n(1) entries -> success 30 0 inf clear\n{entries}```\n"
+        cases = handbook_cases.file_of(*handbook.read_handbook(READER, f"{grammar}\n{report}"))
+        words = cases[cases.index("(nines 120) (counting 30 ") :]
+        self.assertIn("\n    (capture 1 0 1 0 ++ capture 1 1 2 0 ++", words)
+        self.assertIn(" ++ capture 1 29 30 0)\n    ∷ []\n", words)
+        self.assertLessEqual(max(len(line.encode()) for line in words.splitlines()), handbook_cases.WIDEST)
+
+    def test_shown(self):
+        """The text of a capture with all its lines, that of one without a token, and one that is not there."""
+        (grammar,), (report,) = handbook.read_handbook(READER, LISTED)
+        given = (grammar.file, report.text.encode(), report.tokens)
+        self.assertEqual(READER.shown(*given, (1, 0, 12, 0)), report.text.rstrip("\n").encode())
+        self.assertEqual(READER.shown(*given, (3, 8, 8, 0)), b"mark")
+        self.assertEqual([READER.rule_name(grammar.file, rule) for rule in (0, 3, 4)], [b"report", b"mark", b""])
+        for capture in ((4, 0, 0, 0), (1, 0, 13, 0), (1, 2, 1, 0)):
+            with self.assertRaises(library.Refused) as refused:
+                READER.shown(*given, capture)
+            self.assertEqual(refused.exception.number, 14)
+
+    def test_commands(self):
+        """What the programs print on the examples: one line, the entries before it, and a failure alone."""
+        listed = handbook.printed(READER, "entries", handbook.ROOT / "examples" / "report.txt")
+        self.assertEqual(listed[:2], ["heading 1:1 Fusion splicer, arc table 4", "splice 2:1 splice 1"])
+        self.assertEqual(listed[-2:], ["    cleave 10:5 cleave: 0.5, 0.3", "success 58 0 0 clear"])
+        right = ["../target/bin/reader < report.txt", "# success 58 0 0 clear"]
+        right += ["../target/bin/entries < misplaced.txt", "# failure"]
+        right += ["", "../target/bin/entries < report.txt", *(f"# {line}" for line in listed)]
+        handbook.read_commands(READER, handbook.Block("sh", 1, right))
+        for missing, told in ((1, 1), (3, 3), (6, 6), (len(right) - 1, 6)):
+            with self.assertRaises(handbook.Wrong) as wrong:
+                handbook.read_commands(READER, handbook.Block("sh", 1, right[:missing] + right[missing + 1 :]))
+            self.assertRegex(str(wrong.exception), rf"^docs/HANDBOOK\.md:{told}: this writes: ")
+
 
 CASES = """\
 unfoldable pub handbookCases : List Case
@@ -113,6 +198,10 @@ handbookCases =
     ∷ check entryNodes entryRules (given tt)
     ∷ check leftNodes leftRules (refusedAt 7 0)
     ∷ []
+
+unfoldable pub handbookLists : List CaptureCase
+handbookLists =
+    []
 """
 
 STEPS = """\
@@ -144,6 +233,66 @@ handbookCases =
     ∷ run steppedNodes steppedRules report1 (within 3 (step 1) (to 1 (At 1)) false) (reads 1 1 (At 1) false)
     -- Each grammar: it passes the check, or the builder tells that it does not.
     ∷ check steppedNodes steppedRules (given tt)
+    ∷ []
+
+unfoldable pub handbookLists : List CaptureCase
+handbookLists =
+    []
+"""
+
+LIST = """\
+     splice 1:1 splice 1
+       entry 2:3 * loss: 0.03
+         mark 2:3 *
+       entry 3:3 loss: 0.05
+         mark -"""
+
+LISTED = f"""\
+```grammar
+# listed.grammar
+keywords "splice" "*" "loss" ":"
+start report
+mode greater
+
+report = (align splice)* end
+splice = "splice" number eol indent greater (align entry)*
+entry  = mark "loss" ":" number eol
+mark   = "*"?
+```
+
+```report
+splice 1
+  * loss: 0.03
+  loss: 0.05
+
+(1) entries -> success 12 0 0 clear
+{LIST}
+(2) rule entry, entries -> failure
+(3) -> success 12 0 0 clear
+```
+"""
+
+LIST_CASES = """\
+unfoldable pub handbookCases : List Case
+handbookCases =
+    -- 1. listed.grammar, entries, on |splice 1|  * loss: 0.03|  loss: 0.05|
+    run listedNodes listedRules report1 (from 19 greater) (reads 12 0 (At 0) false)
+    -- 2. listed.grammar, rule entry, entries, on |splice 1|  * loss: 0.03|  loss: 0.05|
+    ∷ run listedNodes listedRules report1 (from 31 greater) fails
+    -- 3. listed.grammar on |splice 1|  * loss: 0.03|  loss: 0.05|
+    ∷ run listedNodes listedRules report1 (from 19 greater) (reads 12 0 (At 0) false)
+    -- Each grammar: it passes the check, or the builder tells that it does not.
+    ∷ check listedNodes listedRules (given tt)
+    ∷ []
+
+unfoldable pub handbookLists : List CaptureCase
+handbookLists =
+    -- 1. listed.grammar, entries, on |splice 1|  * loss: 0.03|  loss: 0.05|
+    lists listedNodes listedRules report1 (from 19 greater) (nines 20) (counting 5 (reads 12 0 (At 0) false))
+    (capture 1 0 12 0 ++ capture 2 3 8 1 ++ capture 3 3 4 2 ++ capture 2 8 12 1 ++ capture 3 8 8 2)
+    -- 2. listed.grammar, rule entry, entries, on |splice 1|  * loss: 0.03|  loss: 0.05|
+    ∷ lists listedNodes listedRules report1 (from 31 greater) (nines 0) (counting 0 fails)
+    []
     ∷ []
 """
 

@@ -18,7 +18,8 @@ pub fn bench() -> Result<(), String> {
     scans()?;
     reads()?;
     checks()?;
-    runs()
+    runs()?;
+    lists()
 }
 
 /// The median time of each side, in microseconds. Both must give the same number.
@@ -255,18 +256,19 @@ fn tokens(terminals: &[u32]) -> Vec<u32> {
         .collect()
 }
 
+/// X = (a X) / empty
+const LIST: [[u16; 4]; 5] = [
+    [kind::TERMINAL, 0, 0, 0],
+    [kind::EMPTY, 0, 0, 0],
+    [kind::RULE, 0, 0, 0],
+    [kind::SEQUENCE, 0, 2, 0],
+    [kind::CHOICE, 3, 1, 0],
+];
+
 fn runs() -> Result<(), String> {
-    // X = (a X) / empty
-    let list = [
-        [kind::TERMINAL, 0, 0, 0],
-        [kind::EMPTY, 0, 0, 0],
-        [kind::RULE, 0, 0, 0],
-        [kind::SEQUENCE, 0, 2, 0],
-        [kind::CHOICE, 3, 1, 0],
-    ];
     run(
         "run right recursion, 4,096 tokens",
-        &list,
+        &LIST,
         &[4],
         &tokens(&[0]),
     )?;
@@ -326,6 +328,77 @@ fn run(name: &str, nodes: &[[u16; 4]], rules: &[u16], tokens: &[u32]) -> Result<
             second::Ran::Failure => 10_000,
             second::Ran::Refused(refused) => 10_000 + usize::from(refused),
             second::Ran::IllFormed(_) => 10_007,
+        },
+    )
+}
+
+fn lists() -> Result<(), String> {
+    list(
+        "list right recursion, 4,096 tokens",
+        &LIST,
+        &[4],
+        &tokens(&[0]),
+    )?;
+    // X*, X = a b
+    let repeat = [
+        [kind::TERMINAL, 0, 0, 0],
+        [kind::TERMINAL, 1, 0, 0],
+        [kind::SEQUENCE, 0, 1, 0],
+        [kind::RULE, 0, 0, 0],
+        [kind::REPEAT, 3, 0, 0],
+    ];
+    list(
+        "list a repeat, 4,096 tokens",
+        &repeat,
+        &[2],
+        &tokens(&[0, 1]),
+    )?;
+    // X*, X = indent any (align (a Y*)), Y = indent any b
+    let blocks = [
+        [kind::TERMINAL, 0, 0, 0],
+        [kind::TERMINAL, 1, 0, 0],
+        [kind::INDENT, 1, 0, 3],
+        [kind::RULE, 1, 0, 0],
+        [kind::REPEAT, 3, 0, 0],
+        [kind::SEQUENCE, 0, 4, 0],
+        [kind::ALIGN, 5, 0, 0],
+        [kind::INDENT, 6, 0, 3],
+        [kind::RULE, 0, 0, 0],
+        [kind::REPEAT, 8, 0, 0],
+    ];
+    let (rules, lines) = ([7, 2], tokens(&[0, 1, 1, 1]));
+    run(
+        "run these blocks with rules, 4,096 tokens",
+        &blocks,
+        &rules,
+        &lines,
+    )?;
+    list(
+        "list aligned blocks with rules, 4,096 tokens",
+        &blocks,
+        &rules,
+        &lines,
+    )
+}
+
+/// As `run`, with the captures listed: a place for each of 4,096.
+fn list(name: &str, nodes: &[[u16; 4]], rules: &[u16], tokens: &[u32]) -> Result<(), String> {
+    let nodes = nodes.concat();
+    let node = (nodes.len() / 4 - 1) as u16;
+    let start = Start::from_first(node, 3);
+    let (mut captures, mut others) = (vec![0; 16_384], vec![0; 16_384]);
+    let mut result = [0; 7];
+    time(
+        name,
+        || match plain::list(&nodes, rules, tokens, &start, &mut captures, &mut result) {
+            0 if result[0] == 1 => result[6],
+            refused => 10_000 + refused as usize,
+        },
+        || match second::list(&nodes, rules, tokens, &start, &mut others) {
+            second::Listed::Success { captures, .. } => captures as usize,
+            second::Listed::Failure => 10_000,
+            second::Listed::Refused(refused) => 10_000 + usize::from(refused),
+            second::Listed::IllFormed(_) => 10_007,
         },
     )
 }

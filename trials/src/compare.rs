@@ -2,15 +2,16 @@
 
 use std::fmt::Debug;
 use trials::generate::{
-    file_input, report_input, run_input, FileInput, ReportInput, Rng, RunInput, Stats,
+    file_input, report_input, run_input, shown_input, FileInput, ReportInput, Rng, RunInput,
+    ShownInput, Stats,
 };
 use trials::ours::{self, Odd};
-use trials::second::{self, sets, Ran};
+use trials::second::{self, sets, Listed, Ran, Shown};
 
 /// Grammars may take time that doubles with each token: inputs on which a run enters more expressions are passed over.
 const MOST_STEPS: u64 = 200_000;
 
-/// Each seventh run is made over sets of columns too.
+/// Each seventh run is made over sets of columns too, and lists its captures there.
 const SETS_EACH: u64 = 7;
 
 /// Runs on one thread, files and reports on another. Each has its own inputs, so that what is compared does not depend on
@@ -42,29 +43,31 @@ fn over_files(seed: u64, files: u64) -> Result<Stats, String> {
     let mut stats = Stats::default();
     compare_files(seed, files, &mut stats)?;
     compare_reports(seed, files, &mut stats)?;
+    compare_shown(seed, files, &mut stats)?;
     Ok(stats)
 }
 
-/// As many runs as are asked for, and the check of each.
+/// As many runs as are asked for, with the check and the list of each.
 fn compare_runs(seed: u64, runs: u64, stats: &mut Stats) -> Result<(), String> {
     let mut rng = Rng::new(seed);
     let (mut compared, mut over_sets, mut passed_over) = (0, 0, 0);
     while compared < runs {
         let input = run_input(&mut rng);
         let found = |what| format!("seed {seed}, run {}: {what}", compared + passed_over);
-        let ran = run_once(&input).map_err(found)?;
-        stats.note_run(&input, ran.as_ref());
-        if ran.is_none() {
+        let Some(went) = run_once(&input).map_err(found)? else {
+            stats.note_run(&input, None);
             passed_over += 1;
             continue;
-        }
+        };
+        stats.note_run(&input, Some(&went.ran));
+        stats.note_list(&went.listed, &went.words);
         if compared % SETS_EACH == 0 {
             sets_once(&input).map_err(found)?;
             over_sets += 1;
         }
         compared += 1;
     }
-    println!("seed {seed}: {compared} runs, {over_sets} of them over sets too, no difference; {passed_over} passed over");
+    println!("seed {seed}: {compared} runs and lists, {over_sets} of them over sets too, no difference; {passed_over} passed over");
     Ok(())
 }
 
@@ -94,6 +97,18 @@ fn compare_reports(seed: u64, reports: u64, stats: &mut Stats) -> Result<(), Str
     Ok(())
 }
 
+/// As many shown texts as are asked for.
+fn compare_shown(seed: u64, texts: u64, stats: &mut Stats) -> Result<(), String> {
+    let mut rng = Rng::new(seed);
+    for i in 0..texts {
+        let input = shown_input(&mut rng);
+        let shown = shown_once(&input).map_err(|what| format!("seed {seed}, text {i}: {what}"))?;
+        stats.note_shown(&input, &shown);
+    }
+    println!("seed {seed}: {texts} shown texts, no difference");
+    Ok(())
+}
+
 /// Both answers are the same, or the input's bytes with both answers.
 pub fn same<T: PartialEq + Debug>(
     part: &str,
@@ -110,45 +125,89 @@ pub fn same<T: PartialEq + Debug>(
     ))
 }
 
-/// The check and the run of a table. No answer is given where the run takes too many steps.
-pub fn run_once(input: &RunInput) -> Result<Option<Ran>, String> {
+/// What a run gave, and what it gave as it listed, with the words lent for its captures.
+pub struct Went {
+    pub ran: Ran,
+    pub listed: Listed,
+    pub words: Vec<u32>,
+}
+
+/// The check, the run and the list of a table. No answer is given where the run takes too many steps.
+pub fn run_once(input: &RunInput) -> Result<Option<Went>, String> {
     let (nodes, rules, tokens, start) = input.parts();
-    let bytes = || format!("nodes {nodes:?}\nrules {rules:?}\ntokens {tokens:?}\n{start:?}");
+    let bytes = || told(input);
     same(
         "the check",
         ours::check(nodes, rules),
         second::check(nodes, rules),
         bytes,
     )?;
-    match second::run_within(nodes, rules, tokens, start, MOST_STEPS) {
-        None => Ok(None),
-        Some(ran) => same(
-            "the run",
-            ours::run(nodes, rules, tokens, start),
-            ran,
-            bytes,
-        )
-        .map(Some),
+    let Some(ran) = second::run_within(nodes, rules, tokens, start, MOST_STEPS) else {
+        return Ok(None);
+    };
+    let ours = ours::run(nodes, rules, tokens, start);
+    let ran = same("the run", ours, ran, bytes)?;
+
+    let mut words = vec![ours::TOKEN_WORD; input.room];
+    let listed = second::list(nodes, rules, tokens, start, &mut words);
+    let ours = ours::list(nodes, rules, tokens, start, input.room);
+    let (listed, words) = same("the list", ours, (listed, words), bytes)?;
+    let run_of = run_of(&listed, &ran);
+    same("the run of the list", Ok(run_of), ran, bytes)?;
+    Ok(Some(Went { ran, listed, words }))
+}
+
+fn told(input: &RunInput) -> String {
+    let (nodes, rules, tokens, start) = input.parts();
+    let room = input.room;
+    format!("{room} words lent\nnodes {nodes:?}\nrules {rules:?}\ntokens {tokens:?}\n{start:?}")
+}
+
+/// The run by its list. After 13 nothing is known of it but that it succeeds, as `ran` does.
+fn run_of(listed: &Listed, ran: &Ran) -> Ran {
+    match *listed {
+        Listed::Refused(13) if matches!(ran, Ran::Success { .. }) => *ran,
+        Listed::Refused(number) => Ran::Refused(number),
+        Listed::IllFormed(node) => Ran::IllFormed(node),
+        Listed::Failure => Ran::Failure,
+        Listed::Success {
+            read,
+            lower,
+            upper,
+            flag,
+            ..
+        } => Ran::Success {
+            read,
+            lower,
+            upper,
+            flag,
+        },
     }
 }
 
-/// The run over sets and ours are alike: both succeed or both fail, with the same tokens read and flag, and the set has the
-/// numbers between our ends. Few steps are known to do for the run.
+/// The run over sets and ours are alike: both succeed or both fail, with the same tokens read, flag and captures, and the
+/// set has the numbers between our ends. Few steps are known to do for the run.
 pub fn sets_once(input: &RunInput) -> Result<(), String> {
     let (nodes, rules, tokens, start) = input.parts();
-    let over = sets::run(nodes, rules, tokens, start);
-    let ours = ours::run(nodes, rules, tokens, start);
+    let (over, captures) =
+        sets::list_within(nodes, rules, tokens, start, u64::MAX).ok_or("the steps have run out")?;
+    let list = captures.as_flattened();
+    let ours = ours::list(nodes, rules, tokens, start, list.len());
     let alike = match (&ours, &over) {
-        (Ok(Ran::Failure), sets::SetRan::Failure) => true,
-        (Ok(Ran::Refused(x)), sets::SetRan::Refused(y)) => x == y,
-        (Ok(Ran::IllFormed(x)), sets::SetRan::IllFormed(y)) => x == y,
+        (Ok((Listed::Failure, _)), sets::SetRan::Failure) => list.is_empty(),
+        (Ok((Listed::Refused(x), _)), sets::SetRan::Refused(y)) => x == y,
+        (Ok((Listed::IllFormed(x), _)), sets::SetRan::IllFormed(y)) => x == y,
         (
-            Ok(Ran::Success {
-                read,
-                lower,
-                upper,
-                flag,
-            }),
+            Ok((
+                Listed::Success {
+                    read,
+                    lower,
+                    upper,
+                    flag,
+                    captures: count,
+                },
+                words,
+            )),
             sets::SetRan::Success {
                 read: read_over,
                 set,
@@ -157,7 +216,11 @@ pub fn sets_once(input: &RunInput) -> Result<(), String> {
         ) => {
             // The runs of a set list it exactly.
             let ends = (u64::from(*lower), upper.map(u64::from));
-            read == read_over && flag == flag_over && set.runs() == [ends]
+            read == read_over
+                && flag == flag_over
+                && set.runs() == [ends]
+                && *count as usize == captures.len()
+                && words == list
         }
         _ => false,
     };
@@ -165,7 +228,8 @@ pub fn sets_once(input: &RunInput) -> Result<(), String> {
         return Ok(());
     }
     Err(format!(
-        "the run over sets is not alike\nours: {ours:?}\nsets: {over:?}\nnodes {nodes:?}\nrules {rules:?}\ntokens {tokens:?}\n{start:?}"
+        "the run over sets is not alike\nours: {ours:?}\nsets: {over:?} {list:?}\n{}",
+        told(input)
     ))
 }
 
@@ -255,4 +319,27 @@ fn report_once(input: &ReportInput, stats: &mut Stats) -> Result<bool, String> {
     };
     stats.note_line(&same("the line", ours::line(file, report), line, bytes)?);
     Ok(true)
+}
+
+/// The shown text: where it lies, and its bytes.
+fn shown_once(input: &ShownInput) -> Result<Shown, String> {
+    let ShownInput {
+        file,
+        report,
+        tokens,
+        capture,
+    } = input;
+    let bytes = || format!("{capture:?}\ntokens {tokens:?}\nfile {file:?}\nreport {report:?}");
+    same(
+        "the text",
+        ours::text(file, report, tokens, *capture),
+        second::text(file, report, tokens, *capture),
+        bytes,
+    )?;
+    same(
+        "the text's place",
+        ours::shown(file, report, tokens, *capture),
+        second::shown(file, report, tokens, *capture),
+        bytes,
+    )
 }

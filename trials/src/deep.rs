@@ -1,5 +1,5 @@
 //! Both readers on the deepest runs that the limits allow: forms of one kind laid over the list X = (a X) / empty until
-//! the table has 512 nodes, over 4,096 tokens.
+//! the table has 512 nodes, over 4,096 tokens. Some list their captures, this reader on no more stack than it is to need.
 
 use crate::compare::same;
 use trials::ours;
@@ -17,9 +17,26 @@ const FORMS: [(&str, u16, u16, u16); 6] = [
 ];
 const EMPTY: u16 = 1;
 
+/// Each is the terminal 0 at column 0.
+static TOKENS: [u32; 4 * 4096] = [0; 4 * 4096];
+
+/// The stack that this reader lists on: 4 MiB for the list by itself, 1 GiB for others.
+const LIST_STACK: usize = 4 << 20;
+const STACK: usize = 1 << 30;
+
+/// A table and a start at its last node, for which rule 0 stands too.
+struct Deep {
+    name: &'static str,
+    nodes: Vec<u16>,
+    rules: Vec<u16>,
+    start: Start,
+}
+
 pub fn deep() -> Result<(), String> {
+    let first = Start::from_first(0, AT_LEAST);
     for (name, form, b, relation) in FORMS {
-        deepest(name, [form, b, relation], Start::from_first(0, AT_LEAST))?;
+        let nodes = under([form, b, relation], list());
+        Deep::new(name, &nodes, &[], first).run()?;
     }
     // Both ends nearly as high as they come. In mode any the tokens are read, though all of them lie left of the ends.
     let highest = Start {
@@ -27,35 +44,85 @@ pub fn deep() -> Result<(), String> {
         upper: Some(65_535),
         ..Start::from_first(0, ANY)
     };
-    let last_step = [kind::INDENT, 0, COUNT - 1];
-    deepest("indents, the last step", last_step, highest)?;
+    let last_step = under([kind::INDENT, 0, COUNT - 1], list());
+    Deep::new("indents, the last step", &last_step, &[], highest).run()?;
     println!(
         "{} grammars of the deepest kind: no difference",
         FORMS.len() + 1
     );
+
+    Deep::new("nothing", &list(), &[], first).list(LIST_STACK)?;
+    let align = [kind::ALIGN, 0, 0];
+    Deep::new("aligns", &under(align, list()), &[], first).list(STACK)?;
+    // The longest list of nested captures: 128 rules, each of which stands for the node below it, at each of 4,097 places.
+    let (mut nodes, mut others) = (list(), vec![]);
+    for rule in 1..128 {
+        others.push(nodes.len() as u16 - 1);
+        nodes.push([kind::RULE, rule, 0, 0]);
+    }
+    Deep::new("rules and aligns", &under(align, nodes), &others, first).list(STACK)?;
+    println!("3 lists of the deepest kind: no difference");
     Ok(())
 }
 
-/// The list under one form, from the last node in place of the start's own.
-fn deepest(name: &str, [form, b, relation]: [u16; 3], start: Start) -> Result<(), String> {
-    let tokens = vec![0; 4 * 4096];
-    let mut nodes = vec![
+/// X = (a X) / empty, where X is rule 0.
+fn list() -> Vec<[u16; 4]> {
+    vec![
         [kind::TERMINAL, 0, 0, 0],
         [kind::EMPTY, 0, 0, 0],
         [kind::RULE, 0, 0, 0],
         [kind::SEQUENCE, 0, 2, 0],
         [kind::CHOICE, 3, EMPTY, 0],
-    ];
+    ]
+}
+
+/// Nodes under as many of one form as a table holds.
+fn under([form, b, relation]: [u16; 3], mut nodes: Vec<[u16; 4]>) -> Vec<[u16; 4]> {
     // Two at a time: an odd number of nots would never succeed.
     while nodes.len() + 2 <= 512 {
         for _ in 0..2 {
             nodes.push([form, nodes.len() as u16 - 1, b, relation]);
         }
     }
-    let node = nodes.len() as u16 - 1;
-    let nodes = nodes.concat();
-    let start = Start { node, ..start };
-    let ran = second::run(&nodes, &[node], &tokens, &start);
-    let ours = ours::run(&nodes, &[node], &tokens, &start);
-    same("the run", ours, ran, || format!("the list under {name}")).map(|_| ())
+    nodes
+}
+
+impl Deep {
+    /// The list under what `name` says, with the rules behind rule 0, from the last node in place of the start's own.
+    fn new(name: &'static str, nodes: &[[u16; 4]], others: &[u16], start: Start) -> Self {
+        let node = nodes.len() as u16 - 1;
+        Deep {
+            name,
+            nodes: nodes.concat(),
+            rules: [&[node], others].concat(),
+            start: Start { node, ..start },
+        }
+    }
+
+    fn told(&self) -> String {
+        format!("the list under {}", self.name)
+    }
+
+    fn run(&self) -> Result<(), String> {
+        let (nodes, rules, start, tokens) = (&self.nodes, &self.rules, &self.start, &TOKENS);
+        let ran = second::run(nodes, rules, tokens, start);
+        let ours = ours::run(nodes, rules, tokens, start);
+        same("the run", ours, ran, || self.told()).map(|_| ())
+    }
+
+    /// Lists with room for a capture of each rule at each place, this reader on so much stack.
+    fn list(&self, stack: usize) -> Result<(), String> {
+        let (nodes, rules, start, tokens) = (&self.nodes, &self.rules, &self.start, &TOKENS);
+        let mut words = vec![ours::TOKEN_WORD; 4 * 4097 * rules.len()];
+        let listed = second::list(nodes, rules, tokens, start, &mut words);
+        let ours = std::thread::scope(|scope| {
+            let list = || ours::list(nodes, rules, tokens, start, words.len());
+            let thread = std::thread::Builder::new().stack_size(stack);
+            let thread = thread.spawn_scoped(scope, list);
+            thread.expect("a thread").join().expect("a list")
+        });
+        // The words are millions, so they are not shown where they differ.
+        let alike = ours.map(|(listed, all)| (listed, all == words));
+        same("the list", alike, (listed, true), || self.told()).map(|_| ())
+    }
 }

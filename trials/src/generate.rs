@@ -5,11 +5,13 @@ mod files;
 mod grammars;
 mod reports;
 mod runs;
+mod shown;
 mod stats;
 
 pub use files::{file_input, FileInput};
 pub use reports::{report_input, ReportInput};
 pub use runs::{run_input, RunInput};
+pub use shown::{shown_input, ShownInput};
 pub use stats::Stats;
 
 /// A splitmix64 stream.

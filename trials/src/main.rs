@@ -1,6 +1,7 @@
 //! The trials.
 //!
-//!     trials compare SEED RUNS FILES    both readers on generated inputs
+//!     trials compare SEED RUNS FILES    both readers on generated inputs: runs with their lists, and as many
+//!                                       reports and shown texts as files
 //!     trials published CASES            both readers on the published examples
 //!     trials program READER CASES DIR   the program on stored pairs, in a folder that it may fill
 //!     trials round CASES                published examples, the deepest runs and a short round of generated inputs
@@ -20,7 +21,7 @@ const STACK: usize = 2 << 30;
 const USAGE: &str = "usage: trials compare SEED RUNS FILES | published CASES | program READER CASES DIR | round CASES | bench";
 
 /// The short round's seed, and how many runs and files it compares.
-const ROUND: (u64, u64, u64) = (1, 300_000, 50_000);
+const ROUND: (u64, u64, u64) = (1, 200_000, 30_000);
 
 fn trials(words: &[&str]) -> Result<(), String> {
     match words {

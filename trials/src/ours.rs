@@ -1,9 +1,9 @@
 //! The proved reader, through its C interface (`include/saktroum.h`), in the words of the second reader.
 //!
 //! Before a call every lent word is set to a marker, and so are some words on either side of the slice. After it the words
-//! that the call reports are taken, and all others must still hold the marker.
+//! that the call reports are taken, and all others must still hold the marker. A list is given with all its lent words.
 
-use crate::second::{FileRead, Ran, Start, Verdict};
+use crate::second::{FileRead, Listed, Ran, Shown, Start, Verdict};
 
 mod c {
     extern "C" {
@@ -46,6 +46,37 @@ mod c {
             flag: bool,
             mode: u16,
             result: *mut [usize; 6],
+        ) -> u32;
+        pub fn saktroum_list(
+            nodes: *const u16,
+            node_words: usize,
+            rules: *const u16,
+            rule_words: usize,
+            tokens: *const u32,
+            token_words: usize,
+            node: u16,
+            place: u32,
+            lower: u32,
+            upper: u32,
+            endless: bool,
+            flag: bool,
+            mode: u16,
+            captures: *mut u32,
+            capture_words: usize,
+            result: *mut [usize; 7],
+        ) -> u32;
+        pub fn saktroum_shown(
+            file: *const u8,
+            file_bytes: usize,
+            report: *const u8,
+            report_bytes: usize,
+            tokens: *const u32,
+            token_words: usize,
+            rule: u32,
+            first: u32,
+            after: u32,
+            around: u32,
+            result: *mut [usize; 3],
         ) -> u32;
         pub fn saktroum_line(
             file: *const u8,
@@ -139,6 +170,62 @@ pub mod plain {
     }
 
     /// The stack must do for the run.
+    pub fn list(
+        nodes: &[u16],
+        rules: &[u16],
+        tokens: &[u32],
+        start: &Start,
+        captures: &mut [u32],
+        result: &mut [usize; 7],
+    ) -> u32 {
+        unsafe {
+            c::saktroum_list(
+                nodes.as_ptr(),
+                nodes.len(),
+                rules.as_ptr(),
+                rules.len(),
+                tokens.as_ptr(),
+                tokens.len(),
+                start.node,
+                start.place,
+                start.lower,
+                // Not looked at where the interval is without end.
+                start.upper.unwrap_or(!start.lower),
+                start.upper.is_none(),
+                start.flag,
+                start.mode,
+                captures.as_mut_ptr(),
+                captures.len(),
+                result,
+            )
+        }
+    }
+
+    pub fn shown(
+        file: &[u8],
+        report: &[u8],
+        tokens: &[u32],
+        [rule, first, after, around]: [u32; 4],
+        result: &mut [usize; 3],
+    ) -> u32 {
+        unsafe {
+            c::saktroum_shown(
+                file.as_ptr(),
+                file.len(),
+                report.as_ptr(),
+                report.len(),
+                tokens.as_ptr(),
+                tokens.len(),
+                rule,
+                first,
+                after,
+                around,
+                result,
+            )
+        }
+    }
+
+    /// The stack must do for the run.
     pub fn line(file: &[u8], report: &[u8], out: &mut [u8]) -> usize {
         unsafe {
             c::saktroum_line(
@@ -183,7 +270,7 @@ pub struct Odd(pub String);
 
 /// What every lent word holds before a call.
 const WORD: u16 = 0xa5a5;
-const TOKEN_WORD: u32 = 0xa5a5_a5a5;
+pub const TOKEN_WORD: u32 = 0xa5a5_a5a5;
 const RESULT_WORD: usize = 0xa5a5_a5a5_a5a5_a5a5;
 const BYTE: u8 = 0xa5;
 
@@ -232,7 +319,7 @@ impl<T: Copy + PartialEq> Lent<T> {
 /// The number of an answer without a node.
 fn number(answer: u32) -> Result<u8, Odd> {
     match answer {
-        0..=12 => Ok(answer as u8),
+        0..=14 => Ok(answer as u8),
         _ => Err(Odd(format!("the answer is {answer}"))),
     }
 }
@@ -310,6 +397,96 @@ pub fn run(nodes: &[u16], rules: &[u16], tokens: &[u32], start: &Start) -> Resul
         (0, _) => success(&result.reported(6, "result")?),
         (refused, _) => result.reported(0, "result").map(|_| Ran::Refused(refused)),
     }
+}
+
+/// The run that lists, lent a slice of so many words, which are all given as they are after the call: a refused one has
+/// left them alone. The stack must do for the run.
+pub fn list(
+    nodes: &[u16],
+    rules: &[u16],
+    tokens: &[u32],
+    start: &Start,
+    room: usize,
+) -> Result<(Listed, Vec<u32>), Odd> {
+    let mut captures = Lent::new(room, TOKEN_WORD);
+    let mut result = Lent::new(7, RESULT_WORD);
+    let answer = plain::list(
+        nodes,
+        rules,
+        tokens,
+        start,
+        captures.slice(),
+        result.array(),
+    );
+    let words = captures.reported(room, "captures")?;
+    if let Some(node) = node_of(answer) {
+        result.reported(0, "result")?;
+        return Ok((Listed::IllFormed(node), words));
+    }
+    let first = result.slice()[0];
+    let (listed, reported) = match (number(answer)?, first) {
+        (0, 0) => (Listed::Failure, 1),
+        (0, _) => (success_listed(result.slice())?, 7),
+        (refused, _) => (Listed::Refused(refused), 0),
+    };
+    result.reported(reported, "result")?;
+    Ok((listed, words))
+}
+
+/// The seven words of a success that lists.
+fn success_listed(words: &[usize]) -> Result<Listed, Odd> {
+    match success(&words[..6])? {
+        Ran::Success {
+            read,
+            lower,
+            upper,
+            flag,
+        } => Ok(Listed::Success {
+            read,
+            lower,
+            upper,
+            flag,
+            captures: narrow(words[6])?,
+        }),
+        other => Err(Odd(format!("{other:?} with captures"))),
+    }
+}
+
+/// Where the text shown for a capture lies.
+pub fn shown(file: &[u8], report: &[u8], tokens: &[u32], capture: [u32; 4]) -> Result<Shown, Odd> {
+    let mut result = Lent::new(3, RESULT_WORD);
+    let answer = plain::shown(file, report, tokens, capture, result.array());
+    let refused = number(answer)?;
+    if refused != 0 {
+        return result
+            .reported(0, "result")
+            .map(|_| Shown::Refused(refused));
+    }
+    let words = result.reported(3, "result")?;
+    let (offset, length) = (narrow(words[0])?, narrow(words[1])?);
+    match words[2] {
+        0 => Ok(Shown::InReport { offset, length }),
+        1 => Ok(Shown::InFile { offset, length }),
+        _ => Err(Odd(format!("the words are {words:?}"))),
+    }
+}
+
+/// The bytes of the text shown for a capture, none where it is refused.
+pub fn text<'a>(
+    file: &'a [u8],
+    report: &'a [u8],
+    tokens: &[u32],
+    capture: [u32; 4],
+) -> Result<&'a [u8], Odd> {
+    let (lent, offset, length) = match shown(file, report, tokens, capture)? {
+        Shown::InReport { offset, length } => (report, offset, length),
+        Shown::InFile { offset, length } => (file, offset, length),
+        Shown::Refused(_) => return Ok(&[]),
+    };
+    let behind = lent.get(offset as usize..);
+    behind
+        .and_then(|bytes| bytes.get(..length as usize))
+        .ok_or_else(|| Odd(format!("{length} bytes from {offset} on are not there")))
 }
 
 /// The six words of a success.

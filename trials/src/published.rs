@@ -2,10 +2,13 @@
 //!
 //! The file's layout is told in `crates/published/src/main.rt`.
 
-use crate::compare::{same, sets_once};
+use crate::compare::{run_once, same, sets_once};
 use trials::generate::RunInput;
 use trials::ours;
 use trials::second::{self, Start};
+
+/// The words lent for the captures of an example.
+const ROOM: usize = 256;
 
 pub fn published(path: &str) -> Result<(), String> {
     let bytes = std::fs::read(path).map_err(|error| format!("{path}: {error}"))?;
@@ -84,9 +87,9 @@ fn run(header: &[u8], nodes: &[u8], rules: &[u8], tokens: &[u8]) -> Result<Vec<u
             flag: header[2] != 0,
             mode: number(&header[6..8]) as u16,
         },
+        room: ROOM,
     };
     sets_once(&input)?;
-    let ran = second::run(&input.nodes, &input.rules, &input.tokens, &input.start);
-    let ours = ours::run(&input.nodes, &input.rules, &input.tokens, &input.start);
-    same("the run", ours, ran, || format!("{input:?}")).map(|ran| second::line_of(&ran))
+    let went = run_once(&input)?.ok_or("the run takes many steps")?;
+    Ok(second::line_of(&went.ran))
 }

@@ -16,6 +16,8 @@ enum { NODES = SAKTROUM_NODE_WORDS / 4, TOKENS = SAKTROUM_TOKEN_WORDS / 4, WORDS
 static uint16_t nodes[NODES][4];
 /* Each is the terminal 0 at column 0. */
 static uint32_t tokens[SAKTROUM_TOKEN_WORDS];
+/* A capture for each token. */
+static uint32_t captures[TOKENS * 4];
 static uint8_t file[65536], report[2 * WORDS];
 static size_t file_bytes;
 
@@ -46,6 +48,22 @@ static void run_aligns(void *unused)
         printf("aligns: success, %zu of %d tokens read\n", ran[1], TOKENS);
     else
         puts("aligns: failure");
+}
+
+static void list_aligns(void *unused)
+{
+    const uint16_t rules[1] = {NODES - 1};
+    size_t listed[7];
+    (void)unused;
+    uint32_t answer = saktroum_list(nodes[0], SAKTROUM_NODE_WORDS, rules, 1, tokens, SAKTROUM_TOKEN_WORDS,
+                                    NODES - 1, 0, 0, 0, true, false, SAKTROUM_AT_LEAST,
+                                    captures, TOKENS * 4, listed);
+    if (answer)
+        printf("captures: refused %u\n", answer);
+    else if (listed[0])
+        printf("captures: %zu, the last with %u around it\n", listed[6], captures[TOKENS * 4 - 1]);
+    else
+        puts("captures: failure");
 }
 
 static void write_line(void *unused)
@@ -84,6 +102,8 @@ int main(int argc, char **argv)
     fflush(stdout);
     lay_aligns();
     int error = saktroum_with_stack(run_aligns, NULL);
+    if (!error)
+        error = saktroum_with_stack(list_aligns, NULL);
     if (!error)
         error = saktroum_with_stack(write_line, NULL);
     if (error)

@@ -1,11 +1,13 @@
-//! The two readings of the clauses on generated inputs, the scanner's two ways, and
-//! the generator's shares.
+//! The two readings of the clauses on generated inputs, the scanner's two ways, both
+//! readers on lists and shown texts, and the generator's shares.
 
 use std::thread;
-use trials::generate::{file_input, report_input, run_input, Rng, Stats};
+use trials::generate::{file_input, report_input, run_input, shown_input, Rng, Stats};
+use trials::ours;
 use trials::second::sets::{self, ColumnSet, SetRan};
 use trials::second::{
-    check, line_within, next_token, read, run_within, scan, Handed, Ran, Value, Verdict,
+    check, line_within, list, list_within, next_token, read, run_within, scan, shown, text, Handed,
+    Listed, Ran, Shown, Start, Value, Verdict,
 };
 
 /// Runs the work with a stack for deep runs.
@@ -193,12 +195,278 @@ fn lines_of_every_answer() {
 
 #[test]
 fn the_same_seed_gives_the_same_inputs() {
-    let (mut one, mut two) = (Rng::new(5), Rng::new(5));
-    for _ in 0..200 {
-        assert_eq!(run_input(&mut one), run_input(&mut two));
-        assert_eq!(file_input(&mut one), file_input(&mut two));
-        assert_eq!(report_input(&mut one), report_input(&mut two));
+    with_stack(|| {
+        let (mut one, mut two) = (Rng::new(5), Rng::new(5));
+        for _ in 0..200 {
+            assert_eq!(run_input(&mut one), run_input(&mut two));
+            assert_eq!(file_input(&mut one), file_input(&mut two));
+            assert_eq!(report_input(&mut one), report_input(&mut two));
+            assert_eq!(shown_input(&mut one), shown_input(&mut two));
+        }
+    });
+}
+
+/// What both readers answer, with every word of a slice of that length behind the call.
+fn listed(
+    nodes: &[u16],
+    rules: &[u16],
+    tokens: &[u32],
+    start: &Start,
+    room: usize,
+) -> (Listed, Vec<u32>) {
+    let mut words = vec![ours::TOKEN_WORD; room];
+    let listed = list(nodes, rules, tokens, start, &mut words);
+    let both = (listed, words);
+    assert_eq!(
+        ours::list(nodes, rules, tokens, start, room).as_ref(),
+        Ok(&both),
+        "{nodes:?} {rules:?} {tokens:?} {start:?}"
+    );
+    both
+}
+
+/// Rule 0 = (rule 1, b) / (rule 1, rule 2), rule 1 = a, rule 2 = not rule 1, then empty.
+const FORKS: [[u16; 4]; 12] = [
+    [1, 0, 0, 0],
+    [1, 1, 0, 0],
+    [0, 0, 0, 0],
+    [2, 1, 0, 0],
+    [2, 2, 0, 0],
+    [3, 3, 1, 0],
+    [3, 3, 4, 0],
+    [4, 5, 6, 0],
+    [5, 3, 0, 0],
+    [3, 8, 2, 0],
+    [2, 0, 0, 0],
+    [6, 10, 0, 0],
+];
+const FORK_RULES: [u16; 3] = [7, 0, 9];
+
+/// Tokens of these terminals, at column 0.
+fn row(terminals: &[u32]) -> Vec<u32> {
+    let tokens = terminals.iter().map(|&terminal| [terminal, 0, 0, 0]);
+    tokens.collect::<Vec<_>>().concat()
+}
+
+/// A repeat of entries by both readers, lent every number of words.
+#[test]
+fn lists_with_every_room() {
+    let nodes = FORKS.concat();
+    let start = Start::from_first(11, 3);
+    let any = |terminals: &[u32], room| listed(&nodes, &FORK_RULES, &row(terminals), &start, room);
+    // a b, then a alone with the second alternative: the first one's capture is not kept,
+    // nor are those of the not and of the last round.
+    let captures = [
+        [0, 0, 2, 0],
+        [1, 0, 1, 1],
+        [0, 2, 3, 0],
+        [1, 2, 3, 1],
+        [2, 3, 3, 1],
+    ];
+    for room in 0..30 {
+        let (answer, words) = any(&[0, 1, 0], room);
+        if room < 20 {
+            assert_eq!(answer, Listed::Refused(13));
+            assert_eq!(words, vec![ours::TOKEN_WORD; room]);
+            continue;
+        }
+        let Listed::Success {
+            read: 3,
+            captures: 5,
+            ..
+        } = answer
+        else {
+            panic!("{answer:?}");
+        };
+        assert_eq!(words[..20], captures.concat());
+        assert_eq!(words[20..], vec![0; room - 20]);
     }
+    // No entry, and from an entry's own node a failure: no capture, and the words are 0.
+    for room in 0..9 {
+        let (answer, words) = any(&[1], room);
+        assert!(matches!(answer, Listed::Success { captures: 0, .. }));
+        assert_eq!(words, vec![0; room]);
+        let entry = Start::from_first(10, 3);
+        let (answer, words) = listed(&nodes, &FORK_RULES, &row(&[0, 0]), &entry, room);
+        assert_eq!((answer, words), (Listed::Failure, vec![0; room]));
+    }
+}
+
+/// A call refused by any number leaves the slice alone, and 13 comes last.
+#[test]
+fn refused_lists_write_nothing() {
+    let nodes = FORKS.concat();
+    let start = Start::from_first(11, 3);
+    let good = row(&[0, 1]);
+    let left_alone = |nodes: &[u16], rules: &[u16], tokens: &[u32], start: &Start| {
+        let mut answers = Vec::new();
+        for room in [0, 1, 3, 4, 7, 40] {
+            let (answer, words) = listed(nodes, rules, tokens, start, room);
+            assert_eq!(words, vec![ours::TOKEN_WORD; room]);
+            answers.push(answer);
+        }
+        answers.dedup();
+        answers
+    };
+    let with = |node: usize, words: [u16; 4]| {
+        let mut nodes = FORKS;
+        nodes[node] = words;
+        nodes.concat()
+    };
+    let refused = |number| vec![Listed::Refused(number)];
+    let cut = &nodes[..nodes.len() - 1];
+    assert_eq!(left_alone(cut, &FORK_RULES, &good, &start), refused(3));
+    let kind = with(2, [10, 0, 0, 0]);
+    assert_eq!(left_alone(&kind, &FORK_RULES, &good, &start), refused(4));
+    assert_eq!(left_alone(&nodes, &[7, 0, 12], &good, &start), refused(5));
+    let itself = left_alone(&nodes, &[10, 0, 9], &good, &start);
+    assert_eq!(itself, [Listed::IllFormed(10)]);
+    let odd = left_alone(&nodes, &FORK_RULES, &good[..7], &start);
+    assert_eq!(odd, refused(11));
+    let past = Start { place: 3, ..start };
+    assert_eq!(left_alone(&nodes, &FORK_RULES, &good, &past), refused(12));
+    for room in 0..8 {
+        let short = listed(&nodes, &FORK_RULES, &good, &start, room);
+        let words = vec![ours::TOKEN_WORD; room];
+        assert_eq!(short, (Listed::Refused(13), words));
+    }
+}
+
+/// A grammar file with the rules first and second, both of them node 0.
+const NAMED: &[u8] = b"\x01\0\x01\x01\x03\0\x07\0\0first\x03\0\x08\0\0second\
+    \x04\0\x06\0\0\0\0\0\0\x05\0\x03\0\0\x03";
+
+/// What both readers say of a capture, and the text that both show.
+fn told<'a>(
+    file: &'a [u8],
+    report: &'a [u8],
+    tokens: &[u32],
+    capture: [u32; 4],
+) -> (Shown, &'a [u8]) {
+    let both = shown(file, report, tokens, capture);
+    assert_eq!(ours::shown(file, report, tokens, capture), Ok(both));
+    let bytes = text(file, report, tokens, capture);
+    assert_eq!(ours::text(file, report, tokens, capture), Ok(bytes));
+    (both, bytes)
+}
+
+#[test]
+fn texts_and_numbers() {
+    let report = b"aa bb cc";
+    let tokens = [1, 0, 0, 2, 1, 3, 3, 2, 1, 6, 6, 2, 2, 8, 8, 0];
+    let any = |rule, first, after| told(NAMED, report, &tokens, [rule, first, after, 7]);
+    let part = |offset, length| Shown::InReport { offset, length };
+    assert_eq!(any(0, 0, 1), (part(0, 2), &b"aa"[..]));
+    assert_eq!(any(1, 1, 3), (part(3, 5), &b"bb cc"[..]));
+    assert_eq!(any(1, 0, 4), (part(0, 8), &report[..]));
+    assert_eq!(any(1, 3, 4), (part(8, 0), &b""[..]));
+    for place in [0, 2, 4] {
+        let name = Shown::InFile {
+            offset: 9,
+            length: 5,
+        };
+        assert_eq!(any(0, place, place), (name, &b"first"[..]));
+        assert_eq!(any(1, place, place).1, b"second");
+    }
+    let refused = |number| (Shown::Refused(number), &b""[..]);
+    let far = 1 << 30;
+    for [rule, first, after] in [
+        [2, 0, 1],
+        [65_536, 0, 1],
+        [u32::MAX, 0, 0],
+        [0, 0, 5],
+        [0, 5, 5],
+        [0, 4, 5],
+        [0, far, far],
+        [0, far, far + 1],
+        [0, 1, far + 2],
+        [0, 2, 1],
+        [0, 4, 0],
+        [0, u32::MAX, 0],
+    ] {
+        assert_eq!(any(rule, first, after), refused(14));
+    }
+    // Offsets may be equal, and may not fall between the first token and the last; the last
+    // token's end alone is looked at.
+    let with = |token: usize, offset: u32, length: u32, first, after| {
+        let mut tokens = tokens;
+        tokens[4 * token + 2..][..2].copy_from_slice(&[offset, length]);
+        let (shown, _) = told(NAMED, report, &tokens, [0, first, after, 0]);
+        shown
+    };
+    assert_eq!(with(1, 0, 2, 0, 3), part(0, 8));
+    assert_eq!(with(1, 7, 2, 0, 3), Shown::Refused(14));
+    assert_eq!(with(1, 7, 2, 0, 1), part(0, 2));
+    assert_eq!(with(0, 1, u32::MAX, 0, 2), part(1, 4));
+    assert_eq!(with(2, 6, 3, 1, 3), Shown::Refused(14));
+    assert_eq!(with(2, 6, u32::MAX - 3, 1, 3), Shown::Refused(14));
+    assert_eq!(with(3, u32::MAX, 1, 3, 4), Shown::Refused(14));
+    assert_eq!(with(3, 9, 0, 3, 4), Shown::Refused(14));
+    // The file's numbers, then 8, then 11, then 14.
+    let bad = [9, 5, 0, 0];
+    assert_eq!(told(b"", b"\0", &[0; 3], bad), refused(1));
+    assert_eq!(told(NAMED, b"\0", &[0; 3], bad), refused(8));
+    assert_eq!(told(NAMED, report, &[0; 3], bad), refused(11));
+    assert_eq!(told(NAMED, report, &[0; 4], bad), refused(14));
+}
+
+#[test]
+fn lists_of_every_answer() {
+    with_stack(|| {
+        let mut rng = Rng::new(7);
+        let mut stats = Stats::default();
+        for _ in 0..10_000 {
+            let input = run_input(&mut rng);
+            let (nodes, rules, tokens, start) = input.parts();
+            let mut words = vec![ours::TOKEN_WORD; input.room];
+            if list_within(nodes, rules, tokens, start, &mut words, 200_000).is_none() {
+                continue;
+            }
+            let (answer, words) = listed(nodes, rules, tokens, start, input.room);
+            stats.note_list(&answer, &words);
+        }
+        println!("{stats}");
+        assert!(stats.share("list", "captures") > 20.0);
+        assert!(stats.share("list", "captures, more than 2 around one") > 8.0);
+        assert!(stats.share("list", "captures, one that read no token") > 5.0);
+        assert!(stats.share("list", "refused 13") > 8.0);
+    });
+}
+
+#[test]
+fn texts_of_every_answer() {
+    with_stack(|| {
+        let mut rng = Rng::new(8);
+        let mut stats = Stats::default();
+        for _ in 0..5_000 {
+            let input = shown_input(&mut rng);
+            let (place, _) = told(&input.file, &input.report, &input.tokens, input.capture);
+            stats.note_shown(&input, &place);
+        }
+        println!("{stats}");
+        for class in [
+            "one token",
+            "2 or more tokens",
+            "a name",
+            "a name, at the token count",
+        ] {
+            assert!(stats.share("shown", class) > 4.0, "{class}");
+        }
+        for number in [1, 2, 3, 4, 5, 8, 11] {
+            let class = format!("refused {number}");
+            assert!(stats.share("shown", &class) > 0.2, "{number}");
+        }
+        for why in [
+            "the rule",
+            "a token place",
+            "the first after the last",
+            "an offset",
+            "the end",
+        ] {
+            let class = format!("refused 14: {why}");
+            assert!(stats.share("shown", &class) > 1.0, "{why}");
+        }
+    });
 }
 
 /// 01 "Well formed" once more, word for word: every fact and every node's standing
@@ -264,26 +532,28 @@ fn slow_check(nodes: &[u16], rules: &[u16]) -> Verdict {
 
 #[test]
 fn the_check_and_a_slow_one_agree() {
-    let mut rng = Rng::new(6);
-    let (mut passed, mut bad) = (0, 0);
-    for _ in 0..5_000 {
-        let mut input = run_input(&mut rng);
-        // Other rules now and then, to come by more of both verdicts.
-        if rng.chance(50) && !input.rules.is_empty() && input.nodes.len() >= 4 {
-            let rule = rng.below(input.rules.len());
-            input.rules[rule] = rng.below(input.nodes.len() / 4) as u16;
+    with_stack(|| {
+        let mut rng = Rng::new(6);
+        let (mut passed, mut bad) = (0, 0);
+        for _ in 0..5_000 {
+            let mut input = run_input(&mut rng);
+            // Other rules now and then, to come by more of both verdicts.
+            if rng.chance(50) && !input.rules.is_empty() && input.nodes.len() >= 4 {
+                let rule = rng.below(input.rules.len());
+                input.rules[rule] = rng.below(input.nodes.len() / 4) as u16;
+            }
+            let verdict = check(&input.nodes, &input.rules);
+            if matches!(verdict, Verdict::Refused(_)) {
+                continue;
+            }
+            assert_eq!(verdict, slow_check(&input.nodes, &input.rules), "{input:?}");
+            if verdict == Verdict::Passes {
+                passed += 1;
+            } else {
+                bad += 1;
+            }
         }
-        let verdict = check(&input.nodes, &input.rules);
-        if matches!(verdict, Verdict::Refused(_)) {
-            continue;
-        }
-        assert_eq!(verdict, slow_check(&input.nodes, &input.rules), "{input:?}");
-        if verdict == Verdict::Passes {
-            passed += 1;
-        } else {
-            bad += 1;
-        }
-    }
-    println!("{passed} pass, {bad} not well formed");
-    assert!(passed > 1_000 && bad > 500);
+        println!("{passed} pass, {bad} not well formed");
+        assert!(passed > 1_000 && bad > 500);
+    });
 }

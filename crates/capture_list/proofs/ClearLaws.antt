@@ -14,7 +14,8 @@ use Rattle.columns.specs.declared.Capture.{Capture}
 use Rattle.table.specs.Words.{eachWords}
 use Rattle.clauses.specs.ListAnswer.{captureWords, listWords}
 use Rattle.capture_list.specs.Put.{clearedFrom}
-use Rattle.capture_list.proofs.ListLaws.{words-long, behind}
+use Rattle.clauses.proofs.ListWords.{words-long}
+use Rattle.capture_list.proofs.ListLaws.{behind}
 
 -- The words from an index up to another are 0, and the others as they were.
 pub record Cleared (from to : ℕ) (words words' : List ℕ) : Type 0 where
@@ -82,11 +83,3 @@ list-is cs lent l e f h = rw (e, front) refl
         let n = length-take (length cs * 4) l in
         ext-getD 0 (take (length cs * 4) l) (eachWords captureWords cs) (omega arith)
         (λ i b. getD-take (length cs * 4) l i 0 (omega arith) ∙ h i (omega arith))
-
--- It is as long as the slice.
-pub length-list : (cs : List Capture) (lent : ℕ) → length cs * 4 ≤ lent → length (listWords cs lent) ≡ lent
-length-list cs lent f =
-    let a = length-append (eachWords captureWords cs) (replicate (lent - length cs * 4) 0) in
-    let b = words-long cs in
-    let d = length-replicate {A = ℕ} (lent - length cs * 4) 0 in
-    omega arith

@@ -9,7 +9,7 @@ use lib.Dec.{ltb}
 use native.Mathlib.Omega.{arith}
 use borrow.Author.Tests.{ltb-true, ltb-false, lt-ltb, le-ltb}
 use Rattle.table.specs.Words.{eachWords}
-use Rattle.table.proofs.Words.{words-append, length-words}
+use Rattle.table.proofs.Words.{words-append}
 use Rattle.columns.specs.declared.Capture.{Capture}
 use Rattle.columns.specs.declared.State.{State}
 use Rattle.columns.specs.declared.Outcome.{Outcome}
@@ -18,15 +18,13 @@ use Rattle.columns.specs.declared.Interval.{Interval}
 use Rattle.clauses.specs.Clauses as clauses
 use Rattle.clauses.specs.Trace.{Trace, _then_, dropped, captured}
 use Rattle.clauses.specs.ListAnswer.{captureWords}
+use Rattle.clauses.proofs.ListWords.{words-long}
 use Rattle.capture_list.specs.Put.{mostCount, oneMore, placed, capturePut}
 use Rattle.capture_list.specs.InternalList.{aroundOf, soFar, Room, Keeps, shownIn, Lists, Leaves, lists, keeps}
 
 -- The words of captures.
 abbrev wordsOf : List Capture → List ℕ
 wordsOf cs = eachWords captureWords cs
-
-pub words-long : (cs : List Capture) → length (wordsOf cs) ≡ length cs * 4
-words-long cs = length-words captureWords (λ c. refl) cs
 
 pub behind : (l m : List ℕ) (i j : ℕ) → i ≡ length l + j → getD (l ++ m) i 0 ≡ getD m j 0
 behind [] m i j e = let d : i ≡ j = omega arith in rw d refl

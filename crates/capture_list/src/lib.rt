@@ -6,7 +6,8 @@ use table::kinds;
 ghost use mathlib.Core.Path.{_≡_};
 ghost use Rattle.capture_list.specs.Put.{oneMore, putsBack, capturePut, clearedFrom};
 
-// Where the count stops: far above the places of any list. Rules can be so nested that there are more captures than numbers.
+// Where the count stops: far above the places of any list. Rules can be so nested that there are more
+// captures than a usize counts.
 const MOST: usize = 4611686018427387904;
 
 // One capture more.

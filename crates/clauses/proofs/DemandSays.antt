@@ -26,7 +26,7 @@ use Rattle.clauses.specs.AlikeOutcomes.{AlikeOutcome, alike-success}
 use Rattle.clauses.specs.Limits.{fails11, fails12}
 use Rattle.clauses.specs.Evaluation.{evaluate, outcomeFor, traceFor}
 use Rattle.clauses.specs.RunAnswer.{SetRun, runAnswer}
-use Rattle.clauses.specs.ListAnswer.{setCaptures, ourCaptures, Listing, listAnswer}
+use Rattle.clauses.specs.ListAnswer.{setCaptures, ourCaptures, Listing, listAnswer, listWords, listAfter}
 use Rattle.clauses.specs.ThirdDemand.{ThirdDemand, ListDemand}
 use Rattle.clauses.specs.Cases.{fourWords, tokenWords, _at_, from, a, b}
 
@@ -87,4 +87,11 @@ says-captures h o d = h .captures o d ∙ computed
 pub says-count :
     (h : ListDemand ruled one-rule one-token (from 1 equal) 4)
     → listAnswer ruled one-rule one-token (from 1 equal) 4 ≡ given (record { outcome = h .demand .ours; count = 1 })
-says-count h = h .listed ∙ ap (λ (l : List Capture). given (record { outcome = h .demand .ours; count = length l })) computed
+says-count h = h .answered ∙ ap (λ (l : List Capture). given (record { outcome = h .demand .ours; count = length l })) computed
+
+pub says-words :
+    ListDemand ruled one-rule one-token (from 1 equal) 6
+    → (o : Outcome ColumnSet) (d : SetRun ruled one-rule one-token (from 1 equal) o)
+    → listAfter ruled one-rule one-token (from 1 equal) (9 ∷ 9 ∷ 9 ∷ 9 ∷ 9 ∷ 9 ∷ []) ≡ 0 ∷ 0 ∷ 1 ∷ 0 ∷ 0 ∷ 0 ∷ []
+unfolding eachWords
+says-words h o d = h .stands _ refl o d ∙ ap (λ (l : List Capture). listWords l 6) (says-captures (h .demand) o d)

@@ -1,4 +1,5 @@
 pub mod Sound
+pub mod ListWords
 pub mod CasesHold
 pub mod CaptureCasesHold
 pub mod HandbookHold

@@ -76,6 +76,9 @@ listedCases =
     -- A repeat of rule 0, which is a, on a a b: two rounds; the third fails.
     ∷ lists (terminal a ∷ rule 0 ∷ repeat 1 ∷ []) (0 ∷ []) (a at 0 ∷ a at 0 ∷ b at 0 ∷ []) (from 2 equal) (nines 12)
     (counting 2 (reads 2 0 (At 0) false)) (capture 0 0 1 0 ++ capture 0 1 2 0 ++ zeros 4)
+    -- Rule 0 is (a rule 0) / ε, on a a: what a first alternative captured is listed.
+    ∷ lists (terminal a ∷ rule 0 ∷ sequence 0 1 ∷ empty ∷ choice 2 3 ∷ []) (4 ∷ []) (a at 0 ∷ a at 0 ∷ []) (from 1 equal) (nines 12)
+    (counting 3 (reads 2 0 (At 0) false)) (capture 0 0 2 0 ++ capture 0 1 2 1 ++ capture 0 2 2 2)
     -- Under an align, an indent and a position, which are no captures.
     ∷ lists (terminal a ∷ rule 0 ∷ align 1 ∷ indent 2 greater ∷ position 3 atLeast ∷ []) (0 ∷ []) (a at 1 ∷ [])
     (from 4 equal) (nines 4) (counting 1 (reads 1 0 (At 0) false)) (capture 0 0 1 0)
@@ -107,7 +110,7 @@ droppedCases =
     -- !(X b) X: X inside the not was read, and so was X behind it.
     ∷ lists (terminal a ∷ terminal b ∷ rule 0 ∷ sequence 2 1 ∷ not 3 ∷ sequence 4 2 ∷ []) (0 ∷ []) (a at 0 ∷ [])
     (from 5 equal) (nines 8) (counting 1 (reads 1 0 (At 0) false)) (capture 0 0 1 0 ++ zeros 4)
-    -- !!X Y: what a not inside a not read is not listed either.
+    -- !!X Y: X inside two nots was read, and is not listed.
     ∷ lists (terminal a ∷ rule 0 ∷ not 1 ∷ not 2 ∷ rule 1 ∷ sequence 3 4 ∷ []) (0 ∷ 0 ∷ []) (a at 0 ∷ []) (from 5 equal) (nines 8)
     (counting 1 (reads 1 0 (At 0) false)) (capture 1 0 1 0 ++ zeros 4)
     -- Rule 0 is (Y b)*, rule 1, Y, is a; on a b a b a: the third round read Y and failed.

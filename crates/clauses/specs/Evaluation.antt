@@ -1,6 +1,6 @@
 -- The outcome and the trace as a function: the ten clauses over two ends, computed. A bound on the depth of calls makes it
 -- end on every grammar; for well-formed ones the bound is never met, and outcome and trace are those that the clauses give
--- (`Existence`, in proofs).
+-- (`Existence`, in `theorems`).
 use Prim.Native.Nat.{ℕ, zero, suc, _+_, _*_}
 use mathlib.Core.Bool.{Bool, true, false, cond, _&&_}
 use mathlib.Core.List.{List}
@@ -33,7 +33,7 @@ abbrev pub ruled : ℕ → ℕ → Result → Result
 ruled x w (ended o t) = ended o (captured x w o t)
 ruled x w unfinished = unfinished
 
--- Whether clause 2 reads the token at place w as terminal a.
+-- Whether clause 2 reads the token at the state's place as terminal a.
 abbrev pub reads : Tokens → ℕ → ℕ → State Interval → Bool
 reads tokens τ a s =
     ltb (s .0) (tokens .count)
@@ -41,7 +41,7 @@ reads tokens τ a s =
     && fits (s .2) τ (s .1) (tokens .column (s .0))
 
 -- The outcome in a result. One that met the bound may be anything, as no grammar that passes the check meets it
--- (`outcome-given`, in `Existence`); failure is the value that needs no state.
+-- (`outcome-given`, in `theorems`); failure is the value that needs no state.
 abbrev pub outcomeIn : Result → Outcome Interval
 outcomeIn (ended o t) = o
 outcomeIn unfinished = failure

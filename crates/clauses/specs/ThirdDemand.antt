@@ -12,7 +12,7 @@ use Rattle.columns.specs.declared.Start.{Start}
 use Rattle.clauses.specs.Clauses.{State, Outcome, success}
 use Rattle.clauses.specs.AlikeOutcomes.{AlikeOutcome}
 use Rattle.clauses.specs.RunAnswer.{SetRun, runAnswer, Reads}
-use Rattle.clauses.specs.ListAnswer.{setCaptures, ourCaptures, listAnswer}
+use Rattle.clauses.specs.ListAnswer.{setCaptures, ourCaptures, listAnswer, listWords, listAfter}
 
 pub record ThirdDemand (nodes rules words : List ℕ) (start : Start) : Type 1 where
   -- a run answers an outcome,
@@ -33,9 +33,15 @@ pub record ThirdDemand (nodes rules words : List ℕ) (start : Start) : Type 1 w
       → setCaptures nodes rules words start o d ≡ ourCaptures nodes rules words start
 
 -- The same for a run that lists, into so many lent words: where 13 does not apply either, it answers that outcome and the
--- number of those captures. `listAfter` has the words.
+-- number of those captures,
 pub record ListDemand (nodes rules words : List ℕ) (start : Start) (lent : ℕ) : Type 1 where
   pub demand : ThirdDemand nodes rules words start
-  pub listed :
+  pub answered :
       listAnswer nodes rules words start lent
       ≡ given (record { outcome = demand .ours; count = length (ourCaptures nodes rules words start) })
+  -- and the captures of every derivation over sets stand in the lent words afterwards
+  pub stands :
+      (before : List ℕ)
+      → length before ≡ lent
+      → (o : Outcome ColumnSet) (d : SetRun nodes rules words start o)
+      → listAfter nodes rules words start before ≡ listWords (setCaptures nodes rules words start o d) lent

@@ -1,13 +1,16 @@
-// Runs the grammar of the file `shape` over tokens that are all alike and prints what the run ends in, as deep calls need
-// stack and no proof speaks of it. `cases/depth.py` writes the stored file and the line that is expected; `tools/stack.py`
+// Runs the grammar of the file `shape` over tokens that are all alike and prints what the run ends in, or how many captures
+// it lists, as deep calls need stack and no proof speaks of it. `cases/depth.py` writes the stored file and the line that is expected; `tools/stack.py`
 // writes others and finds how much stack each needs.
 //
 // The file is words of two bytes, high byte first: the count of node words, the count of rule words, the count of tokens,
-// the start node and the mode; then the node words and the rule words. Every token is terminal 0 at column 0.
+// the start node, the mode and whether the captures are listed (0 or 1); then the node words and the rule words. Every
+// token is terminal 0 at column 0.
 use columns::Interval;
 use columns::Start;
 use columns::Upper;
+use interpreter::Listed;
 use stored_cases::least;
+use stored_cases::load_16;
 use stored_cases::pair;
 use stored_cases::part;
 
@@ -24,13 +27,55 @@ fn call(shape: &[u8]) {
     let y = pair(shape, 2) * 2;
     let z = least(pair(shape, 4), 4096) * 4;
     let start = start_at(pair(shape, 6) as u16, pair(shape, 8) as u16);
-    stored_runs::show(stored_runs::run(
-        part(shape, 10, x),
-        part(shape, 10 + x, y),
-        &tokens[0..z],
-        start,
-    ));
+    let nodes = part(shape, 12, x);
+    let rules = part(shape, 12 + x, y);
+    if pair(shape, 10) == 0 {
+        stored_runs::show(stored_runs::run(nodes, rules, &tokens[0..z], start));
+    } else {
+        list(nodes, rules, &tokens[0..z], start);
+    }
     io::write_all(1, b"\n");
+}
+
+// Lists the captures of a stored table. There is room for one at each of 4,097 places.
+fn list(nodes: &[u8], rules: &[u8], tokens: &[u32], start: Start) {
+    let mut node_words = stored_cases::room_for_nodes();
+    let mut rule_words = stored_cases::room_for_rules();
+    let mut captures = stored_cases::room_for_tokens();
+    let n = least(nodes.len() / 2, 2100);
+    let r = least(rules.len() / 2, 200);
+    list_in(
+        nodes,
+        rules,
+        tokens,
+        start,
+        &mut node_words[0..n],
+        &mut rule_words[0..r],
+        &mut captures[0..16388],
+    );
+}
+
+// Lists them in the words lent for the table and for the captures, and prints how many there are.
+fn list_in(
+    nodes: &[u8],
+    rules: &[u8],
+    tokens: &[u32],
+    start: Start,
+    first: &mut [u16],
+    second: &mut [u16],
+    captures: &mut [u32],
+) {
+    load_16(nodes, first);
+    load_16(rules, second);
+    let listed = interpreter::list(first, second, tokens, start, captures);
+    match listed {
+        Listed::Success(_, _, count) => {
+            stored_cases::show_one(b"captures", count as u64);
+        }
+        _ => {
+            io::write_all(1, b"no list");
+        }
+    }
 }
 
 // A start at token 0, with the interval 0 without end and the flag clear.

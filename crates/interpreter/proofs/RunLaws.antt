@@ -2,8 +2,8 @@
 use Prim.Native.Nat.{ℕ, _+_, _-_, _*_, _/_, _≤_, _<_, _^_, min}
 use mathlib.Core.Path.{_≡_, refl, sym, ap, ap₂, subst, _∙_}
 use mathlib.Core.Bool.{true, false, not as isFalse, _||_}
-use mathlib.Core.List.{List, [], _∷_, _++_, append-nil}
-use lib.ListN.{length, getD, drop, drop-of-length-le}
+use mathlib.Core.List.{List, [], _∷_}
+use lib.ListN.{length, getD}
 use native.Mathlib.Omega.{arith}
 use borrow.Author.Tests.{ltb-false, lt-ltb, le-ltb}
 use Rattle.table.specs.Limits.{mostColumn}
@@ -30,12 +30,13 @@ use Rattle.clauses.specs.Trace.{Trace, trace, listed}
 use Rattle.clauses.specs.Limits.{tokensOf, finiteOver, fails11, fails12, WithinLimits}
 use Rattle.clauses.specs.RunAnswer.{EndsRun, ourOutcome, ourTrace, runAnswer, Reads}
 use Rattle.clauses.specs.ListAnswer.{endsCaptures, ourCaptures, fails13, Listing, listAnswer, captureWords, listWords, listAfter}
+use Rattle.clauses.proofs.ListWords.{length-list, list-fills}
 use Rattle.theorems.proofs.Narrows.{onward}
 use Rattle.theorems.proofs.Agreement.{outcome-only, captures-only, outcome-answered}
 use Rattle.theorems.proofs.LimitLaws.{begins}
 use Rattle.capture_list.specs.Put.{mostCount, clearedFrom}
 use Rattle.capture_list.specs.InternalList.{soFar, Room, Leaves, lists, keeps}
-use Rattle.capture_list.proofs.ClearLaws.{list-is, length-list}
+use Rattle.capture_list.proofs.ClearLaws.{list-is}
 use Rattle.interpreter.specs.declared.Whole.{Whole}
 use Rattle.interpreter.specs.InternalWalk.{stateOf, outcomeOf, weight, Checked, Ready, Walked}
 use Rattle.interpreter.specs.InternalRun.{Admitted, WholeWalk}
@@ -251,10 +252,7 @@ module _ (nodes rules words : List ℕ) (start : Start) where
 
           after : l'' ≡ listAfter nodes rules words start lent
           unfolding listAfter
-          after = rw (← given-list) (slice ∙ sym (rw past (append-nil (listWords (ourCaptures nodes rules words start) (length lent)))))
-            where
-              past : drop (length (listWords (ourCaptures nodes rules words start) (length lent))) lent ≡ []
-              past = drop-of-length-le lent {i = length (listWords (ourCaptures nodes rules words start) (length lent))} (omega (arith, length-list (ourCaptures nodes rules words start) (length lent) fits))
+          after = rw (← given-list) (slice ∙ sym (list-fills (ourCaptures nodes rules words start) lent fits))
 
           stands : (o : clauses.Outcome Interval) → EndsRun nodes rules words start o → CapturesStand nodes rules words start o n l''
           stands o f =

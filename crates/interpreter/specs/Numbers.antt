@@ -31,7 +31,7 @@ Derived nodes rules words start Failure = EndsRun nodes rules words start failur
 Derived nodes rules words start (Refused number) = Unit
 Derived nodes rules words start (IllFormed node) = Unit
 
--- The same for each case of `Listed`, a success "with the number of captures".
+-- The same for each case of `Listed`; a success also has the number of captures, since a capture may be four zeros.
 abbrev pub listNumbers : ℕ → Listed → Answer Listing
 listNumbers place (listed.Success read s n) =
     given (record { outcome = success (place + read, s .interval, s .flag); count = n })

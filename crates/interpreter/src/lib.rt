@@ -57,7 +57,8 @@ pub fn run(nodes: &[u16], rules: &[u16], tokens: &[u32], start: Start) -> Ran
     }
 }
 
-// Runs a grammar and lists its captures in the lent words, four words each, with zeros behind them.
+// Runs a grammar and lists its captures in the lent words, four words each, with zeros behind them. A refused call writes
+// nothing.
 pub fn list(
     nodes: &[u16],
     rules: &[u16],

@@ -1,24 +1,43 @@
 // Makes the calls that the file `cases` lists and prints a line for each: a label and the answer.
 // `cases/interpreter_cases.py` writes that file and the lines that are expected.
 //
-// A record is a header of 41 bytes, a label, the end of a table and tokens. The header has the kind of the call and the
+// A record is a header of 43 bytes, a label, the end of a table and tokens. The header has the kind of the call and the
 // label's length in one byte each; the start in 18 (`stored_runs::start`); in two each the node words, the rule words, and
-// how many bytes the table has in common with the one before it, at the start of both; then five numbers of three bytes
-// that tell how the tokens are stored (`stored_cases::stored`). The table is the node words, then the rule words, two bytes
-// each. A token word has four. The kinds:
-//   r  run the table over the tokens
+// how many bytes the table has in common with the one before it, at the start of both; five numbers of three bytes that
+// tell how the tokens are stored (`stored_cases::stored`); then, in two, how many words are lent. The table is the node
+// words, then the rule words, two bytes each. A token word has four. The kinds:
+//   r  run the table over the tokens; no words are lent
+//   l  the same, and list the captures in the words lent
+use columns::Start;
+use interpreter::Listed;
 use interpreter::Ran;
+use slices::filled_32;
 use stored_cases::MOST_RECORDS;
 use stored_cases::byte;
 use stored_cases::fill;
 use stored_cases::label;
+use stored_cases::least;
+use stored_cases::load_16;
+use stored_cases::load_32;
+use stored_cases::mark_32;
 use stored_cases::pair;
 use stored_cases::part;
+use stored_cases::show_32;
+use stored_cases::show_either;
+use stored_cases::show_one;
 use stored_cases::stored;
 use stored_cases::triple;
 
 // The kinds of calls.
 const RUN: usize = b'r' as usize;
+
+const LIST: usize = b'l' as usize;
+
+// What every lent word holds before a run that lists.
+const MARKER: u32 = 4000000000;
+
+// No more captures than these are printed.
+const MOST_SHOWN: usize = 5000;
 
 fn main() {
     let mut cases = stored_cases::room_for_cases();
@@ -43,7 +62,7 @@ fn records(cases: &[u8], table: &mut [u8], text: &mut [u8]) {
 
 // Makes the call of the record at an index. The answer is where the record ends.
 fn record(cases: &[u8], at: usize, table: &mut [u8], text: &mut [u8]) -> usize {
-    let header = part(cases, at, 41);
+    let header = part(cases, at, 43);
     let x = pair(header, 20) * 2;
     let y = pair(header, 22) * 2;
     let first = label(cases, at, header);
@@ -61,13 +80,10 @@ fn record(cases: &[u8], at: usize, table: &mut [u8], text: &mut [u8]) -> usize {
 
 // Makes the call that a header tells of, over stored words, and prints its answer.
 fn call(header: &[u8], nodes: &[u8], rules: &[u8], tokens: &[u8]) {
+    let start = stored_runs::start(part(header, 2, 18));
     match byte(header, 0) {
-        RUN => show_run(stored_runs::run_stored(
-            nodes,
-            rules,
-            tokens,
-            stored_runs::start(part(header, 2, 18)),
-        )),
+        RUN => show_run(stored_runs::run_stored(nodes, rules, tokens, start)),
+        LIST => lend(nodes, rules, tokens, start, pair(header, 41)),
         _ => {
             io::write_all(1, b"no such call");
         }
@@ -78,6 +94,84 @@ fn call(header: &[u8], nodes: &[u8], rules: &[u8], tokens: &[u8]) {
 fn show_run(ran: Ran) {
     stored_runs::show(ran);
     if let Ran::Success(read, state) = ran {
-        stored_cases::show_one(b"", state.place as u64);
+        show_one(b"", state.place as u64);
     }
+}
+
+// Makes a call that is lent x words for its captures.
+fn lend(nodes: &[u8], rules: &[u8], tokens: &[u8], start: Start, x: usize) {
+    let mut node_words = stored_cases::room_for_nodes();
+    let mut rule_words = stored_cases::room_for_rules();
+    let mut token_words = stored_cases::room_for_tokens();
+    let mut captures = stored_cases::room_for_tokens();
+    let n = least(nodes.len() / 2, 2100);
+    let r = least(rules.len() / 2, 200);
+    let t = least(tokens.len() / 4, 16500);
+    let c = least(x, 16500);
+    list_in(
+        nodes,
+        rules,
+        tokens,
+        start,
+        &mut node_words[0..n],
+        &mut rule_words[0..r],
+        &mut token_words[0..t],
+        &mut captures[0..c],
+    );
+}
+
+// Makes a call in the words lent for the table, for the tokens and for the captures.
+fn list_in(
+    nodes: &[u8],
+    rules: &[u8],
+    tokens: &[u8],
+    start: Start,
+    first: &mut [u16],
+    second: &mut [u16],
+    words: &mut [u32],
+    captures: &mut [u32],
+) {
+    load_16(nodes, first);
+    load_16(rules, second);
+    load_32(tokens, words);
+    mark_32(captures, MARKER);
+    show_list(first, second, words, start, captures);
+}
+
+// Prints what a run that lists ended in, and the words that it was lent.
+fn show_list(nodes: &[u16], rules: &[u16], tokens: &[u32], start: Start, captures: &mut [u32]) {
+    let listed = interpreter::list(nodes, rules, tokens, start, captures);
+    match listed {
+        Listed::Success(read, state, count) => {
+            show_run(Ran::Success(read, state));
+            show_one(b" | captures", count as u64);
+            show_listed(captures, count);
+        }
+        Listed::Failure => {
+            show_run(Ran::Failure);
+            show_listed(captures, 0);
+        }
+        Listed::Refused(number) => {
+            show_run(Ran::Refused(number));
+            show_kept(captures);
+        }
+        Listed::IllFormed(node) => {
+            show_run(Ran::IllFormed(node));
+            show_kept(captures);
+        }
+    }
+}
+
+// Prints the words of n captures, a bar before each fourth, then how many others there are, and whether they are 0.
+fn show_listed(words: &[u32], n: usize) {
+    let end = least(least(n, MOST_SHOWN) * 4, words.len());
+    show_32(&words[0..end]);
+    show_one(b" |", (words.len() - end) as u64);
+    show_either(filled_32(words, end, 0), b" zeros", b" changed");
+}
+
+// Prints how many words there are, and whether they are still marked.
+fn show_kept(words: &[u32]) {
+    show_one(b" |", words.len() as u64);
+    show_either(filled_32(words, 0, MARKER), b" kept", b" changed");
 }

@@ -63,7 +63,7 @@ pub data ListReported (place : ℕ) (before : List ℕ) : Answer Listing → Lis
   list-success : {read end count : ℕ} {c : Interval} {flag : Bool} → Reads place read end
       → ListReported place before (given (record { outcome = success (end, c, flag); count = count }))
       (successWords read c flag ++ (count ∷ []))
-  list-failure : {count : ℕ} → ListReported place before (given (record { outcome = failure; count = count })) (set before 0 0)
+  list-failure : ListReported place before (given (record { outcome = failure; count = 0 })) (set before 0 0)
   list-refused : {n : ℕ} → ListReported place before (refused n) before
   list-refusedAt : {n node : ℕ} → ListReported place before (refusedAt n node) before
 

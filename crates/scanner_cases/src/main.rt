@@ -20,6 +20,7 @@ use stored_cases::least;
 use stored_cases::mark_32;
 use stored_cases::part;
 use stored_cases::show;
+use stored_cases::show_32;
 use stored_cases::show_either;
 use stored_cases::show_one;
 use stored_cases::stored;
@@ -303,31 +304,16 @@ fn show_tokens(words: &[u32], n: usize) {
 
 // Prints the words of n tokens, those before `end`, where they are few, else those of the last two and a sum of all.
 fn show_first(words: &[u32], n: usize, end: usize) {
+    let last = least(end, words.len());
     if n <= FEW {
-        show_words(words, 0, end);
+        show_32(&words[0..last]);
         return;
     }
-    if end >= 8 {
-        show_words(words, end - 8, end);
+    if last >= 8 {
+        let from = last - 8;
+        show_32(&words[from..last]);
     }
-    show_one(b" | sum", sum(words, end));
-}
-
-// Prints the words from index `from` to before `end`, a bar before each fourth.
-fn show_words(words: &[u32], from: usize, end: usize) {
-    let last = least(end, words.len());
-    let mut i = from;
-    while i < last {
-        show_word(i, words[i]);
-        i += 1;
-    }
-}
-
-fn show_word(i: usize, word: u32) {
-    if i % 4 == 0 {
-        io::write_all(1, b" |");
-    }
-    show_one(b"", word as u64);
+    show_one(b" | sum", sum(words, last));
 }
 
 // A sum of the first `end` words that tells their order too.

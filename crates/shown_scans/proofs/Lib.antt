@@ -1,3 +1,4 @@
 pub mod PlacesRise
 pub mod ScannedWords
 pub mod ScansShown
+pub mod CapturesShown

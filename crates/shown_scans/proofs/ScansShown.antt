@@ -17,10 +17,11 @@ use Rattle.grammar_file.specs.File.{Contents, fieldsOf, keywords, ruleList, fil
 use Rattle.report_checks.specs.Report.{fails8}
 use Rattle.report_checks.specs.FirstChecks.{firstAnswer}
 use Rattle.columns.specs.declared.Capture.{Capture}
-use Rattle.clauses.specs.Limits.{fails11}
+use Rattle.clauses.specs.Limits.{tokensOf, fails11}
 use Rattle.token_words.specs.Places.{places}
 use Rattle.token_words.specs.Scan.{tokens, wordsOf, scanTokens, fails9, fails10, scanAnswer}
-use Rattle.shown_text.specs.Shown.{tokenOffset, tokenEnd, lastToken, offsetsFall, fails14, partShown, shownAnswer}
+use Rattle.capture_checks.specs.Fourteen.{tokenOffset, tokenEnd, lastToken, offsetsFall, fails14}
+use Rattle.shown_text.specs.Shown.{partShown, shownAnswer}
 use Rattle.shown_text.proofs.NamePlaces.{readable}
 use Rattle.shown_text.proofs.ShownLaws.{first-given}
 use Rattle.shown_scans.proofs.PlacesRise.{places-rise, ends-inside, next-offset}
@@ -90,6 +91,11 @@ module _ (file report : List ℕ) (lent n : ℕ) (e : given n ≡ scanAnswer fil
   right-tokens : fails11 (wordsOf (scanTokens file report)) ≡ false
   unfolding tokens fails9
   right-tokens = passes-11 (keywords (fieldsOf file)) report (places report) (readable file (file-passes .0) (file-passes .1) .few) many (tests .1)
+
+  -- The scan's words stand for so many tokens.
+  pub scan-count : tokensOf (wordsOf (scanTokens file report)) .count ≡ n
+  unfolding tokens
+  scan-count = let m = how-many (keywords (fieldsOf file)) report (places report) in omega (arith, tests .3)
 
   pub always-shown : c .rule < length (ruleList (fieldsOf file)) → c .first ≤ c .after → c .after ≤ n
       → given (partShown (fieldsOf file) (wordsOf (scanTokens file report)) c) ≡ shownAnswer file report (wordsOf (scanTokens file report)) c

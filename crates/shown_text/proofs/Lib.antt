@@ -1,6 +1,6 @@
+pub mod CasesHold
 pub mod FieldPlaces
 pub mod TagLaws
 pub mod NamePlaces
-pub mod CaptureLaws
 pub mod ShownLaws
-pub mod Cases
+pub mod PartLaws

@@ -15,9 +15,9 @@ use Rattle.report_checks.specs.Report.{fails8}
 use Rattle.report_checks.specs.FirstChecks.{firstAnswer}
 use Rattle.columns.specs.declared.Capture.{Capture}
 use Rattle.clauses.specs.Limits.{fails11}
-use Rattle.shown_text.specs.Shown.{Part, inReport, inFile, tokenOffset, tokenEnd, readsTokens, lastToken, nameOffset}
-use Rattle.shown_text.specs.Shown.{fails14, partShown, shownAnswer, unlessRefused, shownBytes}
-use Rattle.shown_text.proofs.CaptureLaws.{Right, right-capture, begins-before}
+use Rattle.capture_checks.specs.Fourteen.{tokenOffset, tokenEnd, readsTokens, lastToken, fails14}
+use Rattle.capture_checks.proofs.CaptureLaws.{Right, right-capture, begins-before}
+use Rattle.shown_text.specs.Shown.{Part, inReport, inFile, nameOffset, partShown, shownAnswer, unlessRefused, shownBytes}
 use Rattle.shown_text.proofs.NamePlaces.{Readable, readable, name-bytes, name-within}
 
 -- The bytes of a part.

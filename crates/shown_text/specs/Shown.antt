@@ -1,16 +1,16 @@
--- The text shown for a capture, and number 14 (02, Note 2).
-use Prim.Native.Nat.{ℕ, _+_, _-_, _*_}
-use mathlib.Core.Bool.{Bool, cond, not, _&&_, _||_}
+-- The text shown for a capture, and the numbers before it (02, Note 2).
+use Prim.Native.Nat.{ℕ, _+_, _-_}
+use mathlib.Core.Bool.{cond}
 use mathlib.Core.List.{List, [], _∷_}
 use lib.ListN.{length, getD, take, drop}
-use lib.Dec.{leb, ltb}
-use Rattle.table.specs.Every.{every}
 use Rattle.table.specs.Answer.{Answer, given, refused, refusedAt, refuseIf, andThen}
 use Rattle.file_fields.specs.Fields.{Field, tagged}
 use Rattle.grammar_file.specs.File.{fieldsOf, ruleList, ruleNames, nameBytes}
 use Rattle.report_checks.specs.FirstChecks.{firstAnswer}
 use Rattle.columns.specs.declared.Capture.{Capture}
-use Rattle.clauses.specs.Limits.{tokensOf, fails11}
+use Rattle.clauses.specs.Limits.{fails11}
+pub use Rattle.capture_checks.specs.Fourteen.{tokenOffset, tokenEnd, readsTokens, lastToken}
+unfoldable pub use Rattle.capture_checks.specs.Fourteen.{offsetsFall, fails14}
 use Rattle.shown_text.specs.declared.ShownPart.{ShownPart}
 use Rattle.shown_text.specs.declared.ShownPart.the-variants.{InReport, InFile, Refused}
 
@@ -18,39 +18,6 @@ use Rattle.shown_text.specs.declared.ShownPart.the-variants.{InReport, I
 pub data Part : Type 0 where
   inReport : (offset length : ℕ) → Part
   inFile : (offset length : ℕ) → Part
-
--- A token's last two words, "offset, length", and its end, their sum.
-abbrev pub tokenOffset : List ℕ → ℕ → ℕ
-tokenOffset words w = getD words (w * 4 + 2) 0
-
-abbrev pub tokenLength : List ℕ → ℕ → ℕ
-tokenLength words w = getD words (w * 4 + 3) 0
-
-abbrev pub tokenEnd : List ℕ → ℕ → ℕ
-tokenEnd words w = tokenOffset words w + tokenLength words w
-
--- A capture that read tokens, and the last of them.
-abbrev pub readsTokens : Capture → Bool
-readsTokens c = ltb (c .first) (c .after)
-
-abbrev pub lastToken : Capture → ℕ
-lastToken c = c .after - 1
-
--- Whether the offset of some token, from one place to before another, is below that of the token before it.
-unfoldable pub offsetsFall : List ℕ → ℕ → ℕ → Bool
-offsetsFall words first after =
-    not (every (after - first - 1) (λ i. leb (tokenOffset words (first + i)) (tokenOffset words (first + i + 1))))
-
--- 14: "a capture whose rule or tokens are not there, whose first token comes after the token that follows it .., or whose
--- tokens' offsets fall, or whose last token ends past the report". Of the file and the report it asks how many rules and
--- how many bytes they have.
-unfoldable pub fails14 : ℕ → ℕ → List ℕ → Capture → Bool
-fails14 rules bytes words c =
-    not (ltb (c .rule) rules)
-    || ltb (tokensOf words .count) (c .after)
-    || ltb (c .after) (c .first)
-    || offsetsFall words (c .first) (c .after)
-    || (readsTokens c && ltb bytes (tokenEnd words (lastToken c)))
 
 -- How many bytes fields take in a file: each has a tag, a two-byte length and its value.
 unfoldable pub widths : List Field → ℕ

@@ -316,3 +316,23 @@ pub fn show_16(words: &[u16]) -> usize
 fn wide_16(word: u16) -> u64 {
     word as u64
 }
+
+// Prints words of tokens or captures, a bar before each fourth. The answer is how many there were.
+pub fn show_32(words: &[u32]) -> usize
+    ensures { λ r. ⌜ r ≡ length (now (words .entry)) ⌝ }
+{
+    let mut shown = 0;
+    while shown < words.len() {
+        show_fourth(shown, words[shown]);
+        shown += 1;
+    }
+    shown
+}
+
+// Prints the word at an index, a bar before it if the index is a multiple of 4.
+fn show_fourth(i: usize, word: u32) {
+    if i % 4 == 0 {
+        io::write_all(1, b" |");
+    }
+    show_one(b"", word as u64);
+}

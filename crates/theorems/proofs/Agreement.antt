@@ -1,9 +1,11 @@
 -- Demand 3, in its words, with the captures; and the likeness of two ends and sets for every grammar.
-use Prim.Native.Nat.{ℕ, _-_}
-use mathlib.Core.Path.{_≡_, refl, ap₂, _∙_}
+use Prim.Native.Nat.{ℕ, _-_, _*_, _/_, _≤_}
+use mathlib.Core.Path.{_≡_, refl, sym, ap, ap₂, subst, _∙_}
 use mathlib.Core.Bool.{Bool, true, false}
-use mathlib.Core.List.{List}
+use mathlib.Core.List.{List, _++_}
+use lib.ListN.{length, drop}
 use native.Mathlib.Omega.{arith}
+use borrow.Author.Tests.{ltb-false}
 use Rattle.table.specs.Answer.{Answer, given, refused, refusedAt, refuseIf, andThen}
 use Rattle.table.specs.Form.{Form, form}
 use Rattle.columns.specs.Sets.{ColumnSet, sets}
@@ -13,6 +15,7 @@ use Rattle.columns.proofs.SetLaws.{sets-lawful}
 use Rattle.columns.proofs.EndLaws.{ends-lawful}
 use Rattle.columns.specs.declared.Interval.{Interval}
 use Rattle.columns.specs.declared.Start.{Start}
+use Rattle.columns.specs.declared.Capture.{Capture}
 use Rattle.well_formed.specs.WellFormed.{Passes}
 use Rattle.well_formed.specs.Check.{checkAnswer}
 use Rattle.well_formed.proofs.VerdictLaws.{check-means}
@@ -21,8 +24,9 @@ use Rattle.clauses.specs.Limits.{tokensOf, fails11, fails12, WithinLimits}
 use Rattle.clauses.specs.AlikeOutcomes.{AlikeOutcome, alike-success, alike-failure}
 use Rattle.clauses.specs.Trace.{Trace, Gives, trace, listed}
 use Rattle.clauses.specs.RunAnswer.{SetRun, EndsRun, ourOutcome, ourTrace, runAnswer, Reads}
-use Rattle.clauses.specs.ListAnswer.{endsCaptures, setCaptures, ourCaptures, fails13, Listing, listAnswer}
+use Rattle.clauses.specs.ListAnswer.{endsCaptures, setCaptures, ourCaptures, fails13, Listing, listAnswer, listWords, listAfter}
 use Rattle.clauses.specs.ThirdDemand.{ThirdDemand, ListDemand}
+use Rattle.clauses.proofs.ListWords.{list-fills}
 use Rattle.theorems.proofs.OneOutcome.{one-outcome, one-run}
 use Rattle.theorems.proofs.Narrows.{onward}
 use Rattle.theorems.proofs.Likeness.{Follows, alike-given}
@@ -106,10 +110,36 @@ module _ (nodes rules words : List ℕ) (start : Start) where
           captures = set-captures;
         }
 
-    -- And where 13 does not apply to so many lent words, a run that lists answers the same with the number of captures.
-    pub list-demand : (lent : ℕ) → fails13 nodes rules words start lent ≡ false → ListDemand nodes rules words start lent
-    unfolding listAnswer third-demand
-    list-demand lent e = record { demand = third-demand; listed = rw (outcome-answered, e) refl }
+    -- And where 13 does not apply to so many lent words, a run that lists answers the same with the number of captures, and
+    -- has them in the lent words.
+    module _ (lent : ℕ) (e : fails13 nodes rules words start lent ≡ false) where
+      room : length (ourCaptures nodes rules words start) * 4 ≤ lent
+      unfolding fails13
+      room = let h = ltb-false (lent / 4) (length (ourCaptures nodes rules words start)) e in omega arith
+
+      listing-answered :
+          listAnswer nodes rules words start lent
+          ≡ given (record { outcome = ourOutcome nodes rules words start; count = length (ourCaptures nodes rules words start) })
+      unfolding listAnswer
+      listing-answered = rw (outcome-answered, e) refl
+
+      list-after : (before : List ℕ) → length before ≡ lent → listAfter nodes rules words start before ≡ listWords (ourCaptures nodes rules words start) lent
+      unfolding listAfter
+      list-after before l =
+          rw (l, listing-answered)
+          (subst
+          (λ (k : ℕ).
+          listWords (ourCaptures nodes rules words start) k ++ drop (length (listWords (ourCaptures nodes rules words start) k)) before
+          ≡ listWords (ourCaptures nodes rules words start) k) l (list-fills (ourCaptures nodes rules words start) before (omega (arith, room))))
+
+      pub list-demand : ListDemand nodes rules words start lent
+      unfolding third-demand
+      list-demand =
+          record {
+            demand = third-demand;
+            answered = listing-answered;
+            stands = λ before l o d. list-after before l ∙ ap (λ (cs : List Capture). listWords cs lent) (sym (set-captures o d));
+          }
 
   unrefused : (c : Answer Unit) (t b : Bool) (o ours : Outcome Interval) → checkAnswer nodes rules ≡ c → fails11 words ≡ t → fails12 nodes words start ≡ b
       → andThen c (refuseIf t 11 (refuseIf b 12 (given o))) ≡ given ours → WithinLimits nodes rules words start × Passes nodes rules

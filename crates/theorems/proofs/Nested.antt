@@ -1,16 +1,24 @@
 -- The captures of a success in their order (02, Note 2): an outer one before those inside it, otherwise in the order read, each
--- between the ends of the one around it, with the right number around it. That their rules are there has `CapturesInside`.
+-- between the ends of the one around it, with the right number around it. `CapturesInside` shows that their rules are there.
 use Prim.Native.Nat.{ℕ, _+_, _≤_, _<_}
-use mathlib.Core.Path.{sym, subst}
+use mathlib.Core.Path.{_≡_, sym, subst}
 use mathlib.Core.List.{List, [], _∷_, _++_, append-assoc, append-nil}
 use native.Mathlib.Omega.{arith}
-use Rattle.table.specs.Form.{Form}
+use Rattle.table.specs.Form.{Form, form}
 use Rattle.columns.specs.Domain.{Domain}
+use Rattle.columns.specs.Intervals.{ends}
+use Rattle.columns.specs.declared.Interval.{Interval}
+use Rattle.columns.specs.declared.Start.{Start}
 use Rattle.columns.specs.declared.Capture.{Capture}
-use Rattle.clauses.specs.Clauses.{Tokens, State, success, Run, empty, terminal-clear, terminal-aligned, rule, sequence}
+use Rattle.well_formed.specs.WellFormed.{Passes}
+use Rattle.clauses.specs.Clauses.{Tokens, State, Outcome, success, Run, empty, terminal-clear, terminal-aligned, rule, sequence}
 use Rattle.clauses.specs.Clauses.{choice-first, choice-second, not, repeat-ends, repeat-again, indent, position, align}
-use Rattle.clauses.specs.Trace.{trace}
+use Rattle.clauses.specs.Trace.{Trace, trace, Gives, listed}
+use Rattle.clauses.specs.Limits.{tokensOf, WithinLimits}
+use Rattle.clauses.specs.RunAnswer.{ourOutcome, ourTrace}
+use Rattle.clauses.specs.ListAnswer.{ourCaptures}
 use Rattle.theorems.proofs.Narrows.{onward}
+use Rattle.theorems.proofs.Agreement.{run-given}
 
 abbrev capture : ℕ → ℕ → ℕ → ℕ → Capture
 capture x v v' k = record { rule = x; first = v; after = v'; around = k }
@@ -66,3 +74,20 @@ module _ {ℓ κ} (D : Domain {ℓ, κ}) (nodes rules : List ℕ) (tokens : Toke
   nested (indent d) k = nested d k
   nested (position d) k = nested d k
   nested (align d) k = nested d k
+
+-- So stand the captures that a run lists, with none around the outermost.
+pub our-captures-nested :
+    (nodes rules words : List ℕ) (start : Start) (limits : WithinLimits nodes rules words start) (well : Passes nodes rules) (s : State Interval)
+    → ourOutcome nodes rules words start ≡ success s
+    → Nested 0 (start .place) (s .0) (ourCaptures nodes rules words start)
+our-captures-nested nodes rules words start limits well s e =
+    by-outcome (ourOutcome nodes rules words start) (ourTrace nodes rules words start) (run-given nodes rules words start limits well) e
+  where
+    by-outcome :
+        (o : Outcome Interval) (t : Trace)
+        → Gives ends nodes rules (tokensOf words) (start .mode) (form nodes (start .node)) (start .place, start .interval, start .flag) o t
+        → o ≡ success s
+        → Nested 0 (start .place) (s .0) (listed o t)
+    by-outcome o t g q =
+        let h : Gives ends nodes rules (tokensOf words) (start .mode) (form nodes (start .node)) (start .place, start .interval, start .flag) (success s) t = rw q at g in
+        rw q (subst (λ (u : Trace). Nested 0 (start .place) (s .0) (u .captures 0)) (h .shows) (nested ends nodes rules (tokensOf words) (h .run) 0))

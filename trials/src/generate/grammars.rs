@@ -1,10 +1,11 @@
 //! Grammars: well formed by construction, of several shapes, and wild ones. About half of
-//! them have steps.
+//! them have steps, and more than half rules over many of their nodes.
 
 use super::Rng;
 use crate::second::kind::*;
 use crate::second::relation::{self, amount, ANY, AT_LEAST, EQUAL, GREATER};
 use crate::second::run::{Interval, State};
+use crate::second::{MOST_NODES, MOST_RULES};
 
 /// The last relation, a step by the largest amount.
 pub(super) const LAST: u16 = relation::COUNT - 1;
@@ -70,11 +71,55 @@ fn step(rng: &mut Rng) -> u16 {
 
 /// A grammar of any shape over the terminals of `alphabet`, mostly well formed.
 pub(super) fn grammar(rng: &mut Rng, alphabet: &[u16]) -> Grammar {
+    let shaped = shaped(rng, alphabet);
+    if rng.chance(70) {
+        ruled(rng, &shaped)
+    } else {
+        shaped
+    }
+}
+
+/// The same grammar with a rule of its own over many of its nodes, while there is room, so
+/// that most of what is read is captured, over and over. A node over which a rule lies is
+/// met through it only, so the facts and the standing of every other node stay.
+fn ruled(rng: &mut Rng, grammar: &Grammar) -> Grammar {
+    let percent = *rng.pick(&[20, 60, 90, 100]);
+    let mut over = Grammar {
+        nodes: Vec::new(),
+        ..grammar.clone()
+    };
+    // For each node the one that is met in its place.
+    let mut met: Vec<u16> = Vec::new();
+    for (number, &[kind, a, b, relation]) in grammar.nodes.iter().enumerate() {
+        let child = |old: u16| met[usize::from(old)];
+        let own = match kind {
+            EMPTY | TERMINAL | RULE => over.push(kind, a, b, relation),
+            SEQUENCE | CHOICE => over.push(kind, child(a), child(b), relation),
+            _ => over.push(kind, child(a), b, relation),
+        };
+        let rule = over.rules.len();
+        let left = grammar.nodes.len() - number - 1;
+        let room = rule < MOST_RULES && over.nodes.len() + left < MOST_NODES;
+        met.push(if room && rng.chance(percent) {
+            over.rules.push(own);
+            over.push(RULE, rule as u16, 0, 0)
+        } else {
+            own
+        });
+    }
+    for (rule, &old) in over.rules.iter_mut().zip(&grammar.rules) {
+        *rule = met[usize::from(old)];
+    }
+    over
+}
+
+fn shaped(rng: &mut Rng, alphabet: &[u16]) -> Grammar {
     match rng.below(100) {
-        0..=37 => {
+        0..=28 => {
             let size = rng.between(1, 12);
             grown(rng, size, alphabet)
         }
+        29..=37 => forks(rng, alphabet),
         38..=54 => {
             let size = rng.between(13, 60);
             grown(rng, size, alphabet)
@@ -315,6 +360,35 @@ fn blocks(rng: &mut Rng, alphabet: &[u16]) -> Grammar {
         rows = grammar.push(POSITION, rows, 0, mode);
     }
     grammar.rules[1] = rows;
+    grammar
+}
+
+/// A row of entries with alternatives that begin alike, so that rules succeed on ways that
+/// are given up, and inside nots: with p for the level below, p a, or p b, or p alone.
+fn forks(rng: &mut Rng, alphabet: &[u16]) -> Grammar {
+    let mut grammar = Grammar::new(rng, Vec::new());
+    let [a, b] = [0, 1].map(|_| grammar.push(TERMINAL, *rng.pick(alphabet), 0, 0));
+    let mut level = *rng.pick(&[a, b]);
+    for rule in 0..rng.between(1, 3) as u16 {
+        grammar.rules.push(level);
+        let below = grammar.push(RULE, rule, 0, 0);
+        let layers = rng.below(2);
+        let below = wrapped(rng, &mut grammar, below, layers);
+        let with_a = grammar.push(SEQUENCE, below, a, 0);
+        let with_b = grammar.push(SEQUENCE, below, b, 0);
+        let two = grammar.push(CHOICE, with_a, with_b, 0);
+        level = grammar.push(CHOICE, two, below, 0);
+        if rng.chance(40) {
+            let other = *rng.pick(&[with_a, with_b]);
+            let stop = grammar.push(NOT, other, 0, 0);
+            level = grammar.push(SEQUENCE, stop, level, 0);
+        }
+        if rng.chance(30) {
+            let more = grammar.push(REPEAT, level, 0, 0);
+            level = grammar.push(SEQUENCE, level, more, 0);
+        }
+    }
+    grammar.push(REPEAT, level, 0, 0);
     grammar
 }
 

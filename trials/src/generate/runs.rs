@@ -5,15 +5,16 @@ use super::Rng;
 use crate::second::kind::*;
 use crate::second::relation::{ANY, COUNT};
 use crate::second::run::{Interval, State};
-use crate::second::{run_within, Ran, Start};
+use crate::second::{list_within, run_within, Listed, Ran, Start};
 
-/// Lent words and a start.
+/// Lent words and a start, and the length, in words, of the slice lent for captures.
 #[derive(Debug, Clone, PartialEq, Eq)]
 pub struct RunInput {
     pub nodes: Vec<u16>,
     pub rules: Vec<u16>,
     pub tokens: Vec<u32>,
     pub start: Start,
+    pub room: usize,
 }
 
 impl RunInput {
@@ -22,7 +23,8 @@ impl RunInput {
     }
 }
 
-/// An input for the interpreter; its tables serve the check as well.
+/// An input for the interpreter; its tables serve the check as well. The stack must do for
+/// a run.
 pub fn run_input(rng: &mut Rng) -> RunInput {
     let alphabet = alphabet(rng);
     let mut grammar = if rng.chance(3) {
@@ -39,7 +41,7 @@ pub fn run_input(rng: &mut Rng) -> RunInput {
         loop {
             match rng.below(10) {
                 0..=5 => break_table(rng, &mut input),
-                6 | 7 => break_tokens(rng, &mut input),
+                6 | 7 => break_tokens(rng, &mut input.tokens),
                 _ => break_start(rng, &mut input),
             }
             if rng.chance(80) {
@@ -47,7 +49,38 @@ pub fn run_input(rng: &mut Rng) -> RunInput {
             }
         }
     }
+    input.room = room(rng, &input);
     input
+}
+
+/// Room for the captures: as many words as their list needs, a few less or more, hardly any
+/// or plenty. Where nothing is listed, any few.
+fn room(rng: &mut Rng, input: &RunInput) -> usize {
+    let needed = needed(input).unwrap_or_else(|| rng.below(40));
+    match rng.below(20) {
+        0..=5 => needed,
+        6..=9 => needed.saturating_sub(rng.between(1, 4)),
+        10..=12 => needed + rng.between(1, 3),
+        13..=15 => needed + rng.between(4, 40),
+        16 | 17 => rng.below(8),
+        18 => rng.below(needed + 1),
+        _ => needed + rng.between(100, 1_000),
+    }
+}
+
+/// The words of a success's list. `None` for what lists nothing, or takes many steps.
+fn needed(input: &RunInput) -> Option<usize> {
+    let (nodes, rules, tokens, start) = input.parts();
+    // Most lists are short, and there are no more captures than steps.
+    for room in [256, 16_384, 4 * 200_000] {
+        let mut words = vec![0; room];
+        match list_within(nodes, rules, tokens, start, &mut words, 200_000)? {
+            Listed::Refused(13) => {}
+            Listed::Success { captures, .. } => return Some(4 * captures as usize),
+            _ => return None,
+        }
+    }
+    None
 }
 
 /// A few terminals, mostly low ones.
@@ -70,6 +103,7 @@ fn good_input(rng: &mut Rng, grammar: &Grammar, alphabet: &[u16]) -> RunInput {
         rules: grammar.rules.clone(),
         tokens: Vec::new(),
         start: start(rng, grammar),
+        room: 0,
     };
     // Some tries for tokens that are read, two of them at least.
     for _ in 0..rng.between(1, 3) {
@@ -313,30 +347,28 @@ fn break_node(rng: &mut Rng, number: usize, rules: usize, node: &mut [u16]) {
 }
 
 /// Breaks check 11.
-fn break_tokens(rng: &mut Rng, input: &mut RunInput) {
-    let count = input.tokens.len() / 4;
+pub(super) fn break_tokens(rng: &mut Rng, tokens: &mut Vec<u32>) {
+    let count = tokens.len() / 4;
     match rng.below(6) {
         0 => {
             for _ in 0..rng.between(1, 3) {
-                input.tokens.push(0);
+                tokens.push(0);
             }
         }
         1 => {
             let cut = rng.between(1, 3);
-            input
-                .tokens
-                .truncate(input.tokens.len().saturating_sub(cut));
+            tokens.truncate(tokens.len().saturating_sub(cut));
         }
-        2 => input.tokens.resize(4 * *rng.pick(&[4_096, 4_097]), 0),
+        2 => tokens.resize(4 * *rng.pick(&[4_096, 4_097]), 0),
         3 if count > 0 => {
             let token = rng.below(count);
-            input.tokens[4 * token] = *rng.pick(&[255, 256, 65_536, u32::MAX]);
+            tokens[4 * token] = *rng.pick(&[255, 256, 65_536, u32::MAX]);
         }
         _ if count > 0 => {
             let token = rng.below(count);
-            input.tokens[4 * token + 1] = *rng.pick(&[65_535, 65_536, u32::MAX]);
+            tokens[4 * token + 1] = *rng.pick(&[65_535, 65_536, u32::MAX]);
         }
-        _ => input.tokens.extend([0, 65_536, 0, 0]),
+        _ => tokens.extend([0, 65_536, 0, 0]),
     }
 }
 

@@ -1,10 +1,10 @@
 //! How often each class of answer occurs.
 
-use super::RunInput;
+use super::{RunInput, ShownInput};
 use crate::second::kind::*;
 use crate::second::relation::{ANY, COUNT};
 use crate::second::run::{Interval, State};
-use crate::second::{FileRead, Ran, MOST_COLUMN};
+use crate::second::{read, FileRead, Listed, Ran, Shown, MOST_COLUMN};
 use std::collections::BTreeMap;
 use std::fmt;
 
@@ -13,6 +13,9 @@ use std::fmt;
 pub struct Stats {
     counts: BTreeMap<(&'static str, String), u64>,
     totals: BTreeMap<&'static str, u64>,
+    /// The longest list, and the most captures around one.
+    most_captures: u32,
+    most_around: u32,
 }
 
 impl Stats {
@@ -48,7 +51,7 @@ impl Stats {
 
     /// Notes how a run with so many tokens read succeeded.
     fn note_success(&mut self, input: &RunInput, read: u32) {
-        let (way, past) = traced(input);
+        let (way, past, rules) = traced(input);
         for (holds, class) in [
             (read >= 2, "2 or more read"),
             (read >= 2 && way.in_layout >= 2, "2 or more read in layout"),
@@ -56,11 +59,63 @@ impl Stats {
             (way.steps, "through a step"),
             (way.steps && way.by_steps >= 1, "a token read by a step"),
             (past, "an upper end past 65,535"),
+            (way.rules < rules, "a rule succeeded off the way"),
         ] {
             if holds {
                 self.note("run", format!("success, {class}"));
             }
         }
+    }
+
+    /// Notes what a run that lists answered, with its lent words.
+    pub fn note_list(&mut self, listed: &Listed, words: &[u32]) {
+        *self.totals.entry("list").or_default() += 1;
+        let class = match listed {
+            Listed::Failure => "failure".to_string(),
+            Listed::IllFormed(_) => "refused 7".to_string(),
+            Listed::Refused(number) => format!("refused {number}"),
+            Listed::Success { captures: 0, .. } => "no capture".to_string(),
+            Listed::Success { captures, .. } => {
+                self.note_captures(&words.as_chunks().0[..*captures as usize]);
+                "captures".to_string()
+            }
+        };
+        self.note("list", class);
+    }
+
+    fn note_captures(&mut self, captures: &[[u32; 4]]) {
+        let around = captures.iter().map(|capture| capture[3]).max().unwrap_or(0);
+        self.most_captures = self.most_captures.max(captures.len() as u32);
+        self.most_around = self.most_around.max(around);
+        let no_token = captures.iter().any(|capture| capture[1] == capture[2]);
+        for (holds, class) in [
+            (captures.len() >= 10, "10 or more"),
+            (captures.len() >= 1_000, "1,000 or more"),
+            (around > 2, "more than 2 around one"),
+            (no_token, "one that read no token"),
+        ] {
+            if holds {
+                self.note("list", format!("captures, {class}"));
+            }
+        }
+    }
+
+    /// Notes where a text is shown.
+    pub fn note_shown(&mut self, input: &ShownInput, shown: &Shown) {
+        *self.totals.entry("shown").or_default() += 1;
+        let [_, first, after, _] = input.capture;
+        let class = match shown {
+            Shown::InFile { .. } if first as usize == input.tokens.len() / 4 => {
+                "a name, at the token count".to_string()
+            }
+            Shown::InFile { .. } => "a name".to_string(),
+            Shown::InReport { length: 0, .. } => "no byte of the report".to_string(),
+            Shown::InReport { .. } if after - first == 1 => "one token".to_string(),
+            Shown::InReport { .. } => "2 or more tokens".to_string(),
+            Shown::Refused(14) => format!("refused 14: {}", why_14(input)),
+            Shown::Refused(number) => format!("refused {number}"),
+        };
+        self.note("shown", class);
     }
 
     /// Notes a file reader's answer.
@@ -112,7 +167,29 @@ impl fmt::Display for Stats {
             let share = self.share(part, class);
             writeln!(f, "{part:>6}: {share:6.2} %  {count:>7}  {class}")?;
         }
+        if self.most_captures > 0 {
+            let (most, around) = (self.most_captures, self.most_around);
+            writeln!(f, "  list: {most} captures at most, {around} around one")?;
+        }
         Ok(())
+    }
+}
+
+/// Why a capture's text is not there.
+fn why_14(input: &ShownInput) -> &'static str {
+    let [rule, first, after, _] = input.capture.map(|word| word as usize);
+    let rules = read(&input.file, usize::MAX, usize::MAX).map_or(0, |read| read.rules.len());
+    let (tokens, _) = input.tokens.as_chunks::<4>();
+    if rule >= rules {
+        "the rule"
+    } else if first > tokens.len() || after > tokens.len() {
+        "a token place"
+    } else if first > after {
+        "the first after the last"
+    } else if tokens[first..after].is_sorted_by_key(|token| token[2]) {
+        "the end"
+    } else {
+        "an offset"
     }
 }
 
@@ -139,6 +216,8 @@ struct Way {
     by_steps: usize,
     /// Whether an indent by a step succeeded, or a token with a step as its mode.
     steps: bool,
+    /// The rules that succeeded.
+    rules: u64,
 }
 
 /// What lies around an expression.
@@ -148,9 +227,9 @@ struct Around {
     step: bool,
 }
 
-/// The way to a run's success, none after a failure, and whether a finite upper end was
-/// past 65,535 somewhere in the run.
-fn traced(input: &RunInput) -> (Way, bool) {
+/// The way to a run's success, none after a failure, whether a finite upper end was past
+/// 65,535 somewhere in the run, and how many rules succeeded, on the way or off it.
+fn traced(input: &RunInput) -> (Way, bool, u64) {
     let start = &input.start;
     let state = State {
         interval: Interval {
@@ -160,16 +239,21 @@ fn traced(input: &RunInput) -> (Way, bool) {
         place: start.place as u16,
         flag: start.flag,
     };
-    let mut trace = Trace { input, past: false };
+    let mut trace = Trace {
+        input,
+        past: false,
+        rules: 0,
+    };
     let begin = (state, Way::default());
     let end = trace.expression(start.node, start.mode, begin, Around::default());
-    (end.unwrap_or(begin).1, trace.past)
+    (end.unwrap_or(begin).1, trace.past, trace.rules)
 }
 
 /// The clauses once more, to see what lies on the way.
 struct Trace<'i> {
     input: &'i RunInput,
     past: bool,
+    rules: u64,
 }
 
 impl Trace<'_> {
@@ -189,7 +273,13 @@ impl Trace<'_> {
         match words[0] {
             EMPTY => Some(at),
             TERMINAL => self.terminal(a, mode, at, around),
-            RULE => self.expression(self.input.rules[usize::from(a)], mode, at, around),
+            RULE => {
+                let node = self.input.rules[usize::from(a)];
+                let (end, mut way) = self.expression(node, mode, at, around)?;
+                self.rules += 1;
+                way.rules += 1;
+                Some((end, way))
+            }
             SEQUENCE => {
                 let between = self.expression(a, mode, at, around)?;
                 self.expression(b, mode, between, around)

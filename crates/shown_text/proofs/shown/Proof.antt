@@ -2,7 +2,7 @@
 use borrow.Author.Needs.{needs}
 use Rattle.shown_text.proofs.shown.Statement.{statement}
 use Rattle.shown_text.proofs.shown.Tie as tie
-use Rattle.shown_text.proofs.Cases.{by-file, by-report, by-tokens, by-capture, few, from-file, read-some, ordered, from-report}
+use Rattle.shown_text.proofs.PartLaws.{by-file, by-report, by-tokens, by-capture, few, from-file, read-some, ordered, from-report}
 
 returns : tie.Need-returns
 returns c =

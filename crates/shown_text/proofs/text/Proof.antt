@@ -3,7 +3,7 @@ use borrow.Author.Needs.{needs}
 use Rattle.shown_text.proofs.text.Statement.{statement}
 use Rattle.shown_text.proofs.text.Tie as tie
 use native.Mathlib.Omega.{arith}
-use Rattle.shown_text.proofs.Cases.{report-inside, report-cut, file-inside, file-cut, nothing-cut}
+use Rattle.shown_text.proofs.PartLaws.{report-inside, report-cut, file-inside, file-cut, nothing-cut}
 
 add-end : tie.Need-add-end
 add-end c =

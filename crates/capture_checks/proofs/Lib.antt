@@ -1,0 +1,2 @@
+pub mod CaptureChecksCasesHold
+pub mod CaptureLaws
