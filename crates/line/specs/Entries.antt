@@ -1,7 +1,9 @@
 -- What the program `entries` prints its lines from: the captures of the file's start on a report's tokens (02, Note 2).
-use Prim.Native.Nat.{ℕ}
+use Prim.Native.Nat.{ℕ, _+_, _*_, _/_}
+use mathlib.Core.Bool.{cond}
 use mathlib.Core.List.{List}
-use lib.ListN.{length}
+use lib.ListN.{length, getD}
+use lib.Dec.{ltb}
 use Rattle.table.specs.Answer.{Answer, given, refused, refusedAt, afterwards}
 use Rattle.grammar_file.specs.File.{fieldsOf, nodeTable, ruleList}
 use Rattle.token_words.specs.Scan.{wordsOf, scanTokens}
@@ -54,3 +56,15 @@ entries file report =
 unfoldable pub capturesAfter : List ℕ → List ℕ → ℕ → List ℕ → List ℕ
 capturesAfter file report tokensLent before =
     afterwards (entriesAnswer file report tokensLent (length before)) (listWords (entries file report) (length before)) before
+
+-- The capture at a place of a list, from its four words; zeros where there is no such place.
+unfoldable pub captureAt : List ℕ → ℕ → Capture
+captureAt words n =
+    cond (ltb n (length words / 4))
+    (record {
+      rule = getD words (n * 4) 0;
+      first = getD words (n * 4 + 1) 0;
+      after = getD words (n * 4 + 2) 0;
+      around = getD words (n * 4 + 3) 0;
+    })
+    (record { rule = 0; first = 0; after = 0; around = 0 })

@@ -1,6 +1,7 @@
 // From the bytes of a grammar file and a report: the line that the program `reader` prints, and what `entries` prints its
 // lines from.
 use answer_line::ROOM;
+use columns::Capture;
 use columns::Interval;
 use columns::Start;
 use columns::Upper;
@@ -14,6 +15,7 @@ ghost use lib.ListN.{length};
 ghost use Rattle.interpreter.specs.Numbers.{numbers, listNumbers};
 ghost use Rattle.line.specs.Line.{startAt, lineAnswer, lineCount, lineAfter};
 ghost use Rattle.line.specs.Entries.{entriesAnswer, outcomeAnswer, captureCount, tokenCount, tokensAfter, capturesAfter};
+ghost use Rattle.line.specs.Entries.{captureAt};
 ghost use Rattle.line.specs.InternalParts.{PartsGive};
 
 // What a run that lists answered, with the numbers of tokens and of captures that stand in the lent words.
@@ -96,6 +98,27 @@ pub fn list(file: &[u8], report: &[u8], tokens: &mut [u32], captures: &mut [u32]
             );
             counted(y, t)
         }
+    }
+}
+
+// The capture at a place of a list; zeros where there is no such place.
+pub fn capture_at(captures: &[u32], n: usize) -> Capture
+    ensures { λ r. ⌜ r ≡ captureAt (now (captures .entry)) n ⌝ }
+{
+    if n < captures.len() / 4 {
+        let at = n * 4;
+        return Capture {
+            rule: captures[at],
+            first: captures[at + 1],
+            after: captures[at + 2],
+            around: captures[at + 3],
+        };
+    }
+    Capture {
+        rule: 0,
+        first: 0,
+        after: 0,
+        around: 0,
     }
 }
 

@@ -1,6 +1,7 @@
-// What programs and the C interface ask of slices: the first bytes, bytes copied to a lent slice, and whether words are
-// still the marker that they were set to.
+// What programs and the C interface ask of slices: the first bytes or tokens, bytes copied to a lent slice, and whether
+// words are still the marker that they were set to.
 ghost use mathlib.Core.Path.{_≡_};
+ghost use Prim.Native.Nat.{_*_};
 ghost use lib.ListN.{length, take, drop};
 ghost use Rattle.slices.specs.Copied.{copied};
 ghost use Rattle.slices.specs.Filled.{filled};
@@ -13,6 +14,17 @@ pub fn front(bytes: &[u8], n: usize) -> &[u8]
         return bytes;
     }
     &bytes[0..n]
+}
+
+// The words of the first n tokens, four each, or all where there are fewer.
+pub fn front_tokens(tokens: &[u32], n: usize) -> &[u32]
+    ensures { λ r. ⌜ now r ≡ take (n * 4) (now (tokens .entry)) ⌝ }
+{
+    if n > tokens.len() / 4 {
+        return tokens;
+    }
+    let words = n * 4;
+    &tokens[0..words]
 }
 
 // Copies bytes to a lent slice, and says how many there are. A slice that is too short for them is left as it is.
