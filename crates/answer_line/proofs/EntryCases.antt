@@ -24,9 +24,9 @@ use Rattle.shown_text.specs.declared.ShownPart.{ShownPart}
 use Rattle.shown_text.specs.declared.ShownPart.the-variants.{InReport, InFile, Refused}
 use Rattle.shown_text.specs.Shown.{Part, inReport, inFile, tokenOffset, readsTokens, fails14, partShown, shownAnswer, shownBytes}
 use Rattle.shown_text.specs.Shown.{unlessRefused, numbers}
-use Rattle.shown_text.proofs.CaptureLaws.{Right, right-capture}
+use Rattle.capture_checks.proofs.CaptureLaws.{Right, right-capture}
 use Rattle.shown_text.proofs.ShownLaws.{first-given}
-use Rattle.shown_text.proofs.Cases.{report-inside, report-cut}
+use Rattle.shown_text.proofs.PartLaws.{report-inside, report-cut}
 use Rattle.answer_line.specs.EntryLine.{breaks, firstLine, lineOf, columnOf, readBytes, unreadBytes, entryBytes, entryCount, entryAfter}
 use Rattle.answer_line.specs.InternalPut.{pasted, Puts}
 use Rattle.answer_line.proofs.PutLaws.{put-none, put-same}
