@@ -1,4 +1,5 @@
-/* Reads a report by the four parts and prints the names that the grammar has and the outcome.
+/* Reads a report by the four parts and prints the names that the grammar has, the outcome and the entries, what each rule
+ * read: its name and its text up to the first line break, behind two blanks for each entry around it.
  *
  *     read_report GRAMMAR REPORT
  */
@@ -12,9 +13,12 @@
 /* One byte more than a file or report may have, so that one over length is noticed. */
 enum { MOST = 65536 };
 
+/* Room for 16,384 captures. Lists may be longer. */
+enum { CAPTURE_WORDS = 65536 };
+
 static uint8_t file[MOST], report[MOST];
 static uint16_t nodes[SAKTROUM_NODE_WORDS], rules[SAKTROUM_RULE_WORDS];
-static uint32_t tokens[SAKTROUM_TOKEN_WORDS];
+static uint32_t tokens[SAKTROUM_TOKEN_WORDS], captures[CAPTURE_WORDS];
 
 /* How many bytes there are to read, and afterwards the exit status. */
 struct reading {
@@ -51,7 +55,9 @@ static const char *const advice[] = {
     [SAKTROUM_REFUSED_COLUMN] = "look for a very long line in the report",
     [SAKTROUM_REFUSED_TOKEN_ROOM] = "split the report: it may have 4,096 tokens",
     [SAKTROUM_REFUSED_TOKENS] = "lend the tokens as a scan wrote them",
-    [SAKTROUM_REFUSED_START] = "look at the start: its node, place, interval and mode"};
+    [SAKTROUM_REFUSED_START] = "look at the start: its node, place, interval and mode",
+    [SAKTROUM_REFUSED_CAPTURE_ROOM] = "lend more words for the captures, or name fewer rules",
+    [SAKTROUM_REFUSED_CAPTURE] = "show a capture with the file, the report and the tokens that it was listed from"};
 
 static int refused(const char *part, uint32_t answer)
 {
@@ -75,9 +81,30 @@ static void print_names(const char *what, size_t file_bytes,
     putchar('\n');
 }
 
+/* Prints so many entries; `-` for one that read no token. */
+static int print_entries(size_t file_bytes, size_t report_bytes, size_t token_words, size_t count)
+{
+    uint8_t name[SAKTROUM_NAME_BYTES];
+    size_t shown[3];
+    for (size_t i = 0; i < count; i++) {
+        const uint32_t *c = captures + 4 * i;
+        uint32_t answer = saktroum_shown(file, file_bytes, report, report_bytes, tokens, token_words,
+                                         c[0], c[1], c[2], c[3], shown);
+        if (answer)
+            return refused("shown", answer);
+        int bytes = (int)saktroum_rule_name(file, file_bytes, c[0], name, sizeof name);
+        const char *text = shown[2] == SAKTROUM_IN_REPORT ? (const char *)report + shown[0] : "-";
+        size_t most = shown[2] == SAKTROUM_IN_REPORT ? shown[1] : 1;
+        const char *end = memchr(text, '\n', most);
+        int length = (int)(end ? (size_t)(end - text) : most);
+        printf("%*s%.*s %.*s\n", (int)(2 * c[3]), "", bytes, (const char *)name, length, text);
+    }
+    return 0;
+}
+
 static int read_report(size_t file_bytes, size_t report_bytes)
 {
-    size_t read[5], count[1], ran[6];
+    size_t read[5], count[1], ran[7];
     uint32_t answer;
     if ((answer = saktroum_read(file, file_bytes, nodes, SAKTROUM_NODE_WORDS, rules, SAKTROUM_RULE_WORDS, read)))
         return refused("read", answer);
@@ -90,14 +117,16 @@ static int read_report(size_t file_bytes, size_t report_bytes)
         return refused("scan", answer);
     printf("scan: %zu tokens\n", count[0]);
     /* The file's start from token 0, interval 0 without end, flag clear. */
-    if ((answer = saktroum_run(nodes, read[0] * 4, rules, read[1], tokens, count[0] * 4,
-                               (uint16_t)read[3], 0, 0, 0, true, false, (uint16_t)read[4], ran)))
-        return refused("run", answer);
-    if (ran[0])
-        printf("run: success, %zu of %zu tokens read\n", ran[1], count[0]);
-    else
+    if ((answer = saktroum_list(nodes, read[0] * 4, rules, read[1], tokens, count[0] * 4,
+                                (uint16_t)read[3], 0, 0, 0, true, false, (uint16_t)read[4],
+                                captures, CAPTURE_WORDS, ran)))
+        return refused("list", answer);
+    if (!ran[0]) {
         puts("run: failure");
-    return 0;
+        return 0;
+    }
+    printf("run: success, %zu of %zu tokens read\n", ran[1], count[0]);
+    return print_entries(file_bytes, report_bytes, count[0] * 4, ran[6]);
 }
 
 static void work(void *argument)

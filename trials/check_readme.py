@@ -1,8 +1,8 @@
 #!/usr/bin/env python3
 """Tries the first page of README.md: its report and its rules are those of examples/, the builder builds the grammar file
-that stands there, and the program prints what the page says of both reports.
+that stands there, and the programs print what the page says of both reports.
 
-    python3 trials/check_readme.py target/bin/reader
+    python3 trials/check_readme.py target/bin/reader target/bin/entries
 """
 
 import pathlib
@@ -13,8 +13,8 @@ import tempfile
 
 ROOT = pathlib.Path(__file__).resolve().parent.parent
 EXAMPLES = ROOT / "examples"
-# What is run here, with the program that is there already.
-COMMAND = "rt check reader && (cd examples && ../target/bin/reader < report.txt)\n"
+# What is run here, with the programs that are there already.
+COMMAND = "rt check entries reader && (cd examples && ../target/bin/entries < report.txt)\n"
 
 
 def blocks(text):
@@ -30,10 +30,10 @@ def rules(grammar):
     return [" ".join(rule.split()) for rule in found]
 
 
-def printed(reader, report):
-    """What the program prints of a report, where the examples stand."""
+def printed(program, report):
+    """What a program prints of a report, where the examples stand."""
     with open(EXAMPLES / report, "rb") as text:
-        return subprocess.run([reader], cwd=EXAMPLES, stdin=text, stdout=subprocess.PIPE, check=True).stdout.decode()
+        return subprocess.run([program], cwd=EXAMPLES, stdin=text, stdout=subprocess.PIPE, check=True).stdout.decode()
 
 
 def built():
@@ -46,20 +46,22 @@ def built():
 
 
 def main():
-    if len(sys.argv) != 2:
-        sys.exit("usage: check_readme.py READER")
-    reader = pathlib.Path(sys.argv[1]).resolve()
+    if len(sys.argv) != 3:
+        sys.exit("usage: check_readme.py READER ENTRIES")
+    reader, entries = (pathlib.Path(name).resolve() for name in sys.argv[1:])
     text = (ROOT / "README.md").read_text(encoding="utf-8")
-    report, grammar, _, command, answer = blocks(text)[:5]
-    told = re.search(r"With `misplaced\.txt`.*?it prints `(\w+)`", text)
+    report, grammar, command, listed, answer = blocks(text)[:5]
+    told = re.search(r"With `misplaced\.txt`.*?either prints `(\w+)`", text)
     compared = {
         "its report": (report, (EXAMPLES / "report.txt").read_text(encoding="utf-8")),
         "the lines of its rules": (len(grammar.splitlines()), len(rules(grammar))),
         "its rules": (rules(grammar), rules((EXAMPLES / "splices.grammar").read_text(encoding="utf-8"))),
         "its command": (command, COMMAND),
         "examples/grammar.bin": ((EXAMPLES / "grammar.bin").read_bytes(), built()),
+        "the list of report.txt": (listed, printed(entries, "report.txt")),
         "the answer to report.txt": (answer, printed(reader, "report.txt")),
         "the answer to misplaced.txt": (told and told[1] + "\n", printed(reader, "misplaced.txt")),
+        "the list of misplaced.txt": (told and told[1] + "\n", printed(entries, "misplaced.txt")),
     }
     for name, (written, found) in compared.items():
         if written != found:
