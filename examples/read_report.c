@@ -1,7 +1,9 @@
-/* Reads a report by the four parts and prints the names that the grammar has, the outcome and the entries, what each rule
- * read: its name and its text up to the first line break, behind two blanks for each entry around it.
+/* Reads a report and prints the names that the grammar has, the outcome and, as a tree, what each rule read.
  *
  *     read_report GRAMMAR REPORT
+ *
+ * A line of the tree is `NAME LINE:COLUMN TEXT`, both counted from 1, with the text up to its first line break, or `NAME -`
+ * if the rule read no token. Before it stand two blanks for each rule around it.
  */
 #include <stdio.h>
 #include <stdlib.h>
@@ -13,12 +15,12 @@
 /* One byte more than a file or report may have, so that one over length is noticed. */
 enum { MOST = 65536 };
 
-/* Room for 16,384 captures. Lists may be longer. */
-enum { CAPTURE_WORDS = 65536 };
+/* For captures no length is always enough: after 13 twice as many words are lent, up to this many. */
+enum { MOST_CAPTURE_WORDS = 1 << 24 };
 
 static uint8_t file[MOST], report[MOST];
 static uint16_t nodes[SAKTROUM_NODE_WORDS], rules[SAKTROUM_RULE_WORDS];
-static uint32_t tokens[SAKTROUM_TOKEN_WORDS], captures[CAPTURE_WORDS];
+static uint32_t tokens[SAKTROUM_TOKEN_WORDS], *captures;
 
 /* How many bytes there are to read, and afterwards the exit status. */
 struct reading {
@@ -56,8 +58,8 @@ static const char *const advice[] = {
     [SAKTROUM_REFUSED_TOKEN_ROOM] = "split the report: it may have 4,096 tokens",
     [SAKTROUM_REFUSED_TOKENS] = "lend the tokens as a scan wrote them",
     [SAKTROUM_REFUSED_START] = "look at the start: its node, place, interval and mode",
-    [SAKTROUM_REFUSED_CAPTURE_ROOM] = "lend more words for the captures, or name fewer rules",
-    [SAKTROUM_REFUSED_CAPTURE] = "show a capture with the file, the report and the tokens that it was listed from"};
+    [SAKTROUM_REFUSED_CAPTURE_ROOM] = "split the report, or name fewer rules: the list of what they read is too long",
+    [SAKTROUM_REFUSED_CAPTURE] = "lend the capture as a list wrote it, with the report and the tokens of that run"};
 
 static int refused(const char *part, uint32_t answer)
 {
@@ -81,23 +83,57 @@ static void print_names(const char *what, size_t file_bytes,
     putchar('\n');
 }
 
-/* Prints so many entries; `-` for one that read no token. */
-static int print_entries(size_t file_bytes, size_t report_bytes, size_t token_words, size_t count)
+/* Lends words for captures in the place of those lent before. */
+static void lend_captures(size_t words)
+{
+    free(captures);
+    captures = calloc(words, sizeof *captures);
+    if (!captures) {
+        perror("captures");
+        exit(2);
+    }
+}
+
+/* Runs the file's start from token 0, interval 0 without end, flag clear. (saktroum_run does it without the captures.) */
+static uint32_t run(const size_t read[5], size_t token_words, size_t ran[7])
+{
+    uint32_t answer = SAKTROUM_REFUSED_CAPTURE_ROOM;
+    for (size_t words = SAKTROUM_TOKEN_WORDS; answer == SAKTROUM_REFUSED_CAPTURE_ROOM && words <= MOST_CAPTURE_WORDS;
+         words *= 2) {
+        lend_captures(words);
+        answer = saktroum_list(nodes, read[0] * 4, rules, read[1], tokens, token_words,
+                               (uint16_t)read[3], 0, 0, 0, true, false, (uint16_t)read[4], captures, words, ran);
+    }
+    return answer;
+}
+
+/* Prints the name of a capture's rule and, by where its text lies, what it read. */
+static void print_entry(size_t file_bytes, const uint32_t *capture, const size_t shown[3])
 {
     uint8_t name[SAKTROUM_NAME_BYTES];
+    size_t bytes = saktroum_rule_name(file, file_bytes, capture[0], name, sizeof name), line = 1, first = 0;
+    printf("%*s%.*s ", (int)capture[3] * 2, "", (int)bytes, (const char *)name);
+    if (shown[2] == SAKTROUM_IN_FILE) {
+        puts("-");
+        return;
+    }
+    const uint8_t *text = report + shown[0];
+    for (size_t i = 0; i < shown[0]; i++)
+        line += report[i] == '\n';
+    while (first < shown[1] && text[first] != '\n')
+        first++;
+    printf("%zu:%u %.*s\n", line, tokens[capture[1] * 4 + 1] + 1, (int)first, (const char *)text);
+}
+
+static int print_entries(size_t file_bytes, size_t report_bytes, size_t token_words, size_t count)
+{
     size_t shown[3];
-    for (size_t i = 0; i < count; i++) {
-        const uint32_t *c = captures + 4 * i;
+    for (const uint32_t *it = captures; it < captures + count * 4; it += 4) {
         uint32_t answer = saktroum_shown(file, file_bytes, report, report_bytes, tokens, token_words,
-                                         c[0], c[1], c[2], c[3], shown);
+                                         it[0], it[1], it[2], it[3], shown);
         if (answer)
             return refused("shown", answer);
-        int bytes = (int)saktroum_rule_name(file, file_bytes, c[0], name, sizeof name);
-        const char *text = shown[2] == SAKTROUM_IN_REPORT ? (const char *)report + shown[0] : "-";
-        size_t most = shown[2] == SAKTROUM_IN_REPORT ? shown[1] : 1;
-        const char *end = memchr(text, '\n', most);
-        int length = (int)(end ? (size_t)(end - text) : most);
-        printf("%*s%.*s %.*s\n", (int)(2 * c[3]), "", bytes, (const char *)name, length, text);
+        print_entry(file_bytes, it, shown);
     }
     return 0;
 }
@@ -116,11 +152,8 @@ static int read_report(size_t file_bytes, size_t report_bytes)
     if ((answer = saktroum_scan(file, file_bytes, report, report_bytes, tokens, SAKTROUM_TOKEN_WORDS, count)))
         return refused("scan", answer);
     printf("scan: %zu tokens\n", count[0]);
-    /* The file's start from token 0, interval 0 without end, flag clear. */
-    if ((answer = saktroum_list(nodes, read[0] * 4, rules, read[1], tokens, count[0] * 4,
-                                (uint16_t)read[3], 0, 0, 0, true, false, (uint16_t)read[4],
-                                captures, CAPTURE_WORDS, ran)))
-        return refused("list", answer);
+    if ((answer = run(read, count[0] * 4, ran)))
+        return refused("run", answer);
     if (!ran[0]) {
         puts("run: failure");
         return 0;

@@ -1,33 +1,38 @@
 #!/usr/bin/env python3
-"""Reads a report through ctypes and prints the grammar's names, the outcome and the entries: what each rule read.
+"""Reads a report through ctypes and prints the grammar's names, the outcome and, as a tree, what each rule read.
 
-    python3 examples/read_report.py [--json] LIBRARY GRAMMAR REPORT
+    python3 examples/read_report.py LIBRARY GRAMMAR REPORT [--json]
 
-An entry's line has its rule, the line and column of its first token and its text up to the first line break, behind two
-blanks for each entry around it. With --json each entry is a JSON object on a line by itself: its rule, its first and last
-line, its text and the number of the entry around it, from 0; null where there is none. A failure then lists nothing, and
-ends with status 1.
+A line of the tree is `NAME LINE:COLUMN TEXT`, both counted from 1, with the text up to its first line break, or `NAME -`
+if the rule read no token. Before it stand two blanks for each rule around it.
+
+With --json only JSON lines are printed, one an entry: its number, from 0 on, the name of its rule, its first and last
+line, its whole text, and the number of the entry around it or null. If it read no token, both lines are null and the text
+is empty. A failure has no entries, and then ends the program with status 1.
 """
 
 import concurrent.futures
 import ctypes
 import json
 import pathlib
+import signal
 import sys
 import threading
 from ctypes import byref, c_bool, c_size_t, c_uint8, c_uint16, c_uint32
+from typing import NamedTuple, Optional
 
 NODE_WORDS, RULE_WORDS, TOKEN_WORDS, NAME_BYTES = 2048, 128, 16384, 32
-# Room for 16,384 captures, as the program `entries` has it. Lists may be longer.
-CAPTURE_WORDS = 65536
 PARTS = ("saktroum_read", "saktroum_check", "saktroum_scan", "saktroum_list", "saktroum_shown")
 NAMES = ("saktroum_rule_name", "saktroum_keyword")
+
+# For captures no length is always enough: after 13 twice as many words are lent, up to this many.
+MOST_CAPTURE_WORDS = 1 << 24
 
 # What the deepest runs need fits into 1 GiB; only what is used is taken.
 STACK_BYTES = 1 << 30
 
 
-ILL_FORMED = 7
+ILL_FORMED, CAPTURE_ROOM = 7, 13
 
 # What to do about each number (enum saktroum_refusal of include/saktroum.h).
 ADVICE = {
@@ -43,9 +48,20 @@ ADVICE = {
     10: "split the report: it may have 4,096 tokens",
     11: "lend the tokens as a scan wrote them",
     12: "look at the start: its node, place, interval and mode",
-    13: "lend more words for the captures, or name fewer rules",
-    14: "show a capture with the file, the report and the tokens that it was listed from",
+    CAPTURE_ROOM: "split the report, or name fewer rules: the list of what they read is too long",
+    14: "lend the capture as a list wrote it, with the report and the tokens of that run",
 }
+
+
+class Entry(NamedTuple):
+    """What is shown of a capture. If it read no token, it has no line and no column."""
+
+    around: int  # the number of captures around it
+    rule: str
+    line: Optional[int] = None
+    last_line: Optional[int] = None
+    column: Optional[int] = None
+    text: str = ""
 
 
 def loaded(library):
@@ -65,8 +81,8 @@ def given(values, kind):
 
 def passed(answer, part):
     """Ends with the number, with the node for 7, and what to do, unless the answer is 0."""
-    if answer:
-        number, node = answer & 65535, answer >> 16
+    number, node = answer & 65535, answer >> 16
+    if number:
         at = f", node {node}" if number == ILL_FORMED else ""
         sys.exit(f"{part}: refused {number}{at}: {ADVICE[number]}")
 
@@ -77,79 +93,102 @@ def names(call, file, count):
     return [bytes(out[: call(*file, c_size_t(i), out, c_size_t(NAME_BYTES))]).decode("utf-8", "replace") for i in range(count)]
 
 
-def around(entry, open_entries):
-    """The number of the entry around one that has so many around it, of those that were listed before."""
-    del open_entries[entry["depth"] :]
-    open_entries.append(entry["number"])
-    return open_entries[-2] if entry["depth"] else None
+def read_grammar(reader, file):
+    """The table of a grammar file; the number of its nodes, rules and keywords, its start node and mode."""
+    nodes, rules, read = (c_uint16 * NODE_WORDS)(), (c_uint16 * RULE_WORDS)(), (c_size_t * 5)()
+    room = (nodes, c_size_t(NODE_WORDS), rules, c_size_t(RULE_WORDS))
+    passed(reader.saktroum_read(*file, *room, byref(read)), "read")
+    return (nodes, c_size_t(read[0] * 4), rules, c_size_t(read[1])), list(read)
 
 
-def entries(reader, file, text, tokens, captures, rules):
-    """The entries of a list, outer ones before those inside them."""
-    report, words, part = given(text, c_uint8), given(tokens, c_uint32), (c_size_t * 3)()
-    open_entries = []
-    for number in range(len(captures) // 4):
-        rule, first, after, depth = captures[4 * number : 4 * number + 4]
-        entry = {"number": number, "rule": rules[rule], "depth": depth, "column": None, "first": None, "last": None, "text": None}
-        if first < after:
-            capture = (c_uint32(word) for word in (rule, first, after, depth))
-            passed(reader.saktroum_shown(*file, *report, *words, *capture, byref(part)), "shown")
-            offset, length = part[0], part[1]
-            entry["column"] = tokens[4 * first + 1] + 1
-            entry["first"] = text.count(b"\n", 0, offset) + 1
-            entry["last"] = text.count(b"\n", 0, tokens[4 * after - 2]) + 1
-            entry["text"] = text[offset : offset + length].decode("utf-8", "replace")
-        entry["around"] = around(entry, open_entries)
-        yield entry
+def scan(reader, file, report):
+    """The slice of a report's tokens, four words each, and their number."""
+    tokens, count = (c_uint32 * TOKEN_WORDS)(), (c_size_t * 1)()
+    passed(reader.saktroum_scan(*file, *report, tokens, c_size_t(TOKEN_WORDS), byref(count)), "scan")
+    return (tokens, c_size_t(count[0] * 4)), count[0]
 
 
-def tree_line(entry):
-    """The line that the program `entries` prints."""
-    if entry["text"] is None:
-        return "  " * entry["depth"] + f"{entry['rule']} -"
-    return "  " * entry["depth"] + f"{entry['rule']} {entry['first']}:{entry['column']} {entry['text'].split(chr(10))[0]}"
+def run(reader, table, tokens, node, mode):
+    """The words of a run from token 0, interval 0 without end, flag clear, and its captures, four words each."""
+    start = (c_uint16(node), c_uint32(0), c_uint32(0), c_uint32(0), c_bool(True), c_bool(False), c_uint16(mode))
+    ran, words = (c_size_t * 7)(), TOKEN_WORDS
+    while True:
+        captures = (c_uint32 * words)()
+        # saktroum_run does the same without the captures.
+        answer = reader.saktroum_list(*table, *tokens, *start, captures, c_size_t(words), byref(ran))
+        if answer != CAPTURE_ROOM or words >= MOST_CAPTURE_WORDS:
+            break
+        words *= 2
+    passed(answer, "run")
+    return ran, [captures[4 * i : 4 * i + 4] for i in range(ran[6])]
 
 
-def json_line(entry):
-    return json.dumps({key: entry[key] for key in ("rule", "first", "last", "text", "around")}, ensure_ascii=False)
+def shown_part(reader, file, report, tokens, capture):
+    """Where the text shown for a capture lies: offset, length, and 1 if in the grammar file, 0 if in the report."""
+    part = (c_size_t * 3)()
+    passed(reader.saktroum_shown(*file, *report, *tokens, *map(c_uint32, capture), byref(part)), "shown")
+    return part
+
+
+def entries(reader, file, report, tokens, rules, captures):
+    """What is shown of each capture."""
+    text = bytes(report[0])
+    for capture in captures:
+        rule, first, _, around = capture
+        offset, length, in_file = shown_part(reader, file, report, tokens, capture)
+        if in_file:
+            yield Entry(around, rules[rule])
+        else:
+            read, line = text[offset : offset + length], 1 + text.count(b"\n", 0, offset)
+            places = (line, line + read[:-1].count(b"\n"), 1 + tokens[0][4 * first + 1])
+            yield Entry(around, rules[rule], *places, read.decode("utf-8", "replace"))
+
+
+def print_tree(listed):
+    """A line for each entry."""
+    for entry in listed:
+        read = "-" if entry.line is None else f"{entry.line}:{entry.column} " + entry.text.split("\n")[0]
+        print(f"{'  ' * entry.around}{entry.rule} {read}")
+
+
+def print_json(listed):
+    """A JSON line for each entry. Those around it stand before it, and the innermost of them is the last one."""
+    within = []
+    for number, entry in enumerate(listed):
+        del within[entry.around :]
+        fields = {"number": number, "rule": entry.rule, "first_line": entry.line, "last_line": entry.last_line}
+        print(json.dumps({**fields, "text": entry.text, "around": within[-1] if within else None}))
+        within.append(number)
 
 
 def read_report(library, grammar, report, as_json):
     reader = loaded(library)
-    file = given(pathlib.Path(grammar).read_bytes(), c_uint8)
-    text = pathlib.Path(report).read_bytes()
-    nodes, rules, tokens = (c_uint16 * NODE_WORDS)(), (c_uint16 * RULE_WORDS)(), (c_uint32 * TOKEN_WORDS)()
-    read, count, ran, captures = (c_size_t * 5)(), (c_size_t * 1)(), (c_size_t * 7)(), (c_uint32 * CAPTURE_WORDS)()
-    room = (nodes, c_size_t(NODE_WORDS), rules, c_size_t(RULE_WORDS))
-    passed(reader.saktroum_read(*file, *room, byref(read)), "read")
-    rule_names = names(reader.saktroum_rule_name, file, read[1])
-    table = (nodes, c_size_t(read[0] * 4), rules, c_size_t(read[1]))
+    file, report = (given(pathlib.Path(path).read_bytes(), c_uint8) for path in (grammar, report))
+    table, (_, rule_count, keyword_count, *start) = read_grammar(reader, file)
+    rules = names(reader.saktroum_rule_name, file, rule_count)
+    if not as_json:
+        print("rules:", *rules)
+        print("keywords:", *names(reader.saktroum_keyword, file, keyword_count))
     passed(reader.saktroum_check(*table), "check")
-    passed(reader.saktroum_scan(*file, *given(text, c_uint8), tokens, c_size_t(TOKEN_WORDS), byref(count)), "scan")
-    # The file's start from token 0, interval 0 without end, flag clear.
-    start = (c_uint16(read[3]), c_uint32(0), c_uint32(0), c_uint32(0), c_bool(True), c_bool(False), c_uint16(read[4]))
-    lent = (captures, c_size_t(CAPTURE_WORDS))
-    passed(reader.saktroum_list(*table, tokens, c_size_t(count[0] * 4), *start, *lent, byref(ran)), "list")
+    tokens, count = scan(reader, file, report)
+    ran, captures = run(reader, table, tokens, *start)
     if as_json and not ran[0]:
         sys.exit("failure")
     if not as_json:
-        print("rules:", *rule_names)
-        print("keywords:", *names(reader.saktroum_keyword, file, read[2]))
-        print(f"success, {ran[1]} of {count[0]} tokens read" if ran[0] else "failure")
-    listed = captures[: 4 * ran[6]] if ran[0] else []
-    for entry in entries(reader, file, text, tokens[: 4 * count[0]], listed, rule_names):
-        print(json_line(entry) if as_json else tree_line(entry))
+        print(f"success, {ran[1]} of {count} tokens read" if ran[0] else "failure")
+    (print_json if as_json else print_tree)(entries(reader, file, report, tokens, rules, captures))
 
 
 def main():
-    words = sys.argv[1:]
-    as_json = words[:1] == ["--json"]
-    if len(words) != 3 + as_json:
-        sys.exit("usage: read_report.py [--json] LIBRARY GRAMMAR REPORT")
+    arguments, option = sys.argv[1:4], sys.argv[4:]
+    if len(arguments) != 3 or option not in ([], ["--json"]):
+        sys.exit("usage: read_report.py LIBRARY GRAMMAR REPORT [--json]")
+    # A reader of the output, like `head`, may stop before its end.
+    signal.signal(signal.SIGPIPE, signal.SIG_DFL)
     # On a thread of its own: a run may need more stack than a program usually has. What ends the thread ends the program.
     threading.stack_size(STACK_BYTES)
     with concurrent.futures.ThreadPoolExecutor(1) as thread:
-        thread.submit(read_report, *words[as_json:], as_json).result()
+        thread.submit(read_report, *arguments, bool(option)).result()
 
 
 if __name__ == "__main__":

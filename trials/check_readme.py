@@ -1,6 +1,6 @@
 #!/usr/bin/env python3
 """Tries the first page of README.md: its report and its rules are those of examples/, the builder builds the grammar file
-that stands there, and the programs print what the page says of both reports.
+that stands there, and the program `entries` prints what the page says of both reports, last what `reader` does.
 
     python3 trials/check_readme.py target/bin/reader target/bin/entries
 """
@@ -13,8 +13,8 @@ import tempfile
 
 ROOT = pathlib.Path(__file__).resolve().parent.parent
 EXAMPLES = ROOT / "examples"
-# What is run here, with the programs that are there already.
-COMMAND = "rt check entries reader && (cd examples && ../target/bin/entries < report.txt)\n"
+# What is run here, with the program that is there already.
+COMMAND = "rt check reader entries && (cd examples && ../target/bin/entries < report.txt)\n"
 
 
 def blocks(text):
@@ -48,25 +48,25 @@ def built():
 def main():
     if len(sys.argv) != 3:
         sys.exit("usage: check_readme.py READER ENTRIES")
-    reader, entries = (pathlib.Path(name).resolve() for name in sys.argv[1:])
+    reader, entries = (pathlib.Path(program).resolve() for program in sys.argv[1:])
     text = (ROOT / "README.md").read_text(encoding="utf-8")
-    report, grammar, command, listed, answer = blocks(text)[:5]
-    told = re.search(r"With `misplaced\.txt`.*?either prints `(\w+)`", text)
+    report, grammar, command, answer = blocks(text)[:4]
+    told = re.search(r"With `misplaced\.txt`.*?it prints `(\w+)`", text)
     compared = {
         "its report": (report, (EXAMPLES / "report.txt").read_text(encoding="utf-8")),
         "the lines of its rules": (len(grammar.splitlines()), len(rules(grammar))),
         "its rules": (rules(grammar), rules((EXAMPLES / "splices.grammar").read_text(encoding="utf-8"))),
         "its command": (command, COMMAND),
         "examples/grammar.bin": ((EXAMPLES / "grammar.bin").read_bytes(), built()),
-        "the list of report.txt": (listed, printed(entries, "report.txt")),
-        "the answer to report.txt": (answer, printed(reader, "report.txt")),
-        "the answer to misplaced.txt": (told and told[1] + "\n", printed(reader, "misplaced.txt")),
-        "the list of misplaced.txt": (told and told[1] + "\n", printed(entries, "misplaced.txt")),
+        "what entries prints of report.txt": (answer, printed(entries, "report.txt")),
+        "its last line": (answer.splitlines()[-1] + "\n", printed(reader, "report.txt")),
+        "what entries prints of misplaced.txt": (told and told[1] + "\n", printed(entries, "misplaced.txt")),
+        "what reader prints of misplaced.txt": (told and told[1] + "\n", printed(reader, "misplaced.txt")),
     }
     for name, (written, found) in compared.items():
         if written != found:
             sys.exit(f"README.md: {name} differs:\n{written!r}\n{found!r}")
-    print(f"README.md: {len(rules(grammar))} rules, {answer}", end="")
+    print(f"README.md: {len(rules(grammar))} rules, {len(answer.splitlines()) - 1} entries, as written")
 
 
 if __name__ == "__main__":

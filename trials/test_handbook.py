@@ -174,7 +174,7 @@ class Told(unittest.TestCase):
         """What the programs print on the examples: one line, the entries before it, and a failure alone."""
         listed = handbook.printed(READER, "entries", handbook.ROOT / "examples" / "report.txt")
         self.assertEqual(listed[:2], ["heading 1:1 Fusion splicer, arc table 4", "splice 2:1 splice 1"])
-        self.assertEqual(listed[-2:], ["    cleave 10:5 cleave: 0.5, 0.3", "success 58 0 0 clear"])
+        self.assertEqual(listed[-2:], ["  cleave 10:5 cleave: 0.5, 0.3", "success 58 0 0 clear"])
         right = ["../target/bin/reader < report.txt", "# success 58 0 0 clear"]
         right += ["../target/bin/entries < misplaced.txt", "# failure"]
         right += ["", "../target/bin/entries < report.txt", *(f"# {line}" for line in listed)]
