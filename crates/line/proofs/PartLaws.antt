@@ -151,7 +151,10 @@ module _ {file : List ℕ} {x : Contents} {nodes rules : List ℕ} (h : Tables f
   unfolding afterParts
   after-read d = d ∙ first-passes _ (h .passes)
 
-  checked-as : {v : Answer Unit} → v ≡ checkAnswer (take (x .nodes * 4) nodes) (take (x .rules) rules) → v ≡ checkAnswer (nodeTable (fieldsOf file)) (ruleList (fieldsOf file))
+  checked-as :
+      {v : Answer Unit}
+      → v ≡ checkAnswer (take (x .nodes * 4) nodes) (take (x .rules) rules)
+      → v ≡ checkAnswer (nodeTable (fieldsOf file)) (ruleList (fieldsOf file))
   checked-as d = d ∙ ap₂ checkAnswer (h .nodes-are) (h .rules-are)
 
   pub check-refuses : {k : ℕ} → refused k ≡ checkAnswer (take (x .nodes * 4) nodes) (take (x .rules) rules) → refused k ≡ partsAnswer file report room
@@ -199,7 +202,11 @@ pub read-refuses :
 unfolding afterParts
 read-refuses file report room p q e = first-refuses _ (e ∙ ap₂ (readAnswer file) p q)
 
-one-refuses : {A X : Type 0} (a : Answer X) (f : Answer Unit) (g : Answer A) {n : ℕ} → (refused n ≡ f → refused n ≡ g) → refused n ≡ andThen a f → refused n ≡ andThen a g
+one-refuses :
+    {A X : Type 0} (a : Answer X) (f : Answer Unit) (g : Answer A) {n : ℕ}
+    → (refused n ≡ f → refused n ≡ g)
+    → refused n ≡ andThen a f
+    → refused n ≡ andThen a g
 one-refuses (given x) f g h e = h e
 one-refuses (refused m) f g {n} h e = let d : n ≡ m = cc in ap refused d
 one-refuses (refusedAt m k) f g h e = absurd (let z : _≡_ {A = ℕ} 0 1 = cc in omega arith)
