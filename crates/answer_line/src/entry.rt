@@ -11,7 +11,7 @@ ghost use lib.ListN.{length, getD, take};
 ghost use Rattle.answer_line.specs.EntryLine.{breaks, firstLine, entryCount, entryAfter, readBytes, unreadBytes};
 ghost use Rattle.answer_line.specs.InternalPut.{Puts};
 
-// The room that every line has enough of.
+// Room enough for every line, in bytes.
 pub const ROOM: usize = 65664;
 
 // Writes the line, and says how many bytes it has: none where the shown text is refused. A slice of fewer than 65,664 bytes

@@ -1,4 +1,4 @@
-// The program: reads the grammar file `grammar.bin` and a report on standard input, and prints the entries of the run, a line
+// The program `entries`: reads the grammar file `grammar.bin` and a report on standard input, and prints the entries of the run, a line
 // each behind two blanks for each entry around it, and then the line of the run.
 ghost use Rattle.io.specs.Counts.{Counts};
 
@@ -37,7 +37,7 @@ fn print(file: &[u8], report: &[u8]) {
     io::write_all(libc::STDOUT_FILENO, slices::front(&out, k));
 }
 
-// Prints so many entries.
+// Prints so many entries. A line has room in as many bytes as `answer_line::entry::ROOM`.
 fn print_entries(file: &[u8], report: &[u8], tokens: &[u32], captures: &[u32], count: usize) {
     let mut out = [0u8; 65664];
     let mut i = 0;

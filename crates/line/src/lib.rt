@@ -212,7 +212,7 @@ fn start_at(node: u16, mode: u16) -> Start
     }
 }
 
-// An answer with nothing listed.
+// An answer of the parts before a run: no tokens, nothing listed.
 fn none(answer: Ran) -> Entries
     ensures { λ r. ⌜ (r .answer ≡ answer) × (r .tokens ≡ 0) × (r .captures ≡ 0) ⌝ }
 {
