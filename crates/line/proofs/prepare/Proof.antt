@@ -15,7 +15,10 @@ mul-words c =
     let args = c .before .before .before .before .before .before .before .before .before .before .before .before .before .before .before .args in
     let read = c .before .before .before .before .before .before .before .read in
     let stand =
-    tables (args .file .now) (args .nodes .now) (args .rules .now) (c .before .before .before .before .before .before .before .before .before .before .before .before .before .before .before .pre .0) (c .before .before .before .before .before .before .before .before .before .before .before .before .before .before .before .pre .1) (read .ensures .0) (read .ensures .1 .0)
+    tables (args .file .now) (args .nodes .now) (args .rules .now)
+    (c .before .before .before .before .before .before .before .before .before .before .before .before .before .before .before .pre .0)
+    (c .before .before .before .before .before .before .before .before .before .before .before .before .before .before .before .pre .1) (read .ensures .0)
+    (read .ensures .1 .0)
     (read .ensures .1 .1) (c .before .x2 .given .1) in
     omega (arith, stand .few)
 
@@ -24,7 +27,10 @@ slice-reshare-prefix-check c =
     let args = c .before .before .before .before .before .before .before .before .before .before .before .before .before .before .before .args in
     let read = c .before .before .before .before .before .before .before .read in
     let stand =
-    tables (args .file .now) (args .nodes .now) (args .rules .now) (c .before .before .before .before .before .before .before .before .before .before .before .before .before .before .before .pre .0) (c .before .before .before .before .before .before .before .before .before .before .before .before .before .before .before .pre .1) (read .ensures .0) (read .ensures .1 .0)
+    tables (args .file .now) (args .nodes .now) (args .rules .now)
+    (c .before .before .before .before .before .before .before .before .before .before .before .before .before .before .before .pre .0)
+    (c .before .before .before .before .before .before .before .before .before .before .before .before .before .before .before .pre .1) (read .ensures .0)
+    (read .ensures .1 .0)
     (read .ensures .1 .1) (c .before .x2 .given .1) in
     stand .few-nodes
 
@@ -33,7 +39,10 @@ slice-aggregate-check c =
     let args = c .before .before .before .before .before .before .before .before .before .before .before .before .before .before .before .before .args in
     let read = c .before .before .before .before .before .before .before .before .read in
     let stand =
-    tables (args .file .now) (args .nodes .now) (args .rules .now) (c .before .before .before .before .before .before .before .before .before .before .before .before .before .before .before .before .pre .0) (c .before .before .before .before .before .before .before .before .before .before .before .before .before .before .before .before .pre .1) (read .ensures .0) (read .ensures .1 .0)
+    tables (args .file .now) (args .nodes .now) (args .rules .now)
+    (c .before .before .before .before .before .before .before .before .before .before .before .before .before .before .before .before .pre .0)
+    (c .before .before .before .before .before .before .before .before .before .before .before .before .before .before .before .before .pre .1)
+    (read .ensures .0) (read .ensures .1 .0)
     (read .ensures .1 .1) (c .before .before .x2 .given .1) in
     front-length _ _ (stand .few-nodes)
 
@@ -42,7 +51,10 @@ slice-reshare-prefix-check-2 c =
     let args = c .before .before .before .before .before .before .before .before .before .before .before .before .before .before .before .before .args in
     let read = c .before .before .before .before .before .before .before .before .read in
     let stand =
-    tables (args .file .now) (args .nodes .now) (args .rules .now) (c .before .before .before .before .before .before .before .before .before .before .before .before .before .before .before .before .pre .0) (c .before .before .before .before .before .before .before .before .before .before .before .before .before .before .before .before .pre .1) (read .ensures .0) (read .ensures .1 .0)
+    tables (args .file .now) (args .nodes .now) (args .rules .now)
+    (c .before .before .before .before .before .before .before .before .before .before .before .before .before .before .before .before .pre .0)
+    (c .before .before .before .before .before .before .before .before .before .before .before .before .before .before .before .before .pre .1)
+    (read .ensures .0) (read .ensures .1 .0)
     (read .ensures .1 .1) (c .before .before .x2 .given .1) in
     stand .few-rules
 
@@ -51,7 +63,10 @@ slice-aggregate-check-2 c =
     let args = c .before .before .before .before .before .before .before .before .before .before .before .before .before .before .before .before .before .args in
     let read = c .before .before .before .before .before .before .before .before .before .read in
     let stand =
-    tables (args .file .now) (args .nodes .now) (args .rules .now) (c .before .before .before .before .before .before .before .before .before .before .before .before .before .before .before .before .before .pre .0) (c .before .before .before .before .before .before .before .before .before .before .before .before .before .before .before .before .before .pre .1) (read .ensures .0) (read .ensures .1 .0)
+    tables (args .file .now) (args .nodes .now) (args .rules .now)
+    (c .before .before .before .before .before .before .before .before .before .before .before .before .before .before .before .before .before .pre .0)
+    (c .before .before .before .before .before .before .before .before .before .before .before .before .before .before .before .before .before .pre .1)
+    (read .ensures .0) (read .ensures .1 .0)
     (read .ensures .1 .1) (c .before .before .before .x2 .given .1) in
     front-length _ _ (stand .few-rules)
 
@@ -59,50 +74,73 @@ returns : tie.Need-returns
 returns c =
     let start = c .before .before .before .before .before .before .before .before .before .before .before .before .before .before .before in
     let refuses =
-    read-refuses (start .args .file .now) _ _ (start .pre .0) (start .pre .1) (told file-numbers (c .before .x .given .1) (c .before .before .before .before .before .before .before .read .ensures .0)) in
+    read-refuses (start .args .file .now) _ _ (start .pre .0) (start .pre .1)
+    (told file-numbers (c .before .x .given .1) (c .before .before .before .before .before .before .before .read .ensures .0)) in
     record { said = refuses; written = unwritten _ _ _ refuses }
 
 returns-2 : tie.Need-returns-2
 returns-2 c =
-    let args = c .before .before .before .before .before .before .before .before .before .before .before .before .before .before .before .before .before .before .before .before .before .args in
+    let args = c .before .before .before .before .before .before .before .before .before .before .before .before .before .before .before .before .before .before
+    .before .before .before .args in
     let read = c .before .before .before .before .before .before .before .before .before .before .before .before .before .read in
     let stand =
-    tables (args .file .now) (args .nodes .now) (args .rules .now) (c .before .before .before .before .before .before .before .before .before .before .before .before .before .before .before .before .before .before .before .before .before .pre .0) (c .before .before .before .before .before .before .before .before .before .before .before .before .before .before .before .before .before .before .before .before .before .pre .1) (read .ensures .0) (read .ensures .1 .0)
+    tables (args .file .now) (args .nodes .now) (args .rules .now)
+    (c .before .before .before .before .before .before .before .before .before .before .before .before .before .before .before .before .before .before .before
+    .before .before .pre .0) (c .before .before .before .before .before .before .before .before .before .before .before .before .before .before .before .before
+    .before .before .before .before .before .pre .1) (read .ensures .0) (read .ensures .1 .0)
     (read .ensures .1 .1) (c .before .before .before .before .before .before .before .x2 .given .1) in
     let refuses = check-refuses stand _ _ (told verdict-numbers (c .before .number .given .1) (c .before .before .before .check .ensures .0)) in
     record { said = refuses; written = unwritten _ _ _ refuses }
 
 returns-3 : tie.Need-returns-3
 returns-3 c =
-    let args = c .before .before .before .before .before .before .before .before .before .before .before .before .before .before .before .before .before .before .before .before .before .args in
+    let args = c .before .before .before .before .before .before .before .before .before .before .before .before .before .before .before .before .before .before
+    .before .before .before .args in
     let read = c .before .before .before .before .before .before .before .before .before .before .before .before .before .read in
     let stand =
-    tables (args .file .now) (args .nodes .now) (args .rules .now) (c .before .before .before .before .before .before .before .before .before .before .before .before .before .before .before .before .before .before .before .before .before .pre .0) (c .before .before .before .before .before .before .before .before .before .before .before .before .before .before .before .before .before .before .before .before .before .pre .1) (read .ensures .0) (read .ensures .1 .0)
+    tables (args .file .now) (args .nodes .now) (args .rules .now)
+    (c .before .before .before .before .before .before .before .before .before .before .before .before .before .before .before .before .before .before .before
+    .before .before .pre .0) (c .before .before .before .before .before .before .before .before .before .before .before .before .before .before .before .before
+    .before .before .before .before .before .pre .1) (read .ensures .0) (read .ensures .1 .0)
     (read .ensures .1 .1) (c .before .before .before .before .before .before .before .x2 .given .1) in
     let names = check-names stand _ _ (told verdict-numbers (c .before .bad .given .1) (c .before .before .before .check .ensures .0)) in
     record { said = names; written = unwritten-at _ _ _ names }
 
 returns-4 : tie.Need-returns-4
 returns-4 c =
-    let args = c .before .before .before .before .before .before .before .before .before .before .before .before .before .before .before .before .before .before .before .before .before .before .before .before .before .before .before .args in
-    let read = c .before .before .before .before .before .before .before .before .before .before .before .before .before .before .before .before .before .before .before .read in
+    let args = c .before .before .before .before .before .before .before .before .before .before .before .before .before .before .before .before .before .before
+    .before .before .before .before .before .before .before .before .before .args in
+    let read = c .before .before .before .before .before .before .before .before .before .before .before .before .before .before .before .before .before .before
+    .before .read in
     let stand =
-    tables (args .file .now) (args .nodes .now) (args .rules .now) (c .before .before .before .before .before .before .before .before .before .before .before .before .before .before .before .before .before .before .before .before .before .before .before .before .before .before .before .pre .0) (c .before .before .before .before .before .before .before .before .before .before .before .before .before .before .before .before .before .before .before .before .before .before .before .before .before .before .before .pre .1) (read .ensures .0) (read .ensures .1 .0)
+    tables (args .file .now) (args .nodes .now) (args .rules .now)
+    (c .before .before .before .before .before .before .before .before .before .before .before .before .before .before .before .before .before .before .before
+    .before .before .before .before .before .before .before .before .pre .0)
+    (c .before .before .before .before .before .before .before .before .before .before .before .before .before .before .before .before .before .before .before
+    .before .before .before .before .before .before .before .before .pre .1) (read .ensures .0) (read .ensures .1 .0)
     (read .ensures .1 .1) (c .before .before .before .before .before .before .before .before .before .before .before .before .before .x2 .given .1) in
     let scan = c .before .before .before .before .before .scan in
-    let passed = told verdict-numbers (c .before .before .before .before .before .before .before .enum-told .given .1) (c .before .before .before .before .before .before .before .before .before .check .ensures .0) in
+    let passed = told verdict-numbers (c .before .before .before .before .before .before .before .enum-told .given .1)
+    (c .before .before .before .before .before .before .before .before .before .check .ensures .0) in
     let refuses = scan-refuses stand _ _ passed (told scan-numbers (c .before .number2 .given .1) (scan .ensures .0)) in
     record { said = refuses; written = lent scan-numbers (c .before .number2 .given .1) _ _ (scan .ensures .1) ∙ unwritten _ _ _ refuses }
 
 returns-5 : tie.Need-returns-5
 returns-5 c =
-    let args = c .before .before .before .before .before .before .before .before .before .before .before .before .before .before .before .before .before .before .before .before .before .before .before .before .before .before .before .args in
-    let read = c .before .before .before .before .before .before .before .before .before .before .before .before .before .before .before .before .before .before .before .read in
+    let args = c .before .before .before .before .before .before .before .before .before .before .before .before .before .before .before .before .before .before
+    .before .before .before .before .before .before .before .before .before .args in
+    let read = c .before .before .before .before .before .before .before .before .before .before .before .before .before .before .before .before .before .before
+    .before .read in
     let stand =
-    tables (args .file .now) (args .nodes .now) (args .rules .now) (c .before .before .before .before .before .before .before .before .before .before .before .before .before .before .before .before .before .before .before .before .before .before .before .before .before .before .before .pre .0) (c .before .before .before .before .before .before .before .before .before .before .before .before .before .before .before .before .before .before .before .before .before .before .before .before .before .before .before .pre .1) (read .ensures .0) (read .ensures .1 .0)
+    tables (args .file .now) (args .nodes .now) (args .rules .now)
+    (c .before .before .before .before .before .before .before .before .before .before .before .before .before .before .before .before .before .before .before
+    .before .before .before .before .before .before .before .before .pre .0)
+    (c .before .before .before .before .before .before .before .before .before .before .before .before .before .before .before .before .before .before .before
+    .before .before .before .before .before .before .before .before .pre .1) (read .ensures .0) (read .ensures .1 .0)
     (read .ensures .1 .1) (c .before .before .before .before .before .before .before .before .before .before .before .before .before .x2 .given .1) in
     let scan = c .before .before .before .before .before .scan in
-    let passed = told verdict-numbers (c .before .before .before .before .before .before .before .enum-told .given .1) (c .before .before .before .before .before .before .before .before .before .check .ensures .0) in
+    let passed = told verdict-numbers (c .before .before .before .before .before .before .before .enum-told .given .1)
+    (c .before .before .before .before .before .before .before .before .before .check .ensures .0) in
     let after = lent scan-numbers (c .before .count .given .1) _ _ (scan .ensures .1) in
     let all = all-stand stand _ _ passed (args .tokens .now) (told scan-numbers (c .before .count .given .1) (scan .ensures .0)) after in
     record { said = all; written = written _ _ _ (all .passes) after }

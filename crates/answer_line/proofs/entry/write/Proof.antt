@@ -14,7 +14,13 @@ returns c = entry-none _ _ _ _ _ (c .if1 .taken)
 put-unread-requires : tie.Need-put-unread-requires
 put-unread-requires c κs =
     let args = c .before .before .before .before .before .before .before .before .before .before .before .args in
-    omega (arith, c .before .before .before .before .before .before .if1 .left, ap length (c .before .before .before .before .rule-name .ensures), name-short (args .file .now) (args .capture .rule))
+    omega (
+      arith,
+      c .before .before .before .before .before .before .if1 .left,
+      ap length (c .before .before .before .before .rule-name .ensures),
+      name-short
+          (args .file .now) (args .capture .rule),
+    )
 
 add-end : tie.Need-add-end
 add-end c = omega (arith, inside _ _ _ _ (c .before .before .before .shown .ensures) (c .before .part .given .1))
@@ -36,9 +42,17 @@ add-put-read c =
 put-read-requires : tie.Need-put-read-requires
 put-read-requires c κs =
     let args = c .before .before .before .before .before .before .before .before .before .before .before .before .before .before .before .before .args in
-    let text = text-short _ _ _ _ (c .before .before .before .before .before .before .before .before .shown .ensures) (c .before .before .before .before .before .before .part .given .1) (c .before .before .before .first-line .ensures) in
+    let text = text-short _ _ _ _ (c .before .before .before .before .before .before .before .before .shown .ensures)
+    (c .before .before .before .before .before .before .part .given .1) (c .before .before .before .first-line .ensures) in
     let name = c .before .before .before .before .before .before .before .before .before .rule-name .ensures in
-    omega (arith, c .before .before .before .before .before .before .before .before .before .before .before .if1 .left, ap length name, name-short (args .file .now) (args .capture .rule), text)
+    omega (
+      arith,
+      c .before .before .before .before .before .before .before .before .before .before .before .if1 .left,
+      ap length name,
+      name-short (args .file .now)
+          (args .capture .rule),
+      text,
+    )
 
 returns-2 : tie.Need-returns-2
 returns-2 c = entry-refused _ _ _ _ _ (c .before .before .before .before .before .if1 .left) (refuses _ _ _ _ (c .before .before .shown .ensures) (c .enum-told .given .1))
@@ -47,14 +61,18 @@ returns-3 : tie.Need-returns-3
 returns-3 c =
     let bytes = from-file _ _ _ _ (c .before .before .before .before .before .before .shown .ensures) (c .before .before .before .before .enum-told2 .given .1) in
     let name = c .before .before .before .before .before .before .before .rule-name .ensures in
-    entry-whole _ _ _ _ _ (c .before .before .before .before .before .before .before .before .before .if1 .left) (rw (← name) at bytes) (c .before .before .put-unread .ensures)
+    entry-whole _ _ _ _ _ (c .before .before .before .before .before .before .before .before .before .if1 .left) (rw (← name) at bytes)
+    (c .before .before .put-unread .ensures)
 
 returns-4 : tie.Need-returns-4
 returns-4 c =
     let shown = c .before .before .before .before .before .before .before .before .before .before .before .shown .ensures in
     let name = c .before .before .before .before .before .before .before .before .before .before .before .before .rule-name .ensures in
-    let bytes = from-report _ _ _ _ shown (c .before .before .before .before .before .before .before .before .before .part .given .1) name (c .before .before .before .before .before .before .first-line .ensures) (c .before .before .before .before .before .line-at .ensures) (c .before .before .before .before .column-at .ensures) in
-    entry-whole _ _ _ _ _ (c .before .before .before .before .before .before .before .before .before .before .before .before .before .before .if1 .left) bytes (c .before .before .put-read .ensures)
+    let bytes = from-report _ _ _ _ shown (c .before .before .before .before .before .before .before .before .before .part .given .1) name
+    (c .before .before .before .before .before .before .first-line .ensures) (c .before .before .before .before .before .line-at .ensures)
+    (c .before .before .before .before .column-at .ensures) in
+    entry-whole _ _ _ _ _ (c .before .before .before .before .before .before .before .before .before .before .before .before .before .before .if1 .left) bytes
+    (c .before .before .put-read .ensures)
 
 pub write-spec : {M : Type 1} → statement M
 write-spec =
