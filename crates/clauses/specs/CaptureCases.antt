@@ -77,7 +77,8 @@ listedCases =
     ∷ lists (terminal a ∷ rule 0 ∷ repeat 1 ∷ []) (0 ∷ []) (a at 0 ∷ a at 0 ∷ b at 0 ∷ []) (from 2 equal) (nines 12)
     (counting 2 (reads 2 0 (At 0) false)) (capture 0 0 1 0 ++ capture 0 1 2 0 ++ zeros 4)
     -- Rule 0 is (a rule 0) / ε, on a a: what a first alternative captured is listed.
-    ∷ lists (terminal a ∷ rule 0 ∷ sequence 0 1 ∷ empty ∷ choice 2 3 ∷ []) (4 ∷ []) (a at 0 ∷ a at 0 ∷ []) (from 1 equal) (nines 12)
+    ∷ lists (terminal a ∷ rule 0 ∷ sequence 0 1 ∷ empty ∷ choice 2 3 ∷ []) (4 ∷ []) (a at 0 ∷ a at 0 ∷ []) (from 1 equal)
+    (nines 12)
     (counting 3 (reads 2 0 (At 0) false)) (capture 0 0 2 0 ++ capture 0 1 2 1 ++ capture 0 2 2 2)
     -- Under an align, an indent and a position, which are no captures.
     ∷ lists (terminal a ∷ rule 0 ∷ align 1 ∷ indent 2 greater ∷ position 3 atLeast ∷ []) (0 ∷ []) (a at 1 ∷ [])

@@ -1,6 +1,6 @@
 // Runs the grammar of the file `shape` over tokens that are all alike and prints what the run ends in, or how many captures
-// it lists, as deep calls need stack and no proof speaks of it. `cases/depth.py` writes the stored file and the line that is expected; `tools/stack.py`
-// writes others and finds how much stack each needs.
+// it lists, as deep calls need stack and no proof speaks of it. `cases/depth.py` writes the stored file and the line that is
+// expected; `tools/stack.py` writes others and finds how much stack each needs.
 //
 // The file is words of two bytes, high byte first: the count of node words, the count of rule words, the count of tokens,
 // the start node, the mode and whether the captures are listed (0 or 1); then the node words and the rule words. Every

@@ -1,5 +1,5 @@
-// The program `entries`: reads the grammar file `grammar.bin` and a report on standard input, and prints the entries of the run, a line
-// each behind two blanks for each entry around it, and then the line of the run.
+// The program `entries`: reads the grammar file `grammar.bin` and a report on standard input, and prints the entries of the
+// run, a line each behind two blanks for each entry around it, and then the line of the run.
 ghost use Rattle.io.specs.Counts.{Counts};
 
 // A file or report that fills its buffer of 65,536 bytes is over length.

@@ -119,8 +119,8 @@ pub record Gives (nodes rules words : List ℕ) (τ : ℕ) (f : Form) (s : State
   pub derived : trace.Gives ends nodes rules (tokensOf words) τ f (stateOf s) (outcomeOf o) t
 
 -- What the expression walk and the rule walk show: an outcome with its trace, whose captures are in the list.
-pub record Walked (nodes rules words : List ℕ) (τ : ℕ) (f : Form) (s : State) (counts list : List ℕ) (o : Outcome) (counts' list' : List ℕ) :
-    Type 0 where
+pub record Walked (nodes rules words : List ℕ) (τ : ℕ) (f : Form) (s : State) (counts list : List ℕ) (o : Outcome)
+    (counts' list' : List ℕ) : Type 0 where
   pub shown : Trace
   pub gives : Gives nodes rules words τ f s o shown
   pub left : Leaves shown counts list counts' list' o

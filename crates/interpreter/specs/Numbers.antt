@@ -40,7 +40,8 @@ listNumbers place (listed.Refused number) = refused number
 listNumbers place (listed.IllFormed node) = refusedAt 7 node
 
 -- An outcome has a derivation by the ten clauses over two ends, whose captures, so many, stand in the slice.
-pub record CapturesStand (nodes rules words : List ℕ) (start : Start) (o : Outcome Interval) (n : ℕ) (slice : List ℕ) : Type 0 where
+pub record CapturesStand (nodes rules words : List ℕ) (start : Start) (o : Outcome Interval) (n : ℕ)
+    (slice : List ℕ) : Type 0 where
   pub run : EndsRun nodes rules words start o
   pub counted : n ≡ length (endsCaptures nodes rules words start o run)
   pub stands : slice ≡ listWords (endsCaptures nodes rules words start o run) (length slice)
