@@ -1,9 +1,9 @@
--- The class of a byte (01, "The scanner").
+-- The class of a byte (01, "The scanner"; 02, Note 3).
 use Prim.Native.Nat.{ℕ}
 use mathlib.Core.Bool.{Bool, cond, _&&_, _||_}
 use lib.Dec.{leb, ltb, eqb}
 use Rattle.byte_class.specs.declared.Class.{Class}
-use Rattle.byte_class.specs.declared.Class.the-variants.{Break, Tab, Blank, Single, Digit, Run, Refused}
+use Rattle.byte_class.specs.declared.Class.the-variants.{Break, Tab, Blank, Single, Digit, Run, Continuation, Refused}
 
 -- The nine single bytes: `: , ( ) [ ] = ; %`
 unfoldable pub isSingle : ℕ → Bool
@@ -11,7 +11,7 @@ isSingle b = eqb b 58 || eqb b 44 || eqb b 40 || eqb b 41 || eqb b 91 || eqb b 9
 
 -- "Byte 10 ends a line", "Byte 9 moves to the next higher multiple of 8", "Bytes 13 and 32 are blanks", "Other bytes
 -- below 32, and 127, are refused", the nine bytes "are tokens by themselves", digits are `0` to `9`, and "other tokens
--- are longest runs of the remaining bytes".
+-- are longest runs of the remaining bytes". Of these, "a byte from 128 to 191" (Note 3) is a continuation byte.
 unfoldable pub classOf : ℕ → Class
 classOf b =
     cond (eqb b 10) Break
@@ -20,4 +20,5 @@ classOf b =
     (cond (ltb b 32 || eqb b 127) Refused
     (cond (isSingle b) Single
     (cond (leb 48 b && leb b 57) Digit
-    Run)))))
+    (cond (leb 128 b && leb b 191) Continuation
+    Run))))))

@@ -1,4 +1,4 @@
-// The class of a byte: the one place that decides break, tab, blank, single, digit, run byte or refusal.
+// The class of a byte: the one place that decides break, tab, blank, single, digit, run byte, continuation byte or refusal.
 ghost use mathlib.Core.Path.{_≡_};
 ghost use Rattle.byte_class.specs.Bytes.{classOf};
 
@@ -9,6 +9,7 @@ pub enum Class {
     Single,
     Digit,
     Run,
+    Continuation,
     Refused,
 }
 
@@ -22,6 +23,7 @@ pub fn class_of(b: u8) -> Class
         0..=31 | 127 => Class::Refused,
         b':' | b',' | b'(' | b')' | b'[' | b']' | b'=' | b';' | b'%' => Class::Single,
         b'0'..=b'9' => Class::Digit,
+        128..=191 => Class::Continuation,
         _ => Class::Run,
     }
 }

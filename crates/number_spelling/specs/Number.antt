@@ -5,7 +5,7 @@ use mathlib.Core.List.{List, [], _∷_}
 use lib.Dec.{eqb}
 use Rattle.byte_class.specs.Bytes.{classOf}
 use Rattle.byte_class.specs.declared.Class.{Class}
-use Rattle.byte_class.specs.declared.Class.the-variants.{Break, Tab, Blank, Single, Digit, Run, Refused}
+use Rattle.byte_class.specs.declared.Class.the-variants.{Break, Tab, Blank, Single, Digit, Run, Continuation, Refused}
 
 -- The class of digits.
 abbrev pub digitClass : Class → Bool
@@ -15,6 +15,7 @@ digitClass Blank = false
 digitClass Single = false
 digitClass Digit = true
 digitClass Run = false
+digitClass Continuation = false
 digitClass Refused = false
 
 -- Whether a byte is a digit.

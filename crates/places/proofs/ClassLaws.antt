@@ -12,11 +12,12 @@ use Rattle.places.specs.Columns.{columnBy, columnAfter}
 use Rattle.places.specs.Places.{runClass, inRun}
 use Rattle.places.specs.InternalFind.{passedBy, passedOver}
 
-pub run-others : (b : ℕ) {r : Class} → r ≡ classOf b → Others (0 ∷ 1 ∷ 2 ∷ 3 ∷ 6 ∷ []) r → false ≡ inRun b
+pub run-others : (b : ℕ) {r : Class} → r ≡ classOf b → Others (0 ∷ 1 ∷ 2 ∷ 3 ∷ 7 ∷ []) r → false ≡ inRun b
 unfolding inRun
 run-others b {r} e q =
-    each-class (λ k. Others (0 ∷ 1 ∷ 2 ∷ 3 ∷ 6 ∷ []) k → false ≡ runClass k) (λ _. refl) (λ _. refl) (λ _. refl) (λ _. refl)
-    (λ h. absurd (miss (0 ∷ 1 ∷ 2 ∷ 3 ∷ 6 ∷ []) 4 tt h)) (λ h. absurd (miss (0 ∷ 1 ∷ 2 ∷ 3 ∷ 6 ∷ []) 5 tt h)) (λ _. refl) r q
+    each-class (λ k. Others (0 ∷ 1 ∷ 2 ∷ 3 ∷ 7 ∷ []) k → false ≡ runClass k) (λ _. refl) (λ _. refl) (λ _. refl) (λ _. refl)
+    (λ h. absurd (miss (0 ∷ 1 ∷ 2 ∷ 3 ∷ 7 ∷ []) 4 tt h)) (λ h. absurd (miss (0 ∷ 1 ∷ 2 ∷ 3 ∷ 7 ∷ []) 5 tt h))
+    (λ h. absurd (miss (0 ∷ 1 ∷ 2 ∷ 3 ∷ 7 ∷ []) 6 tt h)) (λ _. refl) r q
     ∙ ap runClass e
 
 module _ (b : ℕ) {r k : Class} (e : r ≡ classOf b) (told : r ≡ k) where

@@ -13,7 +13,7 @@ use native.Mathlib.Nat.{le-of-eq}
 use native.Mathlib.Omega.{arith}
 use Rattle.byte_class.specs.Bytes.{classOf}
 use Rattle.byte_class.specs.declared.Class.{Class}
-use Rattle.byte_class.specs.declared.Class.the-variants.{Break, Tab, Blank, Single, Digit, Run, Refused}
+use Rattle.byte_class.specs.declared.Class.the-variants.{Break, Tab, Blank, Single, Digit, Run, Continuation, Refused}
 use Rattle.places.specs.Columns.{columnBy, columnAfter, columnOver}
 use Rattle.places.specs.Places.{runClass, inRun, runLength}
 use Rattle.places.specs.Moves.{Position, position, Move, move, moveBy, nextPlace, nextIn, nextWithin, moveOf}
@@ -53,6 +53,7 @@ column-by Blank c = omega arith
 column-by Single c = omega arith
 column-by Digit c = omega arith
 column-by Run c = omega arith
+column-by Continuation c = omega arith
 column-by Refused c = omega arith
 
 pub column-grows : (b c : ℕ) → columnAfter b c ≤ c + 8
@@ -73,6 +74,7 @@ module _ (o c next n after : ℕ) (rest : Move) where
   over-class Single m e = absurd (false≢true e)
   over-class Digit m e = absurd (false≢true e)
   over-class Run m e = absurd (false≢true e)
+  over-class Continuation m e = absurd (false≢true e)
   over-class Refused m e = refl
 
   run-class : (k : Class) (m : Bool) → runClass k ≡ true → moveBy k m o c next n after rest ≡ move false c o n (position (o + n) after true)
@@ -82,6 +84,7 @@ module _ (o c next n after : ℕ) (rest : Move) where
   run-class Single m e = absurd (false≢true e)
   run-class Digit m e = refl
   run-class Run m e = refl
+  run-class Continuation m e = refl
   run-class Refused m e = absurd (false≢true e)
 
   break-class : (k : Class) (m : Bool) → passedBy k false ≡ true → passedBy k m ≡ false → moveBy k m o c next n after rest ≡ move true c o 0 (position (o + 1) 0 false)
@@ -92,6 +95,7 @@ module _ (o c next n after : ℕ) (rest : Move) where
   break-class Single m e p = absurd (false≢true e)
   break-class Digit m e p = absurd (false≢true e)
   break-class Run m e p = absurd (false≢true e)
+  break-class Continuation m e p = absurd (false≢true e)
   break-class Refused m e p = absurd (true≢false p)
 
   single-class :
@@ -106,6 +110,7 @@ module _ (o c next n after : ℕ) (rest : Move) where
   single-class Single m e b p = refl
   single-class Digit m e b p = absurd (true≢false e)
   single-class Run m e b p = absurd (true≢false e)
+  single-class Continuation m e b p = absurd (true≢false e)
   single-class Refused m e b p = absurd (true≢false p)
 
 -- At the first of some bytes.

@@ -4,7 +4,7 @@ use mathlib.Core.List.{List, [], _∷_}
 use lib.ListN.{getD}
 use Rattle.byte_class.specs.Bytes.{classOf}
 use Rattle.byte_class.specs.declared.Class.{Class}
-use Rattle.byte_class.specs.declared.Class.the-variants.{Break, Tab, Blank, Single, Digit, Run, Refused}
+use Rattle.byte_class.specs.declared.Class.the-variants.{Break, Tab, Blank, Single, Digit, Run, Continuation, Refused}
 
 -- The column behind a byte of a class: "Byte 10 ..", 0; "Byte 9 ..", the next higher multiple of 8; "Each byte but 9 and
 -- 10", one more.
@@ -15,6 +15,7 @@ columnBy Blank c = c + 1
 columnBy Single c = c + 1
 columnBy Digit c = c + 1
 columnBy Run c = c + 1
+columnBy Continuation c = c
 columnBy Refused c = c + 1
 
 -- The column behind a byte.

@@ -6,7 +6,7 @@ use mathlib.Core.List.{List}
 use lib.ListN.{length, getD, take, drop}
 use Rattle.byte_class.specs.Bytes.{classOf}
 use Rattle.byte_class.specs.declared.Class.{Class}
-use Rattle.byte_class.specs.declared.Class.the-variants.{Break, Tab, Blank, Single, Digit, Run, Refused}
+use Rattle.byte_class.specs.declared.Class.the-variants.{Break, Tab, Blank, Single, Digit, Run, Continuation, Refused}
 use Rattle.places.specs.Columns.{columnOver}
 use Rattle.places.specs.Places.{runLength}
 use Rattle.places.specs.Moves.{position, nextIn}
@@ -21,6 +21,7 @@ passedBy Blank m = true
 passedBy Single m = false
 passedBy Digit m = false
 passedBy Run m = false
+passedBy Continuation m = false
 passedBy Refused m = true
 
 unfoldable pub passedOver : ℕ → Bool → Bool

@@ -4,7 +4,7 @@ use mathlib.Core.Bool.{Bool, true, false, cond}
 use mathlib.Core.List.{List, [], _∷_}
 use Rattle.byte_class.specs.Bytes.{classOf}
 use Rattle.byte_class.specs.declared.Class.{Class}
-use Rattle.byte_class.specs.declared.Class.the-variants.{Break, Tab, Blank, Single, Digit, Run, Refused}
+use Rattle.byte_class.specs.declared.Class.the-variants.{Break, Tab, Blank, Single, Digit, Run, Continuation, Refused}
 
 -- A token's place: its column, offset and length, and whether it is a line's end.
 pub record Place : Type 0 where
@@ -21,6 +21,7 @@ runClass Blank = false
 runClass Single = false
 runClass Digit = true
 runClass Run = true
+runClass Continuation = true
 runClass Refused = false
 
 -- Whether a byte belongs to a run.

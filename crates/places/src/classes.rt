@@ -20,6 +20,7 @@ pub(crate) fn column_after(b: u8, column: u32) -> u32
         Class::Single => column + 1,
         Class::Digit => column + 1,
         Class::Run => column + 1,
+        Class::Continuation => column,
         Class::Refused => column + 1,
     }
 }
@@ -32,6 +33,7 @@ pub(crate) fn in_run(b: u8) -> bool
     match class {
         Class::Digit => true,
         Class::Run => true,
+        Class::Continuation => true,
         _ => false,
     }
 }
@@ -48,6 +50,7 @@ pub(crate) fn passes(b: u8, mark: bool) -> bool
         Class::Single => false,
         Class::Digit => false,
         Class::Run => false,
+        Class::Continuation => false,
         Class::Refused => true,
     }
 }

@@ -10,10 +10,10 @@ use Rattle.byte_class.specs.declared.Class.{Class}
 use Rattle.byte_class.proofs.ClassLaws.{Others, each-class, by-class}
 use Rattle.report_checks.specs.Report.{refusedClass}
 
-pub refused-others : (b : ℕ) {r : Class} → r ≡ classOf b → Others (0 ∷ 1 ∷ 2 ∷ 3 ∷ 4 ∷ 5 ∷ []) r → false ≡ refusedClass (classOf b)
+pub refused-others : (b : ℕ) {r : Class} → r ≡ classOf b → Others (0 ∷ 1 ∷ 2 ∷ 3 ∷ 4 ∷ 5 ∷ 6 ∷ []) r → false ≡ refusedClass (classOf b)
 refused-others b {r} e q =
-    each-class (λ k. Others (0 ∷ 1 ∷ 2 ∷ 3 ∷ 4 ∷ 5 ∷ []) k → false ≡ refusedClass k) (λ _. refl) (λ _. refl) (λ _. refl)
-    (λ _. refl) (λ _. refl) (λ _. refl) (λ h. absurd (miss (0 ∷ 1 ∷ 2 ∷ 3 ∷ 4 ∷ 5 ∷ []) 6 tt h)) r q
+    each-class (λ k. Others (0 ∷ 1 ∷ 2 ∷ 3 ∷ 4 ∷ 5 ∷ 6 ∷ []) k → false ≡ refusedClass k) (λ _. refl) (λ _. refl) (λ _. refl)
+    (λ _. refl) (λ _. refl) (λ _. refl) (λ _. refl) (λ h. absurd (miss (0 ∷ 1 ∷ 2 ∷ 3 ∷ 4 ∷ 5 ∷ 6 ∷ []) 7 tt h)) r q
     ∙ ap refusedClass e
 
 module _ (b : ℕ) {r k : Class} (e : r ≡ classOf b) (told : r ≡ k) where

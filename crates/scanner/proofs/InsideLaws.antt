@@ -8,7 +8,7 @@ use lib.ListN.{length, drop, length-drop}
 use native.Mathlib.Omega.{arith}
 use Rattle.byte_class.specs.Bytes.{classOf}
 use Rattle.byte_class.specs.declared.Class.{Class}
-use Rattle.byte_class.specs.declared.Class.the-variants.{Break, Tab, Blank, Single, Digit, Run, Refused}
+use Rattle.byte_class.specs.declared.Class.the-variants.{Break, Tab, Blank, Single, Digit, Run, Continuation, Refused}
 use Rattle.places.specs.Columns.{columnAfter}
 use Rattle.places.specs.Places.{Place, inRun, runLength}
 use Rattle.places.specs.Moves.{Position, Move, moveBy, nextPlace, nextIn, moveOf}
@@ -41,6 +41,7 @@ inside-by Blank m o c next n after size rest h i r = r
 inside-by Single m o c next n after size rest h i r = omega arith
 inside-by Digit m o c next n after size rest h i r = omega arith
 inside-by Run m o c next n after size rest h i r = omega arith
+inside-by Continuation m o c next n after size rest h i r = omega arith
 inside-by Refused m o c next n after size rest h i r = r
 
 inside-same : (f : Option Place) (x y : ℕ) → x ≡ y → insideOf f x → insideOf f y

@@ -8,7 +8,7 @@ use native.Mathlib.Omega.{arith}
 use lib.ListN.{length, getD, drop, length-drop}
 use Rattle.byte_class.specs.Bytes.{classOf}
 use Rattle.byte_class.specs.declared.Class.{Class}
-use Rattle.byte_class.specs.declared.Class.the-variants.{Break, Tab, Blank, Single, Digit, Run, Refused}
+use Rattle.byte_class.specs.declared.Class.the-variants.{Break, Tab, Blank, Single, Digit, Run, Continuation, Refused}
 use Rattle.places.specs.Columns.{columnAt}
 use Rattle.places.specs.Places.{Place, runLength}
 use Rattle.token_words.specs.Places.{midRun, hadToken, lineEnd, placeBy, placeAt, placesAt, places}
@@ -43,7 +43,9 @@ module _ (c o n : ℕ) {bound : ℕ} {ps : List Place} (h : o < bound) (k : o + 
   at-byte Digit had true = behind
   at-byte Digit had false = begins-here false n k
   at-byte Run had true = behind
+  at-byte Continuation had true = behind
   at-byte Run had false = begins-here false n k
+  at-byte Continuation had false = begins-here false n k
   at-byte Refused had mid = behind
 
 at-end : (had : Bool) (c o i : ℕ) → i ≤ o → Rising o i (lineEnd had c o)

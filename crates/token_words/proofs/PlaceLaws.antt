@@ -11,7 +11,7 @@ use native.Mathlib.Numerals.{add-one}
 use native.Mathlib.Omega.{arith}
 use Rattle.byte_class.specs.Bytes.{classOf}
 use Rattle.byte_class.specs.declared.Class.{Class}
-use Rattle.byte_class.specs.declared.Class.the-variants.{Break, Tab, Blank, Single, Digit, Run, Refused}
+use Rattle.byte_class.specs.declared.Class.the-variants.{Break, Tab, Blank, Single, Digit, Run, Continuation, Refused}
 use Rattle.file_fields.proofs.FieldLaws.{from-one}
 use Rattle.places.specs.Columns.{columnBy, columnAfter, columnAt, columnOver}
 use Rattle.places.specs.Places.{Place, runClass, inRun, runLength}
@@ -65,6 +65,7 @@ mid-other Blank m c o n e = refl
 mid-other Single m c o n e = refl
 mid-other Digit m c o n e = absurd (true≢false e)
 mid-other Run m c o n e = absurd (true≢false e)
+mid-other Continuation m c o n e = absurd (true≢false e)
 mid-other Refused m c o n e = refl
 
 mid-run : (k : Class) (m : Bool) (c o n : ℕ) → runClass k ≡ true → (placeBy k m true c o n ≡ []) × (markBy k m ≡ true)
@@ -74,6 +75,7 @@ mid-run Blank m c o n e = absurd (false≢true e)
 mid-run Single m c o n e = absurd (false≢true e)
 mid-run Digit m c o n e = (refl, refl)
 mid-run Run m c o n e = (refl, refl)
+mid-run Continuation m c o n e = (refl, refl)
 mid-run Refused m c o n e = absurd (false≢true e)
 
 first-run : (k : Class) (m : Bool) (c o n : ℕ) → runClass k ≡ true → placeBy k m false c o n ≡ spelling c o n
@@ -83,6 +85,7 @@ first-run Blank m c o n e = absurd (false≢true e)
 first-run Single m c o n e = absurd (false≢true e)
 first-run Digit m c o n e = refl
 first-run Run m c o n e = refl
+first-run Continuation m c o n e = refl
 first-run Refused m c o n e = absurd (false≢true e)
 
 over-places : (k : Class) (m : Bool) (c o n : ℕ) → passedBy k m ≡ true → (placeBy k m false c o n ≡ []) × (markBy k m ≡ m) × (runClass k ≡ false)
@@ -93,6 +96,7 @@ over-places Blank m c o n e = (refl, refl, refl)
 over-places Single m c o n e = absurd (false≢true e)
 over-places Digit m c o n e = absurd (false≢true e)
 over-places Run m c o n e = absurd (false≢true e)
+over-places Continuation m c o n e = absurd (false≢true e)
 over-places Refused m c o n e = (refl, refl, refl)
 
 break-places : (k : Class) (m : Bool) (c o n : ℕ) → passedBy k false ≡ true → passedBy k m ≡ false
@@ -104,6 +108,7 @@ break-places Blank m c o n e p = absurd (true≢false p)
 break-places Single m c o n e p = absurd (false≢true e)
 break-places Digit m c o n e p = absurd (false≢true e)
 break-places Run m c o n e p = absurd (false≢true e)
+break-places Continuation m c o n e p = absurd (false≢true e)
 break-places Refused m c o n e p = absurd (true≢false p)
 
 single-places : (k : Class) (m : Bool) (c o n : ℕ) → runClass k ≡ false → passedBy k false ≡ false → passedBy k m ≡ false
@@ -114,6 +119,7 @@ single-places Blank m c o n e b p = absurd (true≢false p)
 single-places Single m c o n e b p = (refl, refl)
 single-places Digit m c o n e b p = absurd (true≢false e)
 single-places Run m c o n e b p = absurd (true≢false e)
+single-places Continuation m c o n e b p = absurd (true≢false e)
 single-places Refused m c o n e b p = absurd (true≢false p)
 
 -- The bytes behind the first of a run.

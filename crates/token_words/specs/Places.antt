@@ -6,7 +6,7 @@ use mathlib.Core.List.{List, [], _∷_, _++_}
 use lib.ListN.{length, getD, drop}
 use Rattle.byte_class.specs.Bytes.{classOf}
 use Rattle.byte_class.specs.declared.Class.{Class}
-use Rattle.byte_class.specs.declared.Class.the-variants.{Break, Tab, Blank, Single, Digit, Run, Refused}
+use Rattle.byte_class.specs.declared.Class.the-variants.{Break, Tab, Blank, Single, Digit, Run, Continuation, Refused}
 use Rattle.places.specs.Columns.{columnAt}
 use Rattle.places.specs.Places.{Place, inRun, runLength}
 
@@ -24,6 +24,7 @@ markBy Blank m = m
 markBy Single m = true
 markBy Digit m = true
 markBy Run m = true
+markBy Continuation m = true
 markBy Refused m = m
 
 -- The same behind a byte.
@@ -52,6 +53,7 @@ placeBy Blank had mid c o n = []
 placeBy Single had mid c o n = spelling c o 1
 placeBy Digit had mid c o n = cond mid [] (spelling c o n)
 placeBy Run had mid c o n = cond mid [] (spelling c o n)
+placeBy Continuation had mid c o n = cond mid [] (spelling c o n)
 placeBy Refused had mid c o n = []
 
 -- The token that begins at an offset, if one does.

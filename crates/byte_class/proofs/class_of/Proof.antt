@@ -8,7 +8,7 @@ use native.Mathlib.Nat.{eq-or-lt-of-le}
 use native.Mathlib.Omega.{arith}
 use borrow.Author.Tests.{lt-ltb, le-ltb, le-leb, lt-leb, ne-eqb}
 use lib.Dec.{leb}
-use Rattle.byte_class.specs.declared.Class.the-variants.{Single, Digit, Run}
+use Rattle.byte_class.specs.declared.Class.the-variants.{Single, Digit, Run, Continuation}
 use Rattle.byte_class.specs.Bytes.{isSingle, classOf}
 use Rattle.byte_class.proofs.class_of.Statement.{statement}
 use Rattle.byte_class.proofs.class_of.Tie as tie
@@ -49,10 +49,16 @@ not-single b a l =
       ne-eqb b 37 (λ e. l (inl e)),
     )
 
--- Such a byte, if it is not single, is a digit or a run byte.
-plain : (b : ℕ) (digit : Bool) → Apart b → (Lone b → ⊥) → (leb 48 b && leb b 57) ≡ digit → cond digit Digit Run ≡ classOf b
+-- Such a byte, if it is not single, is a digit, a continuation byte or a run byte.
+plain :
+    (b : ℕ) (digit continuation : Bool)
+    → Apart b
+    → (Lone b → ⊥)
+    → (leb 48 b && leb b 57) ≡ digit
+    → (leb 128 b && leb b 191) ≡ continuation
+    → cond digit Digit (cond continuation Continuation Run) ≡ classOf b
 unfolding classOf
-plain b digit a l e =
+plain b digit continuation a l e f =
     rw (
       ne-eqb b 10 (omega arith),
       ne-eqb b 9 (omega arith),
@@ -62,7 +68,21 @@ plain b digit a l e =
       ne-eqb b 127 (a .1),
       not-single b a l,
       e,
+      f,
     )
+
+-- Whether a byte lies from one number to another.
+below : (b k n : ℕ) → b < k → (leb k b && leb b n) ≡ false
+below b k n h = rw (lt-leb k b h)
+
+above : (b k n : ℕ) → k ≤ b → n < b → (leb k b && leb b n) ≡ false
+above b k n l h = rw (le-leb k b l, lt-leb b n h)
+
+between : (b k n : ℕ) → k ≤ b → b ≤ n → (leb k b && leb b n) ≡ true
+between b k n l h = rw (le-leb k b l, le-leb b n h)
+
+past : (b k : ℕ) → k ≤ b → (b ≡ k → ⊥) → k + 1 ≤ b
+past b k l n = omega arith
 
 returns : tie.Need-returns
 unfolding isSingle classOf
@@ -74,51 +94,73 @@ returns-2 c = rw (c .match .keys2)
 
 returns-3 : tie.Need-returns-3
 returns-3 c =
-    let match = c .before .before .before .before .before .match in
-    let start = c .before .before .before .before .before .before in
-    plain _ true (omega arith) (match .rest .1)
-    (rw (le-leb _ _ (c .before .if4 .left), le-leb (start .args .b) 57 (omega arith)))
+    let byte = c .before .before .before .before .before .before .args .b in
+    let rest = c .before .before .before .before .before .match .rest in
+    plain byte true false (omega arith) (rest .1)
+    (between byte 48 57 (omega arith) (omega arith)) (below byte 128 191 (omega arith))
 
 returns-4 : tie.Need-returns-4
-returns-4 c = plain _ false (omega arith) (c .before .before .match .rest .1) (rw (lt-leb 48 (c .before .before .before .args .b) (omega arith)))
+returns-4 c =
+    let byte = c .before .before .before .before .before .before .before .before .before .args .b in
+    let rest = c .before .before .before .before .before .before .before .before .match .rest in
+    plain byte false true (omega arith, rest .0 .1, omega arith, omega arith, omega arith, omega arith) (rest .1)
+    (above byte 48 57 (omega arith) (omega arith)) (between byte 128 191 (past byte 127 (c .before .if7 .left) (rest .0 .1)) (omega arith))
 
 returns-5 : tie.Need-returns-5
-returns-5 c = plain _ false (omega arith) (c .before .before .before .before .match .rest .1) (rw (lt-leb _ _ (c .if4 .taken)))
+returns-5 c =
+    let byte = c .before .before .before .args .b in
+    let rest = c .before .before .match .rest in
+    plain byte false false
+    (past byte 32 (c .before .if1 .left) (rest .0 .0 .1), omega arith, omega arith, omega arith, omega arith, omega arith) (rest .1)
+    (below byte 48 57 (omega arith)) (below byte 128 191 (omega arith))
 
 returns-6 : tie.Need-returns-6
 returns-6 c =
-    let byte = c .before .before .before .before .before .before .before .args .b in
-    let apart : Apart byte = omega arith in
-    let above : 57 < byte = omega arith in
-    let match = c .before .before .before .before .before .before .match in
-    plain _ false apart (match .rest .1) (rw (le-leb _ _ (c .before .before .if4 .left), lt-leb byte 57 above))
+    let byte = c .before .before .before .before .before .args .b in
+    let rest = c .before .before .before .before .match .rest in
+    plain byte false false (omega arith) (rest .1)
+    (below byte 48 57 (omega arith)) (below byte 128 191 (omega arith))
 
 returns-7 : tie.Need-returns-7
-returns-7 c = lone _ (c .match .keys6)
+returns-7 c =
+    let byte = c .before .before .before .before .before .before .before .before .args .b in
+    let rest = c .before .before .before .before .before .before .before .match .rest in
+    plain byte false false (omega arith) (rest .1)
+    (above byte 48 57 (omega arith) (omega arith)) (below byte 128 191 (omega arith))
 
 returns-8 : tie.Need-returns-8
-unfolding isSingle classOf
-returns-8 c = paired _ 40 refl refl (c .before .if2 .left) (c .if3 .taken)
+returns-8 c =
+    let byte = c .before .before .before .before .before .before .before .before .before .args .b in
+    let rest = c .before .before .before .before .before .before .before .before .match .rest in
+    plain byte false false (omega arith) (rest .1)
+    (above byte 48 57 (omega arith) (omega arith)) (above byte 128 191 (omega arith) (omega arith))
 
 returns-9 : tie.Need-returns-9
-unfolding isSingle classOf
-returns-9 c = paired _ 58 refl refl (c .before .if5 .left) (c .if6 .taken)
+returns-9 c = lone _ (c .match .keys6)
 
 returns-10 : tie.Need-returns-10
 unfolding isSingle classOf
-returns-10 c = rw (c .match .keys3)
+returns-10 c = paired _ 40 refl refl (c .before .if2 .left) (c .if3 .taken)
 
 returns-11 : tie.Need-returns-11
 unfolding isSingle classOf
-returns-11 c = rw (c .match .keys4)
+returns-11 c = paired _ 58 refl refl (c .before .if5 .left) (c .if6 .taken)
 
 returns-12 : tie.Need-returns-12
 unfolding isSingle classOf
-returns-12 c = rw (c .match .keys5)
+returns-12 c = rw (c .match .keys3)
 
 returns-13 : tie.Need-returns-13
+unfolding isSingle classOf
+returns-13 c = rw (c .match .keys4)
+
+returns-14 : tie.Need-returns-14
+unfolding isSingle classOf
+returns-14 c = rw (c .match .keys5)
+
+returns-15 : tie.Need-returns-15
 unfolding classOf
-returns-13 c = let r = c .before .match .rest in
+returns-15 c = let r = c .before .match .rest in
     rw (
       ne-eqb _ 10 (r .0 .0 .0 .0 .0 .1),
       ne-eqb _ 9 (r .0 .0 .0 .0 .1),
@@ -131,4 +173,4 @@ pub class-of-spec : {M : Type 1} → statement M
 class-of-spec =
     tie.close
     (tie.spec returns returns-2 returns-3 returns-4 returns-5 returns-6 returns-7 returns-8 returns-9 returns-10
-    returns-11 returns-12 returns-13)
+    returns-11 returns-12 returns-13 returns-14 returns-15)

@@ -1,4 +1,4 @@
--- `spellings::is_single` meets its contract. The match asks for the position of a class among the seven.
+-- `spellings::is_single` meets its contract. The match asks for the position of a class among the eight.
 use Prim.Native.Nat.{ℕ}
 use mathlib.Core.Path.{_≡_, refl, sym, ap, _∙_}
 use mathlib.Core.Bool.{Bool, true, false, cond, _&&_, _||_}
@@ -9,7 +9,7 @@ use borrow.Author.Tests.{eqb-true, eq-eqb, ne-eqb}
 use denote.Enum.Declared.{tagOf}
 use lib.Dec.{leb, ltb, eqb}
 use Rattle.byte_class.specs.declared.Class.{Class}
-use Rattle.byte_class.specs.declared.Class.the-variants.{Break, Tab, Blank, Single, Digit, Run, Refused}
+use Rattle.byte_class.specs.declared.Class.the-variants.{Break, Tab, Blank, Single, Digit, Run, Continuation, Refused}
 use Rattle.byte_class.specs.Bytes.{isSingle, classOf}
 use Rattle.byte_class.proofs.Class.{the-type}
 use Rattle.spellings.proofs.is_single.Statement.{statement}
@@ -37,18 +37,21 @@ nine b =
     (either IsOne b 44 _ refl
     (λ e. rw (eqb-true b 58 e)))))))))
 
--- The position of a class among the seven; that of the single bytes is 3.
+-- The position of a class among the eight; that of the single bytes is 3.
 abbrev position : Class → ℕ
 position k = tagOf the-type k
 
 -- No other class is at the position of the single bytes.
-no-other : (p q r s t : Bool) → eqb (position (cond p Break (cond q Tab (cond r Blank (cond s Refused (cond t Digit Run)))))) 3 ≡ false
-no-other true q r s t = refl
-no-other false true r s t = refl
-no-other false false true s t = refl
-no-other false false false true t = refl
-no-other false false false false true = refl
-no-other false false false false false = refl
+no-other :
+    (p q r s t u : Bool)
+    → eqb (position (cond p Break (cond q Tab (cond r Blank (cond s Refused (cond t Digit (cond u Continuation Run))))))) 3 ≡ false
+no-other true q r s t u = refl
+no-other false true r s t u = refl
+no-other false false true s t u = refl
+no-other false false false true t u = refl
+no-other false false false false true u = refl
+no-other false false false false false true = refl
+no-other false false false false false false = refl
 
 -- The single bytes are those whose class is there.
 by-position : (b : ℕ) → isSingle b ≡ eqb (position (classOf b)) 3
@@ -57,16 +60,20 @@ by-position b = by-test (isSingle b) refl
   where
     by-test : (t : Bool) → isSingle b ≡ t → isSingle b ≡ eqb (position (classOf b)) 3
     by-test true e = e ∙ sym (ap (λ (k : Class). eqb (position k) 3) (nine b e))
-    by-test false e = rw e (sym (no-other (eqb b 10) (eqb b 9) (eqb b 13 || eqb b 32) (ltb b 32 || eqb b 127) (leb 48 b && leb b 57)))
+    by-test false e =
+        rw e
+        (sym
+        (no-other (eqb b 10) (eqb b 9) (eqb b 13 || eqb b 32) (ltb b 32 || eqb b 127) (leb 48 b && leb b 57) (leb 128 b && leb b 191)))
 
 -- None of the other positions is that of the single bytes.
-apart : (n : ℕ) → (n ≡ 0) ⊎ ((n ≡ 1) ⊎ ((n ≡ 2) ⊎ ((n ≡ 4) ⊎ ((n ≡ 5) ⊎ (n ≡ 6))))) → n ≡ 3 → ⊥
+apart : (n : ℕ) → (n ≡ 0) ⊎ ((n ≡ 1) ⊎ ((n ≡ 2) ⊎ ((n ≡ 4) ⊎ ((n ≡ 5) ⊎ ((n ≡ 6) ⊎ (n ≡ 7)))))) → n ≡ 3 → ⊥
 apart n (inl e) = omega arith
 apart n (inr (inl e)) = omega arith
 apart n (inr (inr (inl e))) = omega arith
 apart n (inr (inr (inr (inl e)))) = omega arith
 apart n (inr (inr (inr (inr (inl e))))) = omega arith
-apart n (inr (inr (inr (inr (inr e))))) = omega arith
+apart n (inr (inr (inr (inr (inr (inl e)))))) = omega arith
+apart n (inr (inr (inr (inr (inr (inr e)))))) = omega arith
 
 class-of-requires : tie.Need-class-of-requires
 class-of-requires c κs = search needs

@@ -11,4 +11,4 @@ column-after-spec =
     (λ c. search classes) (λ c. search classes) (λ c. search classes) (λ c. search classes)
     (λ c. search classes) (λ c. search classes) (λ c. search classes) (λ c. search classes)
     (λ c. search classes) (λ c. search classes) (λ c. search classes) (λ c. search classes)
-    (λ c. search classes) (λ c. search classes))
+    (λ c. search classes) (λ c. search classes) (λ c. search classes) (λ c. search classes))

@@ -9,4 +9,4 @@ passes-spec =
     (tie.spec (λ c κs. tt) (λ c. search classes) (λ c. search classes) (λ c. search classes)
     (λ c. search classes) (λ c. search classes) (λ c. search classes) (λ c. search classes)
     (λ c. search classes) (λ c. search classes) (λ c. search classes) (λ c. search classes)
-    (λ c. search classes) (λ c. search classes) (λ c. search classes))
+    (λ c. search classes) (λ c. search classes) (λ c. search classes) (λ c. search classes) (λ c. search classes))

@@ -1,0 +1,198 @@
+-- Where no byte is over 127 a report scans as it did before Note 3 of 02: its columns, places, tokens, steps and answer are
+-- those of the rule of 01, which is stated first.
+use Prim.Native.Nat.{ℕ, zero, suc, _+_, _*_, _/_, _≤_, _<_}
+use mathlib.Core.Path.{_≡_, refl, sym, ap, ap₂, _∙_}
+use mathlib.Core.Bool.{Bool, true, false, cond, _&&_, _||_}
+use mathlib.Core.List.{List, [], _∷_, _++_, map}
+use mathlib.Core.Option.{none}
+use lib.Dec.{leb, ltb, eqb}
+use lib.ListN.{length, getD, take, drop, length-drop}
+use native.Mathlib.Omega.{arith}
+use borrow.Author.Tests.{leb-true, le-leb, lt-leb, le-ltb, ne-eqb}
+use Rattle.table.specs.Limits.{mostTokens}
+use Rattle.table.specs.Answer.{Answer, given, refuseIf, andThen}
+use Rattle.table.proofs.Every.{and-left}
+use Rattle.byte_class.specs.Bytes.{isSingle, classOf}
+use Rattle.byte_class.specs.declared.Class.{Class}
+use Rattle.byte_class.specs.declared.Class.the-variants.{Break, Tab, Blank, Single, Digit, Run, Continuation, Refused}
+use Rattle.grammar_file.specs.File.{keywords, fieldsOf, fileAnswer}
+use Rattle.report_checks.specs.Report.{fails8}
+use Rattle.places.specs.Columns.{columnBy, columnAfter, columnAt, columnOver}
+use Rattle.places.specs.Places.{Place, runLength}
+use Rattle.places.specs.Moves.{Position, position, Move, move, moveBy, nextPlace, nextIn}
+use Rattle.scanner.specs.Tokens.{Token, tokenOf}
+use Rattle.token_words.specs.Places.{midRun, hadToken, lineEnd, placeBy, placeAt, placesAt, places}
+use Rattle.token_words.specs.Scan.{tokens, overColumn, fails9, fails10, scanAnswer}
+
+-- The old rule: "Byte 10 ends a line and sets the column to 0. Byte 9 moves to the next higher multiple of 8. .. Each byte but
+-- 9 and 10 advances the column by one."
+unfoldable pub oldColumnAfter : ℕ → ℕ → ℕ
+oldColumnAfter byte c = cond (eqb byte 10) 0 (cond (eqb byte 9) ((c / 8 + 1) * 8) (c + 1))
+
+-- The column at an offset, and behind some bytes from a column on.
+unfoldable pub oldColumnAt : List ℕ → ℕ → ℕ
+oldColumnAt text zero = 0
+oldColumnAt text (suc i) = oldColumnAfter (getD text i 0) (oldColumnAt text i)
+
+unfoldable pub oldColumnOver : List ℕ → ℕ → ℕ
+oldColumnOver [] c = c
+oldColumnOver (b ∷ bytes) c = oldColumnOver bytes (oldColumnAfter b c)
+
+-- The places of a text, at these columns.
+unfoldable pub oldPlaceAt : List ℕ → ℕ → List Place
+oldPlaceAt text i = placeBy (classOf (getD text i 0)) (hadToken text i) (midRun text i) (oldColumnAt text i) i (runLength (drop i text))
+
+unfoldable pub oldPlacesAt : List ℕ → ℕ → ℕ → List Place
+oldPlacesAt text i zero = []
+oldPlacesAt text i (suc n) = oldPlaceAt text i ++ oldPlacesAt text (suc i) n
+
+unfoldable pub oldPlaces : List ℕ → List Place
+oldPlaces text =
+    oldPlacesAt text 0 (length text) ++ lineEnd (hadToken text (length text)) (oldColumnAt text (length text)) (length text)
+
+-- The tokens there, and what a scan answers.
+unfoldable pub oldTokens : List (List ℕ) → List ℕ → List Token
+oldTokens keywords text = map (tokenOf keywords text) (oldPlaces text)
+
+unfoldable pub oldScanAnswer : List ℕ → List ℕ → ℕ → Answer ℕ
+oldScanAnswer file text lent =
+    andThen (fileAnswer file)
+    (refuseIf (fails8 text) 8
+    (refuseIf (overColumn (oldPlaces text)) 9
+    (refuseIf (ltb mostTokens (length (oldPlaces text)) || ltb lent (length (oldPlaces text) * 4)) 10
+    (given (length (oldPlaces text))))))
+
+-- The next place in the bytes from an offset on, and from a position in a text.
+unfoldable pub oldNextPlace : List ℕ → ℕ → ℕ → Bool → Move
+oldNextPlace [] o c true = move true c o 0 (position o c false)
+oldNextPlace [] o c false = record { found = none; reached = position o c false }
+oldNextPlace (b ∷ bytes) o c m =
+    moveBy (classOf b) m o c (oldColumnAfter b c) (runLength (b ∷ bytes))
+    (oldColumnOver (take (runLength (b ∷ bytes)) (b ∷ bytes)) c) (oldNextPlace bytes (o + 1) (oldColumnAfter b c) m)
+
+abbrev pub oldNextIn : List ℕ → Position → Move
+oldNextIn text p = oldNextPlace (drop (p .offset) text) (p .offset) (p .column) (p .mark)
+
+-- Note 3: "A byte from 128 to 191 no longer advances the column". Every other byte does what it did.
+abbrev pub continues : ℕ → Bool
+continues byte = leb 128 byte && leb byte 191
+
+module _ (c : ℕ) where
+  -- The classes in the order of their tests; no other test holds of a continuation byte.
+  others :
+      (p q r s t d : Bool)
+      → columnBy (cond p Break (cond q Tab (cond r Blank (cond s Refused (cond t Single (cond d Digit Run)))))) c
+      ≡ cond p 0 (cond q ((c / 8 + 1) * 8) (c + 1))
+  others true q r s t d = refl
+  others false true r s t d = refl
+  others false false true s t d = refl
+  others false false false true t d = refl
+  others false false false false true d = refl
+  others false false false false false true = refl
+  others false false false false false false = refl
+
+-- The class of a byte from 128 to 191.
+pub continuation-class : (b : ℕ) → continues b ≡ true → classOf b ≡ Continuation
+unfolding classOf isSingle
+continuation-class b k =
+    let low : 128 ≤ b = leb-true 128 b (and-left (leb 128 b) (leb b 191) k) in
+    rw (
+      ne-eqb b 10 (omega arith),
+      ne-eqb b 9 (omega arith),
+      ne-eqb b 13 (omega arith),
+      ne-eqb b 32 (omega arith),
+      le-ltb b 32 (omega arith),
+      ne-eqb b 127 (omega arith),
+      ne-eqb b 58 (omega arith),
+      ne-eqb b 44 (omega arith),
+      ne-eqb b 40 (omega arith),
+      ne-eqb b 41 (omega arith),
+      ne-eqb b 91 (omega arith),
+      ne-eqb b 93 (omega arith),
+      ne-eqb b 61 (omega arith),
+      ne-eqb b 59 (omega arith),
+      ne-eqb b 37 (omega arith),
+      le-leb 48 b (omega arith),
+      lt-leb b 57 (omega arith),
+      k,
+    )
+
+pub column-rule : (b c : ℕ) → columnAfter b c ≡ cond (continues b) c (oldColumnAfter b c)
+unfolding columnAfter classOf oldColumnAfter
+column-rule b c = by-test (continues b) refl
+  where
+    by-test : (k : Bool) → continues b ≡ k → columnBy (classOf b) c ≡ cond k c (oldColumnAfter b c)
+    by-test true e = ap (λ (k : Class). columnBy k c) (continuation-class b e)
+    by-test false e =
+        rw e (others c (eqb b 10) (eqb b 9) (eqb b 13 || eqb b 32) (ltb b 32 || eqb b 127) (isSingle b) (leb 48 b && leb b 57))
+
+-- A byte up to 127.
+pub ascii-column : (b c : ℕ) → b ≤ 127 → columnAfter b c ≡ oldColumnAfter b c
+ascii-column b c h = column-rule b c ∙ rw (lt-leb 128 b (omega arith)) refl
+
+-- A text none of whose bytes is over 127.
+abbrev pub Ascii : List ℕ → Type 0
+Ascii text = (i : ℕ) → i < length text → getD text i 0 ≤ 127
+
+-- The columns of such a text.
+module _ (text : List ℕ) (a : Ascii text) where
+  pub ascii-columns : (i : ℕ) → i ≤ length text → columnAt text i ≡ oldColumnAt text i
+  unfolding columnAt oldColumnAt
+  ascii-columns zero h = refl
+  ascii-columns (suc i) h =
+      ap (columnAfter (getD text i 0)) (ascii-columns i (omega arith)) ∙ ascii-column (getD text i 0) (oldColumnAt text i) (a i h)
+
+  place-same : (i : ℕ) → i ≤ length text → placeAt text i ≡ oldPlaceAt text i
+  unfolding placeAt oldPlaceAt
+  place-same i h =
+      ap (λ (c : ℕ). placeBy (classOf (getD text i 0)) (hadToken text i) (midRun text i) c i (runLength (drop i text))) (ascii-columns i h)
+
+  places-same : (n i : ℕ) → i + n ≡ length text → placesAt text i n ≡ oldPlacesAt text i n
+  unfolding placesAt oldPlacesAt
+  places-same zero i e = refl
+  places-same (suc n) i e = ap₂ _++_ (place-same i (omega arith)) (places-same n (suc i) (omega arith))
+
+  -- Its places and tokens.
+  pub ascii-places : places text ≡ oldPlaces text
+  unfolding places oldPlaces
+  ascii-places =
+      ap₂ _++_ (places-same (length text) 0 (omega arith))
+      (ap (λ (c : ℕ). lineEnd (hadToken text (length text)) c (length text)) (ascii-columns (length text) (omega arith)))
+
+  pub ascii-tokens : (keywords : List (List ℕ)) → tokens keywords text ≡ oldTokens keywords text
+  unfolding tokens oldTokens
+  ascii-tokens keywords = ap (map (tokenOf keywords text)) ascii-places
+
+  -- What a scan of it answers.
+  pub ascii-scans : (file : List ℕ) (lent : ℕ) → scanAnswer file text lent ≡ oldScanAnswer file text lent
+  unfolding scanAnswer oldScanAnswer fails9 fails10
+  ascii-scans file lent = rw ascii-places refl
+
+-- The same for its steps.
+tail-ascii : (b : ℕ) (bytes : List ℕ) → Ascii (b ∷ bytes) → Ascii bytes
+tail-ascii b bytes a i h = a (suc i) (omega arith)
+
+over-same : (n : ℕ) (bytes : List ℕ) → Ascii bytes → (c : ℕ) → columnOver (take n bytes) c ≡ oldColumnOver (take n bytes) c
+unfolding columnOver oldColumnOver
+over-same zero bytes a c = refl
+over-same (suc n) [] a c = refl
+over-same (suc n) (b ∷ bytes) a c =
+    ap (columnOver (take n bytes)) (ascii-column b c (a 0 (omega arith))) ∙ over-same n bytes (tail-ascii b bytes a) (oldColumnAfter b c)
+
+next-same : (bytes : List ℕ) → Ascii bytes → (o c : ℕ) (m : Bool) → nextPlace bytes o c m ≡ oldNextPlace bytes o c m
+unfolding nextPlace oldNextPlace
+next-same [] a o c true = refl
+next-same [] a o c false = refl
+next-same (b ∷ bytes) a o c m =
+    rw (ascii-column b c (a 0 (omega arith)), over-same (runLength (b ∷ bytes)) (b ∷ bytes) a c)
+    (ap
+    (moveBy (classOf b) m o c (oldColumnAfter b c) (runLength (b ∷ bytes)) (oldColumnOver (take (runLength (b ∷ bytes)) (b ∷ bytes)) c))
+    (next-same bytes (tail-ascii b bytes a) (o + 1) (oldColumnAfter b c) m))
+
+drop-ascii : (o : ℕ) (text : List ℕ) → Ascii text → Ascii (drop o text)
+drop-ascii zero text a = a
+drop-ascii (suc o) [] a = a
+drop-ascii (suc o) (b ∷ bytes) a = drop-ascii o bytes (tail-ascii b bytes a)
+
+pub ascii-steps : (text : List ℕ) → Ascii text → (p : Position) → nextIn text p ≡ oldNextIn text p
+ascii-steps text a p = next-same (drop (p .offset) text) (drop-ascii (p .offset) text a) (p .offset) (p .column) (p .mark)
