@@ -1,1 +1,3 @@
 pub mod AsciiScans
+pub mod NeverFarther
+pub mod Letters
