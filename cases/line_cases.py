@@ -585,11 +585,12 @@ case("nine single bytes as keywords",
      grammar([*(terminal(3 + i) for i in range(9)), sequence(7, 8), *(sequence(6 - i, 9 + i) for i in range(7))], ANY,
              [bytes([b]) for b in NINE]), NINE, success(9, 0, "inf"))
 case("single bytes inside words", grammar("word*", ANY, ()), b"a:b,c(d)e[f]g=h;i%j", success(19, 0, "inf"))
-# "other tokens are longest runs of the remaining bytes": 94 from 33 to 126 less nine, and 128 from 128 on.
+# "other tokens are longest runs of the remaining bytes": 94 from 33 to 126 less nine, and 128 from 128 on. Note 3 of 02: "A
+# byte from 128 to 191 no longer advances the column", so 64 of these 213 do not.
 RUN = bytes(b for b in range(33, 256) if b != 127 and b not in NINE)
 # The line's end "at the column and offset of the break or the end", in mode equal.
 END_COLUMN = [WORD, EOL, position(0, ANY), sequence(2, 1)]
-case("one run of all other bytes", grammar(END_COLUMN, EQUAL, ()), RUN, success(2, 213, 213))
+case("one run of all other bytes", grammar(END_COLUMN, EQUAL, ()), RUN, success(2, 149, 149))
 case("keyword at the front of a run", grammar("a", ANY, LOSS), b"lossy", FAILURE)
 case("keyword at the end of a run", grammar("a", ANY, LOSS), b"-loss", FAILURE)
 case("keyword before a full stop", grammar("a", ANY, LOSS), b"loss.", FAILURE)
@@ -598,7 +599,8 @@ case("part of a keyword", grammar("a", ANY, LOSS), b"los", FAILURE)
 for name, text, column in (
     ("no break", b"abc", 3), ("a break", b"abc\n", 3), ("a blank", b"abc \n", 4), ("a return", b"abc\r\n", 4),
     ("a tab", b"abc\t", 8), ("a tab and a break", b"abc\t\n", 8), ("blanks in front", b"\n\n  abc", 5),
-    ("two more lines", b"abc  \ndefghi\n", 5), ("bytes over 127", b"\xc3\xa9\x80\xff", 4),
+    ("two more lines", b"abc  \ndefghi\n", 5), ("bytes over 127", b"\xc3\xa9\x80\xff", 2),
+    ("bytes 128", b"  \x80\x80", 2), ("letters b5", b"\xc2\xb5\xc2\xb5m", 3), ("a letter of four bytes", b"\xf0\x9f\x98\x80", 1),
 ):
     case(f"line end column with {name}", grammar(END_COLUMN, EQUAL, ()), text, success(2, column, column))
 # "Byte 9 moves to the next higher multiple of 8"; "Each byte but 9 and 10 advances the column by one."
@@ -622,6 +624,19 @@ case("column below lines without a token", grammar("(position any (word eol)) wo
      b"abc\n\n \t\n    d", success(3, 4, 4))
 
 
+# Note 3: "a `\u00b5` ahead of an entry pushes it one column too far" no longer. Behind it and two blanks, and below it behind
+# three, `loss` stands at column 3; what comes before it on its line is a word in mode any.
+ENTRIES = "(position any word) a (position any eol) a"
+for name, ahead in (("u", b"u"), ("letter b5", b"\xc2\xb5"), ("letter 2013", b"\xe2\x80\x93"), ("letter 1f600", b"\xf0\x9f\x98\x80"),
+                    ("byte 255", b"\xff"), ("byte 192", b"\xc0")):
+    case(f"entries behind {name}", grammar(ENTRIES, EQUAL, LOSS), ahead + b"  loss\n   loss", success(4, 3, 3))
+    case(f"entries behind {name}, a blank more", grammar(ENTRIES, EQUAL, LOSS), ahead + b"  loss\n    loss", FAILURE)
+    case(f"entries behind {name}, a blank less", grammar(ENTRIES, EQUAL, LOSS), ahead + b"  loss\n  loss", FAILURE)
+case("entries behind byte 181 alone", grammar(ENTRIES, EQUAL, LOSS), b"\xb5  loss\n  loss", success(4, 2, 2))
+case("a degree sign in a keyword", grammar("a", EQUAL, (b"\xc2\xb0C",)), b"\xc2\xb0C 20\xc2\xb0", success(1, 0, 0))
+case("a number with a degree sign is a word", grammar("word", EQUAL), b" 20\xc2\xb0", success(1, 1, 1))
+
+
 # --- Numbers of several digits in the line ------------------------------------------------------------------
 
 # n single bytes and the line's end.
@@ -637,13 +652,15 @@ for column in (9, 10, 11, 99, 100, 101, 1000, 1001, 9999, 10000, 10001):
 
 # --- The largest columns ------------------------------------------------------------------------------------
 
-# A token takes at least one byte and its line ends behind it: the highest column of a token that
-# isn't a line's end is 65,534. 8,191 tabs and 6 blanks, then `w` there; the line ends at 65,535,
-# which is not "over 65,535".
+# A token with a byte outside 128 to 191 takes a column and its line ends behind it: the highest column of such a token is
+# 65,534. 8,191 tabs and 6 blanks, then `w` there; the line ends at 65,535, which is not "over 65,535".
 HIGH = b"\t" * 8191 + b" " * 6 + b"w"
 for name, mode, ends in (("equal", EQUAL, (65534, 65534)), ("greater", GREATER, (0, 65533)),
                          ("at-least", AT_LEAST, (0, 65534)), ("any", ANY, (0, "inf"))):
     case(f"column 65,534 mode {name}", grammar("word", mode), HIGH, success(1, *ends))
+# A token of bytes 128 to 191 may stand at 65,535, as its line ends there too.
+case("byte 128 at column 65,535", grammar("word eol", EQUAL), b"\t" * 8191 + b" " * 7 + b"\x80", success(2, 65535, 65535))
+case("letter b5 at column 65,535", grammar("word", EQUAL), b"\t" * 8191 + b" " * 7 + b"\xc2\xb5", refused(9))
 # The line's end at 65,535, behind a word in mode any. The largest ends that a line can show: lower 65,535
 # (equal), upper 65,534 (greater, h-1) and 65,535 (at least, equal). A lower end over 65,535 is never shown:
 # outside of all indents only equal and align raise it, to a column.

@@ -3,7 +3,7 @@
 
 Nothing here scans a report. Each call has its tokens written beside the bytes that are put together
 for it; a family of calls has the rule that gives its tokens, in its loop or function. A comment quotes
-the words of document 01 that decide it.
+the words of document 01, or of Note 3 of 02, that decide it.
 """
 
 import itertools
@@ -132,8 +132,14 @@ LOSS = with_keywords(b"loss")
 REFUSED = [byte for byte in range(32) if byte not in (9, 10, 13)] + [127]
 RUN = [byte for byte in range(33, 256) if byte != 127 and byte not in NINE]
 DIGITS = b"0123456789"
+CONTINUATION = range(128, 192)
 
 A = [(1, 0, 0, 1), (2, 1, 1, 0)]  # The tokens of `a`.
+
+
+def width(text):
+    """The columns of a text without tabs and breaks: "A byte from 128 to 191 no longer advances the column". """
+    return sum(byte not in CONTINUATION for byte in text)
 
 
 def laid(between, pairs):
@@ -143,15 +149,15 @@ def laid(between, pairs):
     tokens = []
     for terminal, spelling in pairs:
         text += between if text else b""
-        tokens.append((terminal, len(text), len(text), len(spelling)))
+        tokens.append((terminal, width(text), len(text), len(spelling)))
         text += spelling
-    return text, tokens + [(2, len(text), len(text), 0)]
+    return text, tokens + [(2, width(text), len(text), 0)]
 
 
 def reads_apart(label, file, *pairs, between=b" "):
     """`reads` of such a line, with blanks unless said."""
     text, tokens = laid(between, pairs)
-    reads(label, file, text, tokens, len(text))
+    reads(label, file, text, tokens, width(text))
 
 
 def reads_together(label, file, *pairs):
@@ -235,8 +241,13 @@ for byte in range(256):
         three = [(1, 0, 0, 1), (1, 1, 1, 1), (1, 2, 2, 1), (2, 3, 3, 0)]
         reads(between, PLAIN, b"a" + text + b"c", three, 3)
         reads(behind, LOSS, b"loss" + text, [(3, 0, 0, 4), (1, 4, 4, 1), (2, 5, 5, 0)], 5)
+    elif byte in CONTINUATION:
+        # "A byte from 128 to 191 no longer advances the column; offsets still count bytes."
+        reads(alone, PLAIN, text, [(1, 0, 0, 1), (2, 0, 1, 0)], 0)
+        reads(between, PLAIN, b"a" + text + b"c", [(1, 0, 0, 3), (2, 2, 3, 0)], 2)
+        reads(behind, LOSS, b"loss" + text, [(1, 0, 0, 5), (2, 4, 5, 0)], 4)
     else:
-        # "other tokens are longest runs of the remaining bytes", 128 to 255 among them.
+        # "other tokens are longest runs of the remaining bytes", 192 to 255 among them.
         reads(alone, PLAIN, text, [(0 if byte in DIGITS else 1, 0, 0, 1), (2, 1, 1, 0)], 1)
         reads(between, PLAIN, b"a" + text + b"c", [(1, 0, 0, 3), (2, 3, 3, 0)], 3)
         reads(behind, LOSS, b"loss" + text, [(1, 0, 0, 5), (2, 5, 5, 0)], 5)
@@ -244,14 +255,92 @@ for byte in range(256):
 # The longest run of all: each byte that can stand in one, once.
 reads_apart("all run bytes", PLAIN, (1, bytes(RUN)))
 reads_apart("bytes 128 to 255", PLAIN, (1, bytes(range(128, 256))))
-# "Each byte but 9 and 10 advances the column by one": a letter of two bytes takes two columns.
+# Note 3: a letter of two bytes takes one column.
 reads("letters of two bytes", PLAIN, "\u00b5m \u00e9t\u00e9\tx".encode(),
-      [(1, 0, 0, 3), (1, 4, 4, 5), (1, 16, 10, 1), (2, 17, 11, 0)], 17)
+      [(1, 0, 0, 3), (1, 3, 4, 5), (1, 8, 10, 1), (2, 9, 11, 0)], 9)
 
 # "report over length or refused byte": a refused byte at every place of a text.
 for byte in (0, 8, 11, 12, 14, 31, 127):
     for place, text in faults.places(b"ab : 1\n", byte):
         refused(f"byte {byte} at {place} of 8", 8, PLAIN, bytes(text))
+
+
+# --- Letters of UTF-8, whole and damaged ---------------------------------------------------------
+
+# Note 3: "a `\u00b5` ahead of an entry pushes it one column too far. A byte from 128 to 191 no longer advances the
+# column; offsets still count bytes." The names say the letters by their Unicode numbers.
+MICRO, DEGREE = "\u00b5".encode(), "\u00b0".encode()
+THREE = "\u2013".encode()  # A dash, e2 80 93.
+FOUR = "\U0001f600".encode()  # A face, f0 9f 98 80.
+for said, letter in (("b5", MICRO), ("b0", DEGREE), ("2013", THREE), ("1f600", FOUR), ("a and 308", b"a\xcc\x88")):
+    n = len(letter)
+    # Ahead of a token, with a blank and without: one column for the letter, two for a mark and the letter under it.
+    cols = width(letter)
+    assert cols == (2 if letter[0] == 97 else 1)
+    reads(f"letter {said}, blank, `ab`", PLAIN, letter + b" ab",
+          [(1, 0, 0, n), (1, cols + 1, n + 1, 2), (2, cols + 3, n + 3, 0)], cols + 3)
+    reads(f"letter {said} first in a token", PLAIN, b"  " + letter + b"ab c",
+          [(1, 2, 2, n + 2), (1, cols + 5, n + 5, 1), (2, cols + 6, n + 6, 0)], cols + 6)
+    reads(f"letter {said} inside a token", PLAIN, b"a" + letter + b"b c",
+          [(1, 0, 0, n + 2), (1, cols + 3, n + 3, 1), (2, cols + 4, n + 4, 0)], cols + 4)
+    reads(f"letter {said} behind a token", PLAIN, b"ab" + letter + b" c",
+          [(1, 0, 0, n + 2), (1, cols + 3, n + 3, 1), (2, cols + 4, n + 4, 0)], cols + 4)
+    reads(f"letter {said} alone in a line", PLAIN, letter + b"\n" + letter,
+          [(1, 0, 0, n), (2, cols, n, 0), (1, 0, n + 1, n), (2, cols, 2 * n + 1, 0)], cols)
+    # From column 6 and 7: the letter decides from where a tab goes on.
+    reads(f"letter {said} before a tab", PLAIN, b" " * (7 - cols) + letter + b"\tx",
+          [(1, 7 - cols, 7 - cols, n), (1, 8, 8 - cols + n, 1), (2, 9, 9 - cols + n, 0)], 9)
+    reads(f"letter {said} before a far tab", PLAIN, b" " * (8 - cols) + letter + b"\tx",
+          [(1, 8 - cols, 8 - cols, n), (1, 16, 9 - cols + n, 1), (2, 17, 10 - cols + n, 0)], 17)
+    # Beside single bytes.
+    reads(f"letter {said} between single bytes", PLAIN, b":" + letter + b":",
+          [(1, 0, 0, 1), (1, 1, 1, n), (1, cols + 1, n + 1, 1), (2, cols + 2, n + 2, 0)], cols + 2)
+    # "Terminal: 3 + k where the spelling equals keyword k", by bytes; a number has digits alone.
+    reads(f"letter {said} behind a number", PLAIN, b"20" + letter, [(1, 0, 0, n + 2), (2, cols + 2, n + 2, 0)], cols + 2)
+    reads(f"letter {said} a keyword", with_keywords(letter, b"20" + letter), letter + b" 20" + letter + b" 20",
+          [(3, 0, 0, n), (4, cols + 1, n + 1, n + 2), (0, 2 * cols + 4, 2 * n + 4, 2), (2, 2 * cols + 6, 2 * n + 6, 0)],
+          2 * cols + 6)
+    reads(f"letter {said}, the last byte missing", with_keywords(letter), letter[:-1] + b" x",
+          [(1, 0, 0, n - 1), (1, cols + 1, n, 1), (2, cols + 2, n + 1, 0)], cols + 2)
+
+# The entry that went wrong: `\u00b5` and two blanks, and below it three blanks, lead to the same column.
+reads("entries below each other", LOSS, MICRO + b"  loss\n   loss\n",
+      [(1, 0, 0, 2), (3, 3, 4, 4), (2, 7, 8, 0), (3, 3, 12, 4), (2, 7, 16, 0)], 0)
+
+# Bytes 128 to 191 by themselves: run bytes that move no column, at every place.
+for byte in (128, 176, 191):
+    one = bytes([byte])
+    reads(f"byte {byte} at a line's start", PLAIN, b"a\n" + one + b" b",
+          A + [(1, 0, 2, 1), (1, 1, 4, 1), (2, 2, 5, 0)], 2)
+    reads(f"byte {byte} after a tab", PLAIN, b"\t" + one + b"\tb", [(1, 8, 1, 1), (1, 16, 3, 1), (2, 17, 4, 0)], 17)
+    reads(f"byte {byte} before a tab", PLAIN, b"       " + one + b"\tb", [(1, 7, 7, 1), (1, 8, 9, 1), (2, 9, 10, 0)], 9)
+    reads(f"byte {byte} before a break", PLAIN, b"a " + one + b"\nb",
+          [(1, 0, 0, 1), (1, 2, 2, 1), (2, 2, 3, 0), (1, 0, 4, 1), (2, 1, 5, 0)], 1)
+    reads(f"byte {byte} and byte 13 before a break", PLAIN, one + b"\r\n", [(1, 0, 0, 1), (2, 1, 2, 0)], 0)
+    reads(f"byte {byte} between blanks", PLAIN, b" " + one + b" " + one + b" ",
+          [(1, 1, 1, 1), (1, 2, 3, 1), (2, 3, 5, 0)], 3)
+    reads(f"byte {byte} between single bytes", PLAIN, b":" + one + b":",
+          [(1, 0, 0, 1), (1, 1, 1, 1), (1, 1, 2, 1), (2, 2, 3, 0)], 2)
+    reads(f"byte {byte} ten times", PLAIN, one * 10 + b"a b", [(1, 0, 0, 11), (1, 2, 12, 1), (2, 3, 13, 0)], 3)
+    reads(f"byte {byte} inside a number", PLAIN, b"1" + one + b"2", [(1, 0, 0, 3), (2, 2, 3, 0)], 2)
+# What is no UTF-8 is not refused, and from 192 on each byte advances.
+for said, text, tokens, column in (
+    ("c0 80", b"\xc0\x80 x", [(1, 0, 0, 2), (1, 2, 3, 1), (2, 3, 4, 0)], 3),
+    ("ed a0 80", b"\xed\xa0\x80 x", [(1, 0, 0, 3), (1, 2, 4, 1), (2, 3, 5, 0)], 3),
+    ("c2 c2 b5", b"\xc2\xc2\xb5 x", [(1, 0, 0, 3), (1, 3, 4, 1), (2, 4, 5, 0)], 4),
+    ("f5 ff", b"\xf5\xff x", [(1, 0, 0, 2), (1, 3, 3, 1), (2, 4, 4, 0)], 4),
+    ("bf c0", b"\xbf\xc0 x", [(1, 0, 0, 2), (1, 2, 3, 1), (2, 3, 4, 0)], 3),
+    ("c2, a blank, b5", b"\xc2 \xb5 x", [(1, 0, 0, 1), (1, 2, 2, 1), (1, 3, 4, 1), (2, 4, 5, 0)], 4),
+    ("c2, a break, b5", b"\xc2\n\xb5 x", [(1, 0, 0, 1), (2, 1, 1, 0), (1, 0, 2, 1), (1, 1, 4, 1), (2, 2, 5, 0)], 2),
+    ("c2, a tab, b5", b"\xc2\t\xb5 x", [(1, 0, 0, 1), (1, 8, 2, 1), (1, 9, 4, 1), (2, 10, 5, 0)], 10),
+    ("c2, `:`, b5", b"\xc2:\xb5 x", [(1, 0, 0, 1), (1, 1, 1, 1), (1, 2, 2, 1), (1, 3, 4, 1), (2, 4, 5, 0)], 4),
+):
+    reads(f"no UTF-8, {said}", PLAIN, text, tokens, column)
+# A keyword of 32 bytes in 16 letters, one letter more, and its bytes 128 to 191 alone.
+MICROS = with_keywords(MICRO * 16, b"\xb5" * 16)
+reads_apart("16 letters b5 a keyword", MICROS, (3, MICRO * 16), (1, MICRO * 17), (4, b"\xb5" * 16), (1, MICRO * 15))
+# "none of them at or below 32 or equal to 127": no other byte of a letter is looked at in keywords and names.
+reads_apart("names with letters", VERSION + keyword(MICRO) + rule(0, MICRO) + rule(0, b"\x80") + TAIL, (3, MICRO), (1, b"\x80"))
 
 
 # --- Blanks, tabs and columns --------------------------------------------------------------------
@@ -599,6 +688,9 @@ refused_scan("4098 tokens, four a line", 10, with_keywords(b"k", b":"), b"k:1\n"
 for said, byte, tokens, column in (
     ("letters", b"a", [(1, 0, 0, 65535), (2, 65535, 65535, 0)], 65535),
     ("bytes 255", b"\xff", [(1, 0, 0, 65535), (2, 65535, 65535, 0)], 65535),
+    ("bytes 192", b"\xc0", [(1, 0, 0, 65535), (2, 65535, 65535, 0)], 65535),
+    ("bytes 128", b"\x80", [(1, 0, 0, 65535), (2, 0, 65535, 0)], 0),
+    ("bytes 191", b"\xbf", [(1, 0, 0, 65535), (2, 0, 65535, 0)], 0),
     ("digits", b"0", [(0, 0, 0, 65535), (2, 65535, 65535, 0)], 65535),
     ("blanks", b" ", [], 65535),
     ("breaks", b"\n", [], 0),
@@ -649,6 +741,18 @@ too_far("8191 tabs, `a` and a tab", PLAIN, T8191 + b"a\t", 1, 8192, 65529, True)
 too_far("8191 tabs, `a` and 7 blanks", PLAIN, T8191 + b"a       ", 1, 8192, 65529, True)
 reads("8191 tabs, `a` and 6 blanks", PLAIN, T8191 + b"a      ", [(1, 65528, 8191, 1), (2, 65535, 8198, 0)], 65535)
 too_far("8191 tabs, `a`, tab and `b`", PLAIN, T8191 + b"a\tb", 1, 8192, 65529, True)
+# Note 3: a line may hold more bytes before 9 comes.
+reads("8191 tabs and 7 letters b5", PLAIN, T8191 + MICRO * 7, [(1, 65528, 8191, 14), (2, 65535, 8205, 0)], 65535)
+too_far("8191 tabs and 8 letters b5", PLAIN, T8191 + MICRO * 8, 1, 8207, 65536, True)
+reads("8191 tabs and 57344 bytes 128", PLAIN, T8191 + b"\x80" * 57344, [(1, 65528, 8191, 57344), (2, 65528, 65535, 0)], 65528)
+reads("8191 tabs, 7 blanks and byte 128", PLAIN, T8191 + b"       \x80", [(1, 65535, 8198, 1), (2, 65535, 8199, 0)], 65535)
+too_far("8191 tabs, 7 blanks and letter b5", PLAIN, T8191 + b"       " + MICRO, 1, 8200, 65536, True)
+too_far("8191 tabs, 8 blanks and byte 128", PLAIN, T8191 + b"        \x80", 0, 0, 0, False)
+too_far("8192 tabs and byte 128", PLAIN, T8192 + b"\x80", 0, 0, 0, False)
+# 4,369 tabs and 30,583 letters of two bytes: 65,535 bytes, and 34,952 + 30,583 columns.
+reads("4369 tabs and 30583 letters b5", PLAIN, b"\t" * 4369 + MICRO * 30583,
+      [(1, 34952, 4369, 61166), (2, 65535, 65535, 0)], 65535)
+too_far("4370 tabs and 30582 letters b5", PLAIN, b"\t" * 4370 + MICRO * 30582, 1, 65534, 65542, True)
 too_far("8192 tabs and `:`", PLAIN, T8192 + b":", 0, 0, 0, False)
 too_far("8192 tabs and a number", PLAIN, T8192 + b"1", 0, 0, 0, False)
 too_far("8192 tabs and a keyword", LOSS, T8192 + b"loss", 0, 0, 0, False)
@@ -733,6 +837,8 @@ walk("steps, lines", LOSS, b"\n x:y\n\n\tloss -1\t\n 2",
 walk("steps, 65535 letters", PLAIN, b"a" * 65535,
      ((1, 0, 0, 65535), (65535, 65535, True)), ((2, 65535, 65535, 0), (65535, 65535, False)),
      (None, (65535, 65535, False)))
+walk("steps, 65535 bytes 128", PLAIN, b"\x80" * 65535,
+     ((1, 0, 0, 65535), (65535, 0, True)), ((2, 0, 65535, 0), (65535, 0, False)), (None, (65535, 0, False)))
 walk("steps, 65535 tabs", PLAIN, b"\t" * 65535, (None, (65535, 524280, False)))
 
 # Steps don't know 10: tokens 4,096 and on are handed out as any.
@@ -905,6 +1011,31 @@ for way in ("byte", "offset", "column"):
             step(label, file, report, before, min(chosen))
         else:
             step(label, file, report, before, (1, 65535, 2, 1), (3, 65536, True))
+
+
+# --- Steps over letters --------------------------------------------------------------------------
+
+walk("steps, letters", PLAIN, b"a\xc2\xb5 \x80\n\xc2\xb0",
+     ((1, 0, 0, 3), (3, 2, True)), ((1, 3, 4, 1), (5, 3, True)), ((2, 3, 5, 0), (6, 0, False)),
+     ((1, 0, 6, 2), (8, 1, True)), ((2, 1, 8, 0), (8, 1, False)), (None, (8, 1, False)))
+for said, report, before, answer, after in (
+    # A value inside a letter stands at the column it is given.
+    ("inside a letter", b"a\xc2\xb5b c", (2, 2, True), (1, 2, 2, 2), (4, 3, True)),
+    ("inside a letter, column 70", b"a\xc2\xb5b c", (2, 70, False), (1, 70, 2, 2), (4, 71, True)),
+    ("behind a letter", b"\xc2\xb5 c", (2, 1, True), (1, 2, 3, 1), (4, 3, True)),
+    ("bytes 128 at 65535", b"\x80\x80", (0, 65535, False), (1, 65535, 0, 2), (2, 65535, True)),
+    ("line end behind bytes 128 at 65535", b"\x80", (1, 65535, True), (2, 65535, 1, 0), (1, 65535, False)),
+    ("a letter at 65535", MICRO, (0, 65535, False), (1, 65535, 0, 2), (2, 65536, True)),
+    ("a break and byte 128 at 524280", b"\n\x80", (0, 524280, False), (1, 0, 1, 1), (2, 0, True)),
+    ("65535 bytes 128 at 65535", b"\x80" * 65535, (0, 65535, False), (1, 65535, 0, 65535), (65535, 65535, True)),
+):
+    step(f"step, {said}", PLAIN, report, before, answer, after)
+step("step by 9, line end behind a letter at 65535", PLAIN, MICRO, (2, 65536, True), 9)
+step("step by 9, byte 128 at 65536", PLAIN, b"\x80", (0, 65536, False), 9)
+step("step by 9, byte 128 at 524280", PLAIN, b"\x80", (0, 524280, False), 9)
+step("step by 8, byte 128 at 524281", PLAIN, b"\x80", (0, 524281, False), 8)
+value("letters", with_keywords(MICRO), b"\xc2\xb5 x\n\xb5",
+      (3, 0, 0, 2), (1, 2, 3, 1), (2, 3, 4, 0), (1, 0, 5, 1), (2, 0, 6, 0), None)
 
 
 # --- The scanner's value, step by step -----------------------------------------------------------

@@ -307,13 +307,13 @@ fn spellings(file: &[u8]) -> (Vec<&[u8]>, Vec<&[u8]>) {
 fn report_once(input: &ReportInput, stats: &mut Stats) -> Result<bool, String> {
     let ReportInput { file, report, room } = input;
     let bytes = || format!("{room} words lent\nfile {file:?}\nreport {report:?}");
-    let scanned = second::scan(file, report, *room);
-    stats.note_report(&same(
+    let scanned = same(
         "the scan",
         ours::scan(file, report, *room),
-        scanned,
+        second::scan(file, report, *room),
         bytes,
-    )?);
+    )?;
+    stats.note_report(input, &scanned);
     let Some(line) = second::line_within(file, report, MOST_STEPS) else {
         return Ok(false);
     };

@@ -3,6 +3,7 @@
 
 mod files;
 mod grammars;
+mod letters;
 mod reports;
 mod runs;
 mod shown;

@@ -127,7 +127,7 @@ fn reports_of_every_answer() {
     for _ in 0..5_000 {
         let input = report_input(&mut rng);
         let answer = scan(&input.file, &input.report, input.room);
-        stats.note_report(&answer);
+        stats.note_report(&input, &answer);
         one_by_one(&input.file, &input.report);
     }
     println!("{stats}");
@@ -136,6 +136,14 @@ fn reports_of_every_answer() {
             stats.share("report", &format!("refused {number}")) > 0.3,
             "{number}"
         );
+    }
+    for (class, least) in [
+        ("UTF-8 outside ASCII", 50.0),
+        ("a whole letter outside ASCII", 30.0),
+        ("damaged UTF-8", 25.0),
+        ("scanned, a keyword outside ASCII", 10.0),
+    ] {
+        assert!(stats.share("report", class) > least, "{class}");
     }
 }
 

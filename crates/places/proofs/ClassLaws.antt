@@ -1,36 +1,28 @@
--- What the class of a byte means to a place: `search classes` answers each arm of a match on a class.
+-- What the class that was found for a byte says of the byte; `search classes` answers each arm of `column_by`.
 use Prim.Native.Nat.{ℕ}
-use mathlib.Core.Path.{_≡_, refl, ap, _∙_}
-use mathlib.Core.Bool.{Bool, false}
-use mathlib.Core.List.{[], _∷_}
+use mathlib.Core.Path.{_≡_, sym, ap, _∙_}
+use mathlib.Core.Bool.{Bool}
 use borrow.Author.Needs.{needs}
-use types.Run.{miss}
 use Rattle.byte_class.specs.Bytes.{classOf}
 use Rattle.byte_class.specs.declared.Class.{Class}
-use Rattle.byte_class.proofs.ClassLaws.{Others, each-class, by-class}
 use Rattle.places.specs.Columns.{columnBy, columnAfter}
 use Rattle.places.specs.Places.{runClass, inRun}
 use Rattle.places.specs.InternalFind.{passedBy, passedOver}
 
-pub run-others : (b : ℕ) {r : Class} → r ≡ classOf b → Others (0 ∷ 1 ∷ 2 ∷ 3 ∷ 7 ∷ []) r → false ≡ inRun b
-unfolding inRun
-run-others b {r} e q =
-    each-class (λ k. Others (0 ∷ 1 ∷ 2 ∷ 3 ∷ 7 ∷ []) k → false ≡ runClass k) (λ _. refl) (λ _. refl) (λ _. refl) (λ _. refl)
-    (λ h. absurd (miss (0 ∷ 1 ∷ 2 ∷ 3 ∷ 7 ∷ []) 4 tt h)) (λ h. absurd (miss (0 ∷ 1 ∷ 2 ∷ 3 ∷ 7 ∷ []) 5 tt h))
-    (λ h. absurd (miss (0 ∷ 1 ∷ 2 ∷ 3 ∷ 7 ∷ []) 6 tt h)) (λ _. refl) r q
-    ∙ ap runClass e
+pub column-told : {class k : Class} → class ≡ k → (c : ℕ) {v : ℕ} → columnBy k c ≡ v → v ≡ columnBy class c
+column-told told c w = sym w ∙ ap (λ (k : Class). columnBy k c) (sym told)
 
-module _ (b : ℕ) {r k : Class} (e : r ≡ classOf b) (told : r ≡ k) where
-  pub column-class : (c : ℕ) {v : ℕ} → columnBy k c ≡ v → v ≡ columnAfter b c
+pub ruleset classes = (needs, column-told)
+
+module _ (b : ℕ) {class : Class} (e : class ≡ classOf b) where
+  pub column-found : (c : ℕ) {v : ℕ} → v ≡ columnBy class c → v ≡ columnAfter b c
   unfolding columnAfter
-  column-class c w = by-class b e told (λ class. columnBy class c) w
+  column-found c w = w ∙ ap (λ (k : Class). columnBy k c) e
 
-  pub run-class : {v : Bool} → runClass k ≡ v → v ≡ inRun b
+  pub run-found : {v : Bool} → v ≡ runClass class → inRun b ≡ v
   unfolding inRun
-  run-class w = by-class b e told runClass w
+  run-found w = sym (w ∙ ap runClass e)
 
-  pub passed-class : (m : Bool) {v : Bool} → passedBy k m ≡ v → v ≡ passedOver b m
+  pub passed-found : (m : Bool) {v : Bool} → v ≡ passedBy class m → passedOver b m ≡ v
   unfolding passedOver
-  passed-class m w = by-class b e told (λ class. passedBy class m) w
-
-pub ruleset classes = (needs, column-class, run-class, passed-class)
+  passed-found m w = sym (w ∙ ap (λ (k : Class). passedBy k m) e)

@@ -1,18 +1,16 @@
 // What the class of a byte means to a place. `byte_class::class_of` alone decides the class.
 ghost use mathlib.Core.Path.{_≡_};
 ghost use Prim.Native.Nat.{_+_, _<_, _^_};
-ghost use Rattle.places.specs.Columns.{columnAfter};
-ghost use Rattle.places.specs.Places.{inRun};
-ghost use Rattle.places.specs.InternalFind.{passedOver};
+ghost use Rattle.places.specs.Columns.{columnBy};
+ghost use Rattle.places.specs.Places.{runClass};
+ghost use Rattle.places.specs.InternalFind.{passedBy};
 use byte_class::Class;
-use byte_class::class_of;
 
-// The column behind a byte.
-pub(crate) fn column_after(b: u8, column: u32) -> u32
+// The column behind a byte of a class.
+pub(crate) fn column_by(class: Class, column: u32) -> u32
     requires { ⌜ column + 8 < 2 ^ 32 ⌝ }
-    ensures { λ r. ⌜ r ≡ columnAfter b column ⌝ }
+    ensures { λ r. ⌜ r ≡ columnBy class column ⌝ }
 {
-    let class = class_of(b);
     match class {
         Class::Break => 0,
         Class::Tab => (column / 8 + 1) * 8,
@@ -25,24 +23,26 @@ pub(crate) fn column_after(b: u8, column: u32) -> u32
     }
 }
 
-// Whether a byte belongs to a run.
-pub(crate) fn in_run(b: u8) -> bool
-    ensures { λ r. ⌜ r ≡ inRun b ⌝ }
+// Whether a byte of a class belongs to a run.
+pub(crate) fn run_class(class: Class) -> bool
+    ensures { λ r. ⌜ r ≡ runClass class ⌝ }
 {
-    let class = class_of(b);
     match class {
+        Class::Break => false,
+        Class::Tab => false,
+        Class::Blank => false,
+        Class::Single => false,
         Class::Digit => true,
         Class::Run => true,
         Class::Continuation => true,
-        _ => false,
+        Class::Refused => false,
     }
 }
 
-// Whether a byte begins and ends no token, where the line has had a token or not.
-pub(crate) fn passes(b: u8, mark: bool) -> bool
-    ensures { λ r. ⌜ r ≡ passedOver b mark ⌝ }
+// Whether a byte of a class begins and ends no token, where the line has had a token or not.
+pub(crate) fn passed_by(class: Class, mark: bool) -> bool
+    ensures { λ r. ⌜ r ≡ passedBy class mark ⌝ }
 {
-    let class = class_of(b);
     match class {
         Class::Break => !mark,
         Class::Tab => true,

@@ -6,9 +6,10 @@ ghost use mathlib.Core.Option.{none};
 ghost use lib.ListN.{take, drop};
 ghost use Rattle.places.specs.Moves.{position, nextIn, nextWithin, moveOf};
 ghost use Rattle.places.specs.InternalFind.{Room, RunEnd, Skipped, endFound, spellingFound};
-use classes::column_after;
-use classes::in_run;
-use classes::passes;
+use byte_class::class_of;
+use classes::column_by;
+use classes::passed_by;
+use classes::run_class;
 
 // The last column that 32 bits hold.
 const LAST: u32 = 4294967295;
@@ -39,10 +40,11 @@ fn skip(report: &[u8], first: usize, start: u32, mark: bool) -> Spot
     let mut at = first;
     let mut column = start;
     while at < report.len() {
-        if !passes(report[at], mark) {
+        let class = class_of(report[at]);
+        if !passed_by(class, mark) {
             return Spot { at, column };
         }
-        column = column_after(report[at], column);
+        column = column_by(class, column);
         at += 1;
     }
     Spot { at, column }
@@ -56,10 +58,11 @@ fn run_end(report: &[u8], first: usize, start: u32) -> Spot
     let mut at = first;
     let mut column = start;
     while at < report.len() {
-        if !in_run(report[at]) {
+        let class = class_of(report[at]);
+        if !run_class(class) {
             return Spot { at, column };
         }
-        column = column_after(report[at], column);
+        column = column_by(class, column);
         at += 1;
     }
     Spot { at, column }
@@ -107,17 +110,17 @@ fn find_within(report: &[u8], at: usize, column: u32, mark: bool) -> Found
     if offset == report.len() {
         return line_end(mark, place, offset, offset, place);
     }
-    let b = report[offset];
-    if in_run(b) {
+    let class = class_of(report[offset]);
+    if run_class(class) {
         let end = run_end(report, offset, place);
         let next = end.at;
         return spelling(place, offset, next - offset, next, end.column);
     }
     // Of the bytes that stand here only a break is passed over where the line has had no token.
-    if passes(b, false) {
+    if passed_by(class, false) {
         return line_end(true, place, offset, offset + 1, 0);
     }
-    spelling(place, offset, 1, offset + 1, column_after(b, place))
+    spelling(place, offset, 1, offset + 1, column_by(class, place))
 }
 
 // The end of a line that has had a token, or nothing.

@@ -1,6 +1,7 @@
 //! Grammar files, good and damaged, with the room lent for their tables.
 
 use super::grammars::{self, Grammar, LAST};
+use super::letters::{damaged, letter};
 use super::Rng;
 use crate::second::kind::{INDENT, POSITION};
 use crate::second::read;
@@ -103,7 +104,7 @@ fn distinct(rng: &mut Rng, count: usize, word: fn(&mut Rng) -> Vec<u8>) -> Vec<V
     words
 }
 
-const SINGLES: &[u8] = b":,()[]=;%";
+pub(super) const SINGLES: &[u8] = b":,()[]=;%";
 
 /// A keyword by its rules.
 fn keyword(rng: &mut Rng) -> Vec<u8> {
@@ -112,6 +113,10 @@ fn keyword(rng: &mut Rng) -> Vec<u8> {
         5 => b"loss".to_vec(),
         6 => format!("{}", rng.below(30)).into_bytes(),
         7 => b"-0.04".to_vec(),
+        // Outside ASCII, whole and damaged.
+        8 => letter(rng),
+        9 => rng.pick(&["µm", "20°", "°C"]).as_bytes().to_vec(),
+        10 => damaged(rng),
         _ => {
             let mut word = name(rng);
             word.retain(|byte| !SINGLES.contains(byte));
@@ -130,15 +135,21 @@ fn name(rng: &mut Rng) -> Vec<u8> {
         1 | 2 => rng.between(9, 32),
         _ => rng.between(1, 8),
     };
-    (0..length)
-        .map(|_| match rng.below(30) {
-            0 => rng.between(128, 255) as u8,
-            1 => rng.between(33, 126) as u8,
-            2 => *rng.pick(SINGLES),
-            3..=6 => *rng.pick(b"0123456789-."),
-            _ => *rng.pick(b"abcdefgh"),
-        })
-        .collect()
+    let letters = rng.chance(15);
+    let mut name = Vec::new();
+    while name.len() < length {
+        match rng.below(30) {
+            0 => name.push(rng.between(128, 255) as u8),
+            1 => name.push(rng.between(33, 126) as u8),
+            2 => name.push(*rng.pick(SINGLES)),
+            3..=6 => name.push(*rng.pick(b"0123456789-.")),
+            7..=18 if letters => name.extend(letter(rng)),
+            _ => name.push(*rng.pick(b"abcdefgh")),
+        }
+    }
+    // This may cut a letter short.
+    name.truncate(length);
+    name
 }
 
 pub(super) fn fields(source: &Source) -> Vec<Field> {

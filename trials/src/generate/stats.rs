@@ -1,6 +1,6 @@
 //! How often each class of answer occurs.
 
-use super::{RunInput, ShownInput};
+use super::{ReportInput, RunInput, ShownInput};
 use crate::second::kind::*;
 use crate::second::relation::{ANY, COUNT};
 use crate::second::run::{Interval, State};
@@ -128,9 +128,28 @@ impl Stats {
         self.note("file", class);
     }
 
-    /// Notes a scanner's answer.
-    pub fn note_report(&mut self, answer: &Result<Vec<u32>, u8>) {
+    /// Notes a scanner's answer, and what of UTF-8 the report holds.
+    pub fn note_report(&mut self, input: &ReportInput, answer: &Result<Vec<u32>, u8>) {
         *self.totals.entry("report").or_default() += 1;
+        let report = &input.report;
+        let mut chunks = report.utf8_chunks();
+        let tokens = answer.as_ref().map_or(&[][..], |words| words);
+        for (holds, class) in [
+            (!report.is_ascii(), "UTF-8 outside ASCII"),
+            (
+                chunks.any(|chunk| !chunk.valid().is_ascii()),
+                "a whole letter outside ASCII",
+            ),
+            (std::str::from_utf8(report).is_err(), "damaged UTF-8"),
+            (
+                keyword_outside_ascii(report, tokens),
+                "scanned, a keyword outside ASCII",
+            ),
+        ] {
+            if holds {
+                self.note("report", class.to_string());
+            }
+        }
         let class = match answer {
             Ok(tokens) if tokens.len() < 8 => "scanned, under 2 tokens".to_string(),
             Ok(_) => "scanned, 2 or more tokens".to_string(),
@@ -173,6 +192,14 @@ impl fmt::Display for Stats {
         }
         Ok(())
     }
+}
+
+/// Whether a report's tokens have a keyword with a byte over 127.
+fn keyword_outside_ascii(report: &[u8], tokens: &[u32]) -> bool {
+    let (tokens, _) = tokens.as_chunks::<4>();
+    tokens.iter().any(|&[terminal, _, offset, length]| {
+        terminal >= 3 && !report[offset as usize..][..length as usize].is_ascii()
+    })
 }
 
 /// Why a capture's text is not there.

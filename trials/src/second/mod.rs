@@ -1,5 +1,5 @@
 //! The indentation grammar reader, written from document 01, which orders the work,
-//! Notes 1 and 2 of 02, and the papers alone. 001 below is Nestra 2017.
+//! Notes 1 to 3 of 02, and the papers alone. 001 below is Nestra 2017.
 //!
 //! Four parts: the file reader (`read`), the scanner (`scan`, `next_token`), the
 //! check (`check`) and the interpreter (`run`); `line` is the program over them.

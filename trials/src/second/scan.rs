@@ -110,15 +110,10 @@ fn step(text: &[u8], keywords: &Keywords, at: &mut Value) -> Result<Option<[u32;
                 at.column += 1;
                 at.offset += 1;
             }
-            Class::Single => return Ok(Some(token(text, 1, keywords, at))),
-            // "longest runs of the remaining bytes"
-            Class::Run => {
-                let rest = &text[at.offset..];
-                let length = rest
-                    .iter()
-                    .position(|&byte| class(byte) != Class::Run)
-                    .unwrap_or(rest.len());
-                return Ok(Some(token(text, length, keywords, at)));
+            Class::Single => return Ok(Some(token(text, (1, 1), keywords, at))),
+            Class::Run | Class::Continuation => {
+                let run = run(&text[at.offset..]);
+                return Ok(Some(token(text, run, keywords, at)));
             }
             Class::Refused => return Err(8),
         }
@@ -129,13 +124,34 @@ fn step(text: &[u8], keywords: &Keywords, at: &mut Value) -> Result<Option<[u32;
     Ok(end)
 }
 
+/// The length in bytes of the run that stands first, "longest runs of the remaining
+/// bytes", and by how much it advances the column.
+fn run(rest: &[u8]) -> (usize, u32) {
+    let mut staying = 0;
+    let other = rest.iter().position(|&byte| match class(byte) {
+        Class::Run => false,
+        Class::Continuation => {
+            staying += 1;
+            false
+        }
+        _ => true,
+    });
+    let length = other.unwrap_or(rest.len());
+    (length, (length - staying) as u32)
+}
+
 /// The line end where the value stands: terminal 2, length 0.
 fn line_end(at: &Value) -> [u32; 4] {
     [2, at.column, at.offset as u32, 0]
 }
 
 /// The token of `length` bytes where the value stands; moves right behind it.
-fn token(text: &[u8], length: usize, keywords: &Keywords, at: &mut Value) -> [u32; 4] {
+fn token(
+    text: &[u8],
+    (length, advance): (usize, u32),
+    keywords: &Keywords,
+    at: &mut Value,
+) -> [u32; 4] {
     let spelling = &text[at.offset..at.offset + length];
     // "3 + k where the spelling equals keyword k .. else 0 .. else 1"
     let terminal = match keywords.find(spelling) {
@@ -145,7 +161,7 @@ fn token(text: &[u8], length: usize, keywords: &Keywords, at: &mut Value) -> [u3
     };
     let token = [terminal, at.column, at.offset as u32, length as u32];
     at.offset += length;
-    at.column += length as u32;
+    at.column += advance;
     at.had_token = true;
     token
 }
@@ -168,6 +184,9 @@ enum Class {
     Blank,
     Single,
     Run,
+    /// A byte of a run that leaves the column: "A byte from 128 to 191 no longer
+    /// advances the column" (02 Note 3), whether or not it continues a letter.
+    Continuation,
     Refused,
 }
 
@@ -182,6 +201,7 @@ const CLASSES: [Class; 256] = {
             // "Other bytes below 32, and 127, are refused."
             0..=31 | 127 => Class::Refused,
             single if file::is_single(single) => Class::Single,
+            128..=191 => Class::Continuation,
             _ => Class::Run,
         };
         byte += 1;

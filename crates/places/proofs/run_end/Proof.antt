@@ -11,6 +11,7 @@ use lib.ListN.{length, getD, take, drop, drop-of-length-le}
 use Rattle.places.specs.InternalFind.{Room, RunEnd}
 use Rattle.places.specs.Columns.{columnAfter, columnOver}
 use Rattle.places.specs.Places.{inRun, runLength}
+use Rattle.places.proofs.ClassLaws.{column-found, run-found}
 use Rattle.places.proofs.FindLaws.{from-one, room-next, run-more, run-none, run-empty}
 
 -- The run and its last column, from what is left of it.
@@ -56,24 +57,29 @@ loop-holds c = (c .before .pre, refl, refl)
 
 returns : tie.Need-returns Inv-loop μ-loop
 returns c =
-    let loop-test = c .before .before .before .loop-test in
-    let loop = c .before .before .before .before .loop in
-    let start = c .before .before .before .before .before .before in
-    run-stops (start .args .report .now) (start .args .first) (start .args .start) (loop .at) (loop .column)
-    (loop .inv) (loop-test .taken) (sym (c .before .in-run .ensures) ∙ not-true _ (c .if1 .taken))
+    let class-of = c .before .before .class-of in
+    let loop-test = c .before .before .before .before .loop-test in
+    let loop = c .before .before .before .before .before .loop in
+    let args = c .before .before .before .before .before .before .before .args in
+    run-stops (args .report .now) (args .first) (args .start) (loop .at) (loop .column) (loop .inv) (loop-test .taken)
+    (run-found (getD (args .report .now) (loop .at) 0) (class-of .ensures) (c .before .run-class .ensures) ∙ not-true _ (c .if1 .taken))
 
-column-after-requires : tie.Need-column-after-requires Inv-loop μ-loop
-column-after-requires c κs = let room = c .before .before .before .before .before .loop .inv .0 in omega (arith, room .fits, room .within)
+column-by-requires : tie.Need-column-by-requires Inv-loop μ-loop
+column-by-requires c κs =
+    let room = c .before .before .before .before .before .loop .inv .0 in
+    omega (arith, room .fits, room .within)
 
 loop-again : tie.Need-loop-again Inv-loop μ-loop
 loop-again c =
-    let in-run = c .before .before .before .in-run in
+    let run-class = c .before .before .run-class in
+    let class-of = c .before .before .before .class-of in
     let loop-test = c .before .before .before .before .before .loop-test in
     let loop = c .before .before .before .before .before .before .loop in
-    let start = c .before .before .before .before .before .before .before .before in
-    run-goes (start .args .report .now) (start .args .first) (start .args .start) (loop .at) (loop .column)
-    (loop .inv) (loop-test .taken) (sym (in-run .ensures) ∙ not-false _ (c .before .before .if1 .left))
-    (c .column-after .ensures)
+    let args = c .before .before .before .before .before .before .before .before .args in
+    let byte = getD (args .report .now) (loop .at) 0 in
+    run-goes (args .report .now) (args .first) (args .start) (loop .at) (loop .column) (loop .inv) (loop-test .taken)
+    (run-found byte (class-of .ensures) (run-class .ensures) ∙ not-false _ (c .before .if1 .left))
+    (column-found byte (class-of .ensures) (loop .column) (c .column-by .ensures))
 
 returns-2 : tie.Need-returns-2 Inv-loop μ-loop
 returns-2 c =
@@ -84,5 +90,5 @@ returns-2 c =
 pub run-end-spec : {M : Type 1} → statement M
 run-end-spec =
     tie.close
-    (tie.spec Inv-loop μ-loop loop-holds (λ c. omega arith) (λ c κs. tt) returns (λ c. omega arith)
-    column-after-requires (λ c. omega arith) (λ c. omega arith) loop-again returns-2)
+    (tie.spec Inv-loop μ-loop loop-holds (λ c. omega arith) (λ c κs. tt) (λ c κs. tt) returns
+    column-by-requires (λ c. omega arith) (λ c. omega arith) loop-again returns-2)

@@ -8,6 +8,7 @@ use mathlib.Core.Path.{_≡_, refl, sym, ap, _∙_}
 use lib.ListN.{length, getD, drop}
 use Rattle.places.specs.InternalFind.{Room}
 use Rattle.places.specs.Moves.{position, nextIn}
+use Rattle.places.proofs.ClassLaws.{column-found, passed-found}
 use Rattle.places.proofs.FindLaws.{at-byte, over-move, room-next}
 
 abbrev Inv-loop : tie.InvT-loop
@@ -21,31 +22,36 @@ loop-holds c = (c .before .pre, refl)
 
 returns : tie.Need-returns Inv-loop μ-loop
 returns c =
-    let loop = c .before .before .before .before .loop in
+    let class-of = c .before .before .class-of in
+    let loop = c .before .before .before .before .before .loop in
+    let start = c .before .before .before .before .before .before .before in
     record {
       room = loop .inv .0;
       same = loop .inv .1;
-      stops = λ _. sym (c .before .passes .ensures) ∙ not-true _ (c .if1 .taken);
+      stops = λ _. passed-found (getD (start .args .report .now) (loop .at) 0) (class-of .ensures) (start .args .mark) (c .before .passed-by .ensures)
+          ∙ not-true _ (c .if1 .taken);
     }
 
-column-after-requires : tie.Need-column-after-requires Inv-loop μ-loop
-column-after-requires c κs = let room = c .before .before .before .before .before .loop .inv .0 in omega (arith, room .fits, room .within)
+column-by-requires : tie.Need-column-by-requires Inv-loop μ-loop
+column-by-requires c κs =
+    let room = c .before .before .before .before .before .loop .inv .0 in
+    omega (arith, room .fits, room .within)
 
 loop-again : tie.Need-loop-again Inv-loop μ-loop
 loop-again c =
-    let passes = c .before .before .before .passes in
+    let passed-by = c .before .before .passed-by in
+    let class-of = c .before .before .before .class-of in
     let loop-test = c .before .before .before .before .before .loop-test in
     let loop = c .before .before .before .before .before .before .loop in
-    let start = c .before .before .before .before .before .before .before .before in (
-      room-next (loop .inv .0) (loop-test .taken) (getD (start .args .report .now) (loop .at) 0)
-          (c .column-after .ensures),
+    let args = c .before .before .before .before .before .before .before .before .args in
+    let byte = getD (args .report .now) (loop .at) 0 in
+    let column = column-found byte (class-of .ensures) (loop .column) (c .column-by .ensures) in (
+      room-next (loop .inv .0) (loop-test .taken) byte column,
       loop .inv .1
-          ∙ at-byte (start .args .report .now) (loop .at) (loop .column) (start .args .mark) (loop-test .taken)
-          ∙ over-move (getD (start .args .report .now) (loop .at) 0) (drop ((loop .at) + 1) (start .args .report .now))
-          (loop .at) (loop .column) (start .args .mark)
-          (sym (passes .ensures) ∙ not-false _ (c .before .before .if1 .left))
-          ∙ ap (λ (d : ℕ). nextIn (start .args .report .now) (position ((loop .at) + 1) d (start .args .mark)))
-          (sym (c .column-after .ensures)),
+          ∙ at-byte (args .report .now) (loop .at) (loop .column) (args .mark) (loop-test .taken)
+          ∙ over-move byte (drop ((loop .at) + 1) (args .report .now)) (loop .at) (loop .column) (args .mark)
+          (passed-found byte (class-of .ensures) (args .mark) (passed-by .ensures) ∙ not-false _ (c .before .if1 .left))
+          ∙ ap (λ (d : ℕ). nextIn (args .report .now) (position ((loop .at) + 1) d (args .mark))) (sym column),
     )
 
 returns-2 : tie.Need-returns-2 Inv-loop μ-loop
@@ -54,5 +60,5 @@ returns-2 c = record { room = c .before .loop .inv .0; same = c .before .loop .i
 pub skip-spec : {M : Type 1} → statement M
 skip-spec =
     tie.close
-    (tie.spec Inv-loop μ-loop loop-holds (λ c. omega arith) (λ c κs. tt) returns (λ c. omega arith)
-    column-after-requires (λ c. omega arith) (λ c. omega arith) loop-again returns-2)
+    (tie.spec Inv-loop μ-loop loop-holds (λ c. omega arith) (λ c κs. tt) (λ c κs. tt) returns
+    column-by-requires (λ c. omega arith) (λ c. omega arith) loop-again returns-2)

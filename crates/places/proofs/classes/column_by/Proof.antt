@@ -1,12 +1,12 @@
--- `places::classes::column_after` meets its contract.
+-- `places::classes::column_by` meets its contract.
 use Rattle.places.proofs.ClassLaws.{classes}
-use Rattle.places.proofs.classes.column_after.Statement.{statement}
-use Rattle.places.proofs.classes.column_after.Tie as tie
+use Rattle.places.proofs.classes.column_by.Statement.{statement}
+use Rattle.places.proofs.classes.column_by.Tie as tie
 
-pub column-after-spec : {M : Type 1} → statement M
-column-after-spec =
+pub column-by-spec : {M : Type 1} → statement M
+column-by-spec =
     tie.close
-    (tie.spec (λ c κs. tt) (λ c. search classes) (λ c. search classes) (λ c. search classes)
+    (tie.spec (λ c. search classes) (λ c. search classes) (λ c. search classes)
     (λ c. search classes) (λ c. search classes) (λ c. search classes) (λ c. search classes)
     (λ c. search classes) (λ c. search classes) (λ c. search classes) (λ c. search classes)
     (λ c. search classes) (λ c. search classes) (λ c. search classes) (λ c. search classes)
