@@ -21,9 +21,7 @@ pub fn class_of(b: u8) -> Class
         b'\t' => Class::Tab,
         13 | 32 => Class::Blank,
         0..=31 | 127 => Class::Refused,
-        b':' | b',' | b'(' | b'[' | b']' | b'=' | b'%' => Class::Single,
-        // Next to `(` and `:`; in their arm each pair would be tested as a range.
-        b')' | b';' => Class::Single,
+        b':' | b',' | b'(' | b')' | b'[' | b']' | b'=' | b';' | b'%' => Class::Single,
         b'0'..=b'9' => Class::Digit,
         128..=191 => Class::Continuation,
         _ => Class::Run,

@@ -1,4 +1,4 @@
--- Columns of a report (01, "The scanner"). A report is the list of its bytes.
+-- Columns of a report (01, "The scanner"; 02, Note 3). A report is the list of its bytes.
 use Prim.Native.Nat.{ℕ, zero, suc, _+_, _*_, _/_}
 use mathlib.Core.List.{List, [], _∷_}
 use lib.ListN.{getD}
@@ -7,7 +7,7 @@ use Rattle.byte_class.specs.declared.Class.{Class}
 use Rattle.byte_class.specs.declared.Class.the-variants.{Break, Tab, Blank, Single, Digit, Run, Continuation, Refused}
 
 -- The column behind a byte of a class: "Byte 10 ..", 0; "Byte 9 ..", the next higher multiple of 8; "Each byte but 9 and
--- 10", one more.
+-- 10", one more; but "a byte from 128 to 191 no longer advances the column", wherever it stands.
 abbrev pub columnBy : Class → ℕ → ℕ
 columnBy Break c = 0
 columnBy Tab c = (c / 8 + 1) * 8

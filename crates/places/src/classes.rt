@@ -14,12 +14,8 @@ pub(crate) fn column_by(class: Class, column: u32) -> u32
     match class {
         Class::Break => 0,
         Class::Tab => (column / 8 + 1) * 8,
-        Class::Blank => column + 1,
-        Class::Single => column + 1,
-        Class::Digit => column + 1,
-        Class::Run => column + 1,
         Class::Continuation => column,
-        Class::Refused => column + 1,
+        _ => column + 1,
     }
 }
 

@@ -50,7 +50,7 @@ fn skip(report: &[u8], first: usize, start: u32, mark: bool) -> Spot
     Spot { at, column }
 }
 
-// Where the run at an offset ends.
+// Where the run that is at an offset, or goes on there, ends.
 fn run_end(report: &[u8], first: usize, start: u32) -> Spot
     requires { ⌜ Room (now report) first start ⌝ }
     ensures { λ r. ⌜ RunEnd (now (report .entry)) first start r ⌝ }
@@ -59,10 +59,11 @@ fn run_end(report: &[u8], first: usize, start: u32) -> Spot
     let mut column = start;
     while at < report.len() {
         let class = class_of(report[at]);
+        let next = column_by(class, column);
         if !run_class(class) {
             return Spot { at, column };
         }
-        column = column_by(class, column);
+        column = next;
         at += 1;
     }
     Spot { at, column }
@@ -111,8 +112,9 @@ fn find_within(report: &[u8], at: usize, column: u32, mark: bool) -> Found
         return line_end(mark, place, offset, offset, place);
     }
     let class = class_of(report[offset]);
+    let behind = column_by(class, place);
     if run_class(class) {
-        let end = run_end(report, offset, place);
+        let end = run_end(report, offset + 1, behind);
         let next = end.at;
         return spelling(place, offset, next - offset, next, end.column);
     }
@@ -120,7 +122,7 @@ fn find_within(report: &[u8], at: usize, column: u32, mark: bool) -> Found
     if passed_by(class, false) {
         return line_end(true, place, offset, offset + 1, 0);
     }
-    spelling(place, offset, 1, offset + 1, column_by(class, place))
+    spelling(place, offset, 1, offset + 1, behind)
 }
 
 // The end of a line that has had a token, or nothing.

@@ -1,9 +1,10 @@
 -- `byte_class::class_of` meets its contract. The match asks first whether the byte is one of its lone numbers,
 -- and then goes through its ranges upwards.
 use Prim.Native.Nat.{ℕ, _≤_, _<_, _+_}
-use mathlib.Core.Path.{_≡_}
+use mathlib.Core.Path.{_≡_, refl}
 use mathlib.Core.Bool.{Bool, true, false, cond, _&&_}
-use mathlib.Core.Logic.{_⊎_, inl, inr}
+use mathlib.Core.Logic.{_⊎_, inl, inr, ⊎-elim}
+use native.Mathlib.Nat.{eq-or-lt-of-le}
 use native.Mathlib.Omega.{arith}
 use borrow.Author.Tests.{lt-ltb, le-ltb, le-leb, lt-leb, ne-eqb}
 use lib.Dec.{leb}
@@ -12,65 +13,60 @@ use Rattle.byte_class.specs.Bytes.{isSingle, classOf}
 use Rattle.byte_class.proofs.class_of.Statement.{statement}
 use Rattle.byte_class.proofs.class_of.Tie as tie
 
--- The single bytes of the first arm, and of the second.
-abbrev Seven : ℕ → Type 0
-Seven b = (b ≡ 37) ⊎ ((b ≡ 40) ⊎ ((b ≡ 44) ⊎ ((b ≡ 58) ⊎ ((b ≡ 61) ⊎ ((b ≡ 91) ⊎ (b ≡ 93))))))
+-- The single bytes that have no single byte beside them.
+abbrev Lone : ℕ → Type 0
+Lone b = (b ≡ 37) ⊎ ((b ≡ 44) ⊎ ((b ≡ 61) ⊎ ((b ≡ 91) ⊎ (b ≡ 93))))
 
-abbrev Two : ℕ → Type 0
-Two b = (b ≡ 41) ⊎ (b ≡ 59)
-
-seven : (b : ℕ) → Seven b → Single ≡ classOf b
+lone : (b : ℕ) → Lone b → Single ≡ classOf b
 unfolding isSingle classOf
-seven b (inl e) = rw e
-seven b (inr (inl e)) = rw e
-seven b (inr (inr (inl e))) = rw e
-seven b (inr (inr (inr (inl e)))) = rw e
-seven b (inr (inr (inr (inr (inl e))))) = rw e
-seven b (inr (inr (inr (inr (inr (inl e)))))) = rw e
-seven b (inr (inr (inr (inr (inr (inr e)))))) = rw e
+lone b (inl e) = rw e
+lone b (inr (inl e)) = rw e
+lone b (inr (inr (inl e))) = rw e
+lone b (inr (inr (inr (inl e)))) = rw e
+lone b (inr (inr (inr (inr e)))) = rw e
 
-two : (b : ℕ) → Two b → Single ≡ classOf b
-unfolding isSingle classOf
-two b (inl e) = rw e
-two b (inr e) = rw e
+-- The other four are two pairs.
+paired : (b k : ℕ) → Single ≡ classOf k → Single ≡ classOf (k + 1) → k ≤ b → b < k + 2 → Single ≡ classOf b
+paired b k p q l u =
+    ⊎-elim (λ e. rw (← e) p) (λ a. let e : b ≡ k + 1 = omega arith in rw e q) (eq-or-lt-of-le l)
 
--- None of the lone numbers, in the order of the arms.
-abbrev Rest : ℕ → Type 0
-Rest b = ((((((Unit × (b ≡ 10 → ⊥)) × (b ≡ 9 → ⊥)) × (b ≡ 13 → ⊥)) × (b ≡ 32 → ⊥)) × (b ≡ 127 → ⊥)) × (Seven b → ⊥)) × (Two b → ⊥)
+-- A byte above 32 that is not refused, and in neither pair.
+abbrev Apart : ℕ → Type 0
+Apart b = (33 ≤ b) × (b ≡ 127 → ⊥) × (b ≡ 40 → ⊥) × (b ≡ 41 → ⊥) × (b ≡ 58 → ⊥) × (b ≡ 59 → ⊥)
 
-not-single : (b : ℕ) → (Seven b → ⊥) → (Two b → ⊥) → isSingle b ≡ false
+not-single : (b : ℕ) → Apart b → (Lone b → ⊥) → isSingle b ≡ false
 unfolding isSingle
-not-single b s t =
+not-single b a l =
     rw (
-      ne-eqb b 58 (λ e. s (inr (inr (inr (inl e))))),
-      ne-eqb b 44 (λ e. s (inr (inr (inl e)))),
-      ne-eqb b 40 (λ e. s (inr (inl e))),
-      ne-eqb b 41 (λ e. t (inl e)),
-      ne-eqb b 91 (λ e. s (inr (inr (inr (inr (inr (inl e))))))),
-      ne-eqb b 93 (λ e. s (inr (inr (inr (inr (inr (inr e))))))),
-      ne-eqb b 61 (λ e. s (inr (inr (inr (inr (inl e)))))),
-      ne-eqb b 59 (λ e. t (inr e)),
-      ne-eqb b 37 (λ e. s (inl e)),
+      ne-eqb b 58 (a .4),
+      ne-eqb b 44 (λ e. l (inr (inl e))),
+      ne-eqb b 40 (a .2),
+      ne-eqb b 41 (a .3),
+      ne-eqb b 91 (λ e. l (inr (inr (inr (inl e))))),
+      ne-eqb b 93 (λ e. l (inr (inr (inr (inr e))))),
+      ne-eqb b 61 (λ e. l (inr (inr (inl e)))),
+      ne-eqb b 59 (a .5),
+      ne-eqb b 37 (λ e. l (inl e)),
     )
 
--- Such a byte from 32 on is a digit, a continuation byte or a run byte.
+-- Such a byte, if it is not single, is a digit, a continuation byte or a run byte.
 plain :
     (b : ℕ) (digit continuation : Bool)
-    → 32 ≤ b
-    → Rest b
+    → Apart b
+    → (Lone b → ⊥)
     → (leb 48 b && leb b 57) ≡ digit
     → (leb 128 b && leb b 191) ≡ continuation
     → cond digit Digit (cond continuation Continuation Run) ≡ classOf b
 unfolding classOf
-plain b digit continuation l r e f =
+plain b digit continuation a l e f =
     rw (
-      ne-eqb b 10 (r .0 .0 .0 .0 .0 .0 .1),
-      ne-eqb b 9 (r .0 .0 .0 .0 .0 .1),
-      ne-eqb b 13 (r .0 .0 .0 .0 .1),
-      ne-eqb b 32 (r .0 .0 .0 .1),
-      le-ltb b 32 l,
-      ne-eqb b 127 (r .0 .0 .1),
-      not-single b (r .0 .1) (r .1),
+      ne-eqb b 10 (omega arith),
+      ne-eqb b 9 (omega arith),
+      ne-eqb b 13 (omega arith),
+      ne-eqb b 32 (omega arith),
+      le-ltb b 32 (omega arith),
+      ne-eqb b 127 (a .1),
+      not-single b a l,
       e,
       f,
     )
@@ -97,66 +93,79 @@ unfolding isSingle classOf
 returns-2 c = rw (c .match .keys2)
 
 returns-3 : tie.Need-returns-3
-returns-3 c = seven _ (c .match .keys6)
+returns-3 c =
+    let byte = c .before .before .before .before .before .before .args .b in
+    let rest = c .before .before .before .before .before .match .rest in
+    plain byte true false (omega arith) (rest .1)
+    (between byte 48 57 (omega arith) (omega arith)) (below byte 128 191 (omega arith))
 
 returns-4 : tie.Need-returns-4
-returns-4 c = two _ (c .match .keys7)
+returns-4 c =
+    let byte = c .before .before .before .before .before .before .before .before .before .args .b in
+    let rest = c .before .before .before .before .before .before .before .before .match .rest in
+    plain byte false true (omega arith, rest .0 .1, omega arith, omega arith, omega arith, omega arith) (rest .1)
+    (above byte 48 57 (omega arith) (omega arith)) (between byte 128 191 (past byte 127 (c .before .if7 .left) (rest .0 .1)) (omega arith))
 
 returns-5 : tie.Need-returns-5
 returns-5 c =
-    let byte = c .before .before .before .before .args .b in
-    let rest = c .before .before .before .match .rest in
-    plain byte true false (omega arith) rest
-    (between byte 48 57 (omega arith) (omega arith)) (below byte 128 191 (omega arith))
+    let byte = c .before .before .before .args .b in
+    let rest = c .before .before .match .rest in
+    plain byte false false
+    (past byte 32 (c .before .if1 .left) (rest .0 .0 .1), omega arith, omega arith, omega arith, omega arith, omega arith) (rest .1)
+    (below byte 48 57 (omega arith)) (below byte 128 191 (omega arith))
 
 returns-6 : tie.Need-returns-6
 returns-6 c =
-    let byte = c .before .before .before .before .before .before .args .b in
-    let rest = c .before .before .before .before .before .match .rest in
-    plain byte false true (omega arith) rest
-    (above byte 48 57 (omega arith) (omega arith)) (between byte 128 191 (past byte 127 (c .before .if4 .left) (rest .0 .0 .1)) (omega arith))
+    let byte = c .before .before .before .before .before .args .b in
+    let rest = c .before .before .before .before .match .rest in
+    plain byte false false (omega arith) (rest .1)
+    (below byte 48 57 (omega arith)) (below byte 128 191 (omega arith))
 
 returns-7 : tie.Need-returns-7
 returns-7 c =
-    let byte = c .before .before .before .args .b in
-    let rest = c .before .before .match .rest in
-    plain byte false false (omega arith) rest
-    (below byte 48 57 (omega arith)) (below byte 128 191 (omega arith))
+    let byte = c .before .before .before .before .before .before .before .before .args .b in
+    let rest = c .before .before .before .before .before .before .before .match .rest in
+    plain byte false false (omega arith) (rest .1)
+    (above byte 48 57 (omega arith) (omega arith)) (below byte 128 191 (omega arith))
 
 returns-8 : tie.Need-returns-8
 returns-8 c =
-    let byte = c .before .before .before .before .before .args .b in
-    let rest = c .before .before .before .before .match .rest in
-    plain byte false false (omega arith) rest
-    (above byte 48 57 (omega arith) (omega arith)) (below byte 128 191 (omega arith))
+    let byte = c .before .before .before .before .before .before .before .before .before .args .b in
+    let rest = c .before .before .before .before .before .before .before .before .match .rest in
+    plain byte false false (omega arith) (rest .1)
+    (above byte 48 57 (omega arith) (omega arith)) (above byte 128 191 (omega arith) (omega arith))
 
 returns-9 : tie.Need-returns-9
-returns-9 c =
-    let byte = c .before .before .before .before .before .before .args .b in
-    let rest = c .before .before .before .before .before .match .rest in
-    plain byte false false (omega arith) rest
-    (above byte 48 57 (omega arith) (omega arith)) (above byte 128 191 (omega arith) (omega arith))
+returns-9 c = lone _ (c .match .keys6)
 
 returns-10 : tie.Need-returns-10
 unfolding isSingle classOf
-returns-10 c = rw (c .match .keys3)
+returns-10 c = paired _ 40 refl refl (c .before .if2 .left) (c .if3 .taken)
 
 returns-11 : tie.Need-returns-11
 unfolding isSingle classOf
-returns-11 c = rw (c .match .keys4)
+returns-11 c = paired _ 58 refl refl (c .before .if5 .left) (c .if6 .taken)
 
 returns-12 : tie.Need-returns-12
 unfolding isSingle classOf
-returns-12 c = rw (c .match .keys5)
+returns-12 c = rw (c .match .keys3)
 
 returns-13 : tie.Need-returns-13
+unfolding isSingle classOf
+returns-13 c = rw (c .match .keys4)
+
+returns-14 : tie.Need-returns-14
+unfolding isSingle classOf
+returns-14 c = rw (c .match .keys5)
+
+returns-15 : tie.Need-returns-15
 unfolding classOf
-returns-13 c = let r = c .before .match .rest in
+returns-15 c = let r = c .before .match .rest in
     rw (
-      ne-eqb _ 10 (r .0 .0 .0 .0 .0 .0 .1),
-      ne-eqb _ 9 (r .0 .0 .0 .0 .0 .1),
-      ne-eqb _ 13 (r .0 .0 .0 .0 .1),
-      ne-eqb _ 32 (r .0 .0 .0 .1),
+      ne-eqb _ 10 (r .0 .0 .0 .0 .0 .1),
+      ne-eqb _ 9 (r .0 .0 .0 .0 .1),
+      ne-eqb _ 13 (r .0 .0 .0 .1),
+      ne-eqb _ 32 (r .0 .0 .1),
       lt-ltb _ 32 (c .if1 .taken),
     )
 
@@ -164,4 +173,4 @@ pub class-of-spec : {M : Type 1} → statement M
 class-of-spec =
     tie.close
     (tie.spec returns returns-2 returns-3 returns-4 returns-5 returns-6 returns-7 returns-8 returns-9 returns-10
-    returns-11 returns-12 returns-13)
+    returns-11 returns-12 returns-13 returns-14 returns-15)

@@ -57,29 +57,28 @@ loop-holds c = (c .before .pre, refl, refl)
 
 returns : tie.Need-returns Inv-loop μ-loop
 returns c =
-    let class-of = c .before .before .class-of in
-    let loop-test = c .before .before .before .before .loop-test in
-    let loop = c .before .before .before .before .before .loop in
-    let args = c .before .before .before .before .before .before .before .args in
+    let class-of = c .before .before .before .class-of in
+    let loop-test = c .before .before .before .before .before .loop-test in
+    let loop = c .before .before .before .before .before .before .loop in
+    let args = c .before .before .before .before .before .before .before .before .args in
     run-stops (args .report .now) (args .first) (args .start) (loop .at) (loop .column) (loop .inv) (loop-test .taken)
     (run-found (getD (args .report .now) (loop .at) 0) (class-of .ensures) (c .before .run-class .ensures) ∙ not-true _ (c .if1 .taken))
 
 column-by-requires : tie.Need-column-by-requires Inv-loop μ-loop
 column-by-requires c κs =
-    let room = c .before .before .before .before .before .loop .inv .0 in
+    let room = c .before .before .before .loop .inv .0 in
     omega (arith, room .fits, room .within)
 
 loop-again : tie.Need-loop-again Inv-loop μ-loop
 loop-again c =
-    let run-class = c .before .before .run-class in
     let class-of = c .before .before .before .class-of in
     let loop-test = c .before .before .before .before .before .loop-test in
     let loop = c .before .before .before .before .before .before .loop in
     let args = c .before .before .before .before .before .before .before .before .args in
     let byte = getD (args .report .now) (loop .at) 0 in
     run-goes (args .report .now) (args .first) (args .start) (loop .at) (loop .column) (loop .inv) (loop-test .taken)
-    (run-found byte (class-of .ensures) (run-class .ensures) ∙ not-false _ (c .before .if1 .left))
-    (column-found byte (class-of .ensures) (loop .column) (c .column-by .ensures))
+    (run-found byte (class-of .ensures) (c .before .run-class .ensures) ∙ not-false _ (c .if1 .left))
+    (column-found byte (class-of .ensures) (loop .column) (c .before .before .column-by .ensures))
 
 returns-2 : tie.Need-returns-2 Inv-loop μ-loop
 returns-2 c =
@@ -90,5 +89,5 @@ returns-2 c =
 pub run-end-spec : {M : Type 1} → statement M
 run-end-spec =
     tie.close
-    (tie.spec Inv-loop μ-loop loop-holds (λ c. omega arith) (λ c κs. tt) (λ c κs. tt) returns
-    column-by-requires (λ c. omega arith) (λ c. omega arith) loop-again returns-2)
+    (tie.spec Inv-loop μ-loop loop-holds (λ c. omega arith) (λ c κs. tt) column-by-requires (λ c κs. tt) returns
+    (λ c. omega arith) (λ c. omega arith) loop-again returns-2)
