@@ -112,17 +112,18 @@ fn find_within(report: &[u8], at: usize, column: u32, mark: bool) -> Found
         return line_end(mark, place, offset, offset, place);
     }
     let class = class_of(report[offset]);
+    let second = offset + 1;
     let behind = column_by(class, place);
     if run_class(class) {
-        let end = run_end(report, offset + 1, behind);
+        let end = run_end(report, second, behind);
         let next = end.at;
         return spelling(place, offset, next - offset, next, end.column);
     }
     // Of the bytes that stand here only a break is passed over where the line has had no token.
     if passed_by(class, false) {
-        return line_end(true, place, offset, offset + 1, 0);
+        return line_end(true, place, offset, second, 0);
     }
-    spelling(place, offset, 1, offset + 1, behind)
+    spelling(place, offset, 1, second, behind)
 }
 
 // The end of a line that has had a token, or nothing.

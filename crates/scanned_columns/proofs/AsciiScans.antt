@@ -1,12 +1,12 @@
 -- Where no byte is over 127 a report scans as it did before Note 3 of 02: its columns, places, tokens, steps and answer are
 -- those of the rule of 01, which is stated first.
 use Prim.Native.Nat.{ℕ, zero, suc, _+_, _*_, _/_, _≤_, _<_}
-use mathlib.Core.Path.{_≡_, refl, sym, ap, ap₂, _∙_}
+use mathlib.Core.Path.{_≡_, refl, ap, ap₂, _∙_}
 use mathlib.Core.Bool.{Bool, true, false, cond, _&&_, _||_}
 use mathlib.Core.List.{List, [], _∷_, _++_, map}
 use mathlib.Core.Option.{none}
 use lib.Dec.{leb, ltb, eqb}
-use lib.ListN.{length, getD, take, drop, length-drop}
+use lib.ListN.{length, getD, take, drop}
 use native.Mathlib.Omega.{arith}
 use borrow.Author.Tests.{leb-true, le-leb, lt-leb, le-ltb, ne-eqb}
 use Rattle.table.specs.Limits.{mostTokens}
@@ -15,7 +15,7 @@ use Rattle.table.proofs.Every.{and-left}
 use Rattle.byte_class.specs.Bytes.{isSingle, classOf}
 use Rattle.byte_class.specs.declared.Class.{Class}
 use Rattle.byte_class.specs.declared.Class.the-variants.{Break, Tab, Blank, Single, Digit, Run, Continuation, Refused}
-use Rattle.grammar_file.specs.File.{keywords, fieldsOf, fileAnswer}
+use Rattle.grammar_file.specs.File.{fileAnswer}
 use Rattle.report_checks.specs.Report.{fails8}
 use Rattle.places.specs.Columns.{columnBy, columnAfter, columnAt, columnOver}
 use Rattle.places.specs.Places.{Place, runLength}

@@ -1,5 +1,5 @@
 -- In a report in UTF-8 a letter is one column, however many bytes it has.
-use Prim.Native.Nat.{ℕ, zero, suc, _+_, _*_, _/_, _%_, _≤_, _<_}
+use Prim.Native.Nat.{ℕ, zero, suc, _+_, _/_, _%_, _≤_, _<_}
 use mathlib.Core.Path.{_≡_, refl, sym, ap, _∙_}
 use mathlib.Core.Bool.{Bool, true, false, cond}
 use mathlib.Core.List.{List, [], _∷_, _++_}
@@ -8,7 +8,7 @@ use lib.ListN.{length, getD, drop, drop-of-length-le, List·getD-append}
 use native.Mathlib.Nat.{le-of-eq, zero-add}
 use native.Mathlib.Numerals.{add-one}
 use native.Mathlib.Omega.{arith}
-use borrow.Author.Tests.{ltb-true, ltb-false, le-leb, lt-leb, ne-eqb}
+use borrow.Author.Tests.{ltb-true, le-leb, lt-leb, ne-eqb}
 use Rattle.byte_class.specs.Bytes.{classOf}
 use Rattle.places.specs.Columns.{columnAfter, columnAt, columnOver}
 use Rattle.places.proofs.FindLaws.{from-one}

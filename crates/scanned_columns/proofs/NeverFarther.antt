@@ -1,13 +1,13 @@
 -- Beside the rule of 01 no token has moved to the right, and nothing but columns has changed: a report that was scanned is
 -- scanned still, and 9 refuses fewer. A column is at most 8 a byte, as before, and tabs reach that.
-use Prim.Native.Nat.{ℕ, zero, suc, _+_, _*_, _/_, _≤_, _<_}
-use mathlib.Core.Path.{_≡_, refl, ap, _∙_}
-use mathlib.Core.Bool.{Bool, true, false, cond, _||_, true≢false}
+use Prim.Native.Nat.{ℕ, zero, suc, _+_, _*_, _/_, _≤_}
+use mathlib.Core.Path.{_≡_, refl, ap}
+use mathlib.Core.Bool.{Bool, true, false, cond, _||_}
 use mathlib.Core.List.{List, [], _∷_, _++_}
 use lib.Dec.{leb, ltb, eqb}
 use lib.ListN.{length, getD, drop, replicate, getD-replicate}
 use native.Mathlib.Omega.{arith}
-use borrow.Author.Tests.{leb-true, le-ltb, ltb-false, ne-eqb, eqb-true}
+use borrow.Author.Tests.{leb-true, le-ltb, ltb-false, ne-eqb}
 use Rattle.table.specs.Limits.{mostTokens, mostColumn}
 use Rattle.table.specs.Answer.{Answer, given, refused, refusedAt, refuseIf, andThen}
 use Rattle.table.proofs.Every.{and-left, both-false}

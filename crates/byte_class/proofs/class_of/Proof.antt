@@ -84,6 +84,12 @@ between b k n l h = rw (le-leb k b l, le-leb b n h)
 past : (b k : ℕ) → k ≤ b → (b ≡ k → ⊥) → k + 1 ≤ b
 past b k l n = omega arith
 
+up-to : (b n : ℕ) → b < n + 1 → b ≤ n
+up-to b n h = omega arith
+
+behind : (b n : ℕ) → n + 1 ≤ b → n < b
+behind b n h = omega arith
+
 returns : tie.Need-returns
 unfolding isSingle classOf
 returns c = rw (c .match .keys1)
@@ -104,7 +110,7 @@ returns-4 c =
     let byte = c .before .before .before .before .before .before .before .before .before .args .b in
     let rest = c .before .before .before .before .before .before .before .before .match .rest in
     plain byte false true (omega arith, rest .0 .1, omega arith, omega arith, omega arith, omega arith) (rest .1)
-    (above byte 48 57 (omega arith) (omega arith)) (between byte 128 191 (past byte 127 (c .before .if7 .left) (rest .0 .1)) (omega arith))
+    (above byte 48 57 (omega arith) (omega arith)) (between byte 128 191 (past byte 127 (c .before .if7 .left) (rest .0 .1)) (up-to byte 191 (c .if8 .taken)))
 
 returns-5 : tie.Need-returns-5
 returns-5 c =
@@ -133,7 +139,7 @@ returns-8 c =
     let byte = c .before .before .before .before .before .before .before .before .before .args .b in
     let rest = c .before .before .before .before .before .before .before .before .match .rest in
     plain byte false false (omega arith) (rest .1)
-    (above byte 48 57 (omega arith) (omega arith)) (above byte 128 191 (omega arith) (omega arith))
+    (above byte 48 57 (omega arith) (omega arith)) (above byte 128 191 (omega arith) (behind byte 191 (c .if8 .left)))
 
 returns-9 : tie.Need-returns-9
 returns-9 c = lone _ (c .match .keys6)

@@ -3,7 +3,7 @@ use borrow.Author.Needs.{needs}
 use Rattle.places.proofs.find_within.Statement.{statement}
 use Rattle.places.proofs.find_within.Tie as tie
 use native.Mathlib.Omega.{arith}
-use mathlib.Core.Path.{sym, _∙_}
+use mathlib.Core.Path.{_∙_}
 use mathlib.Core.Bool.{false}
 use Prim.Native.Nat.{_<_}
 use lib.ListN.{length, getD}
@@ -23,15 +23,15 @@ returns c =
 shared-slice-read-class-of : tie.Need-shared-slice-read-class-of
 shared-slice-read-class-of c = omega (arith, c .before .before .skip .ensures .room .within)
 
+add-second : tie.Need-add-second
+add-second c =
+    let skip = c .before .before .before .skip in
+    omega (arith, skip .ensures .room .within)
+
 column-by-requires : tie.Need-column-by-requires
 column-by-requires c κs =
     let skip = c .before .before .before .skip in
     omega (arith, skip .ensures .room .within, skip .ensures .room .fits)
-
-add-run-end : tie.Need-add-run-end
-add-run-end c =
-    let skip = c .before .before .before .before .before .before .skip in
-    omega (arith, skip .ensures .room .within)
 
 run-end-requires : tie.Need-run-end-requires
 run-end-requires c κs =
@@ -63,11 +63,6 @@ returns-2 c =
     (run-begun (args .report .now) (skip .result .at) (skip .result .column) inside in-run column (c .before .run-end .ensures))
     (c .spelling .ensures)
 
-add-line-end : tie.Need-add-line-end
-add-line-end c =
-    let skip = c .before .before .before .before .before .before .before .before .skip in
-    omega (arith, skip .ensures .room .within)
-
 returns-3 : tie.Need-returns-3
 returns-3 c =
     let class-of = c .before .before .before .before .before .before .class-of in
@@ -79,11 +74,6 @@ returns-3 c =
     (passed-found (getD (args .report .now) (skip .result .at) 0) (class-of .ensures) false (c .before .before .passed-by .ensures)
     ∙ c .before .if3 .taken)
     (c .line-end2 .ensures)
-
-add-spelling : tie.Need-add-spelling
-add-spelling c =
-    let skip = c .before .before .before .before .before .before .before .before .skip in
-    omega (arith, skip .ensures .room .within)
 
 returns-4 : tie.Need-returns-4
 returns-4 c =
@@ -104,6 +94,6 @@ returns-4 c =
 pub find-within-spec : {M : Type 1} → statement M
 find-within-spec =
     tie.close
-    (tie.spec skip-requires (λ c κs. search needs) returns shared-slice-read-class-of (λ c κs. search needs)
-    column-by-requires (λ c κs. search needs) add-run-end run-end-requires sub-spelling (λ c κs. search needs) returns-2
-    (λ c κs. search needs) add-line-end (λ c κs. search needs) returns-3 add-spelling (λ c κs. search needs) returns-4)
+    (tie.spec skip-requires (λ c κs. search needs) returns shared-slice-read-class-of (λ c κs. search needs) add-second
+    column-by-requires (λ c κs. search needs) run-end-requires sub-spelling (λ c κs. search needs) returns-2
+    (λ c κs. search needs) (λ c κs. search needs) returns-3 (λ c κs. search needs) returns-4)
