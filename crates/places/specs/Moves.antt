@@ -7,7 +7,7 @@ use lib.ListN.{length, take, drop}
 use lib.Dec.{ltb}
 use Rattle.byte_class.specs.Bytes.{classOf}
 use Rattle.byte_class.specs.declared.Class.{Class}
-use Rattle.byte_class.specs.declared.Class.the-variants.{Refused as RefusedByte, Break, Tab, Blank, Single, Digit, Run, Continuation}
+use Rattle.byte_class.specs.declared.Class.the-variants.{Break, Tab, Blank, Single, Digit, Run, Continuation, Refused}
 use Rattle.places.specs.Columns.{columnAfter, columnOver}
 use Rattle.places.specs.Places.{Place, runLength}
 use Rattle.places.specs.declared.Found.{Found}
@@ -41,7 +41,7 @@ moveBy Single m o c next n after rest = move false c o 1 (position (o + 1) next 
 moveBy Digit m o c next n after rest = move false c o n (position (o + n) after true)
 moveBy Run m o c next n after rest = move false c o n (position (o + n) after true)
 moveBy Continuation m o c next n after rest = move false c o n (position (o + n) after true)
-moveBy RefusedByte m o c next n after rest = rest
+moveBy Refused m o c next n after rest = rest
 
 -- The next place in the bytes from an offset on. At the end of the text a line that has had a token ends, its column
 -- kept; "after the last token the answer is none ..", and the offset is the end's.

@@ -7,7 +7,7 @@ use lib.Dec.{ltb}
 use Rattle.table.specs.Every.{every}
 use Rattle.byte_class.specs.Bytes.{classOf}
 use Rattle.byte_class.specs.declared.Class.{Class}
-use Rattle.byte_class.specs.declared.Class.the-variants.{Break, Tab, Blank, Single, Digit, Run, Continuation, Refused as RefusedByte}
+use Rattle.byte_class.specs.declared.Class.the-variants.{Break, Tab, Blank, Single, Digit, Run, Continuation, Refused}
 
 -- "a report of at most 65,535 bytes"
 abbrev pub mostBytes : ℕ
@@ -22,7 +22,7 @@ refusedClass Single = false
 refusedClass Digit = false
 refusedClass Run = false
 refusedClass Continuation = false
-refusedClass RefusedByte = true
+refusedClass Refused = true
 
 -- 8: "report over length or refused byte"
 unfoldable pub fails8 : List ℕ → Bool
