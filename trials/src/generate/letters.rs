@@ -12,7 +12,7 @@ pub(super) enum Letters {
 
 impl Letters {
     pub fn any(rng: &mut Rng) -> Self {
-        [Letters::None, Letters::Whole, Letters::Damaged][rng.weighted(&[42, 24, 34])]
+        [Letters::None, Letters::Whole, Letters::Damaged][rng.weighted(&[36, 27, 37])]
     }
 
     /// A letter, or bytes of a run that are no UTF-8.
