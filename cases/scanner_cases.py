@@ -287,7 +287,7 @@ for said, letter in (("b5", MICRO), ("b0", DEGREE), ("2013", THREE), ("1f600", F
           [(1, 0, 0, n + 2), (1, cols + 3, n + 3, 1), (2, cols + 4, n + 4, 0)], cols + 4)
     reads(f"letter {said} alone in a line", PLAIN, letter + b"\n" + letter,
           [(1, 0, 0, n), (2, cols, n, 0), (1, 0, n + 1, n), (2, cols, 2 * n + 1, 0)], cols)
-    # From column 6 and 7: the letter decides from where a tab goes on.
+    # Up to column 7, and up to 8: the letter decides where a tab goes.
     reads(f"letter {said} before a tab", PLAIN, b" " * (7 - cols) + letter + b"\tx",
           [(1, 7 - cols, 7 - cols, n), (1, 8, 8 - cols + n, 1), (2, 9, 9 - cols + n, 0)], 9)
     reads(f"letter {said} before a far tab", PLAIN, b" " * (8 - cols) + letter + b"\tx",

@@ -138,9 +138,9 @@ fn reports_of_every_answer() {
         );
     }
     for (class, least) in [
-        ("UTF-8 outside ASCII", 50.0),
+        ("bytes over 127", 50.0),
         ("a whole letter outside ASCII", 30.0),
-        ("damaged UTF-8", 25.0),
+        ("damaged UTF-8", 30.0),
         ("scanned, a keyword outside ASCII", 10.0),
     ] {
         assert!(stats.share("report", class) > least, "{class}");

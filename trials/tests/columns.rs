@@ -663,7 +663,7 @@ fn noted() {
         stats.note_report(&input, &scan(&input.file, report, input.room));
     }
     for (class, share) in [
-        ("UTF-8 outside ASCII", 75.0),
+        ("bytes over 127", 75.0),
         ("a whole letter outside ASCII", 50.0),
         ("damaged UTF-8", 50.0),
         ("scanned, a keyword outside ASCII", 25.0),

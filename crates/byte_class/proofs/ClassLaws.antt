@@ -1,10 +1,12 @@
--- What a function says of a class it says of a byte that has it.
-use Prim.Native.Nat.{ℕ}
+-- What a function says of a class it says of a byte that has it; and the class of a byte from 128 to 191.
+use Prim.Native.Nat.{ℕ, _≤_}
 use mathlib.Core.Path.{_≡_, sym, ap, _∙_}
 use mathlib.Core.List.{List}
+use native.Mathlib.Omega.{arith}
+use borrow.Author.Tests.{le-ltb, le-leb, lt-leb, ne-eqb}
 use denote.Enum.Declared.{tagOf}
 use types.Run.{OneOf}
-use Rattle.byte_class.specs.Bytes.{classOf}
+use Rattle.byte_class.specs.Bytes.{isSingle, classOf}
 use Rattle.byte_class.specs.declared.Class.{Class}
 use Rattle.byte_class.specs.declared.Class.the-variants.{Break, Tab, Blank, Single, Digit, Run, Continuation, Refused}
 use Rattle.byte_class.proofs.Class.{the-type}
@@ -28,3 +30,29 @@ each-class P a b c d e f g h Refused = h
 -- A byte whose class was found to be k.
 pub by-class : (b : ℕ) {r k : Class} → r ≡ classOf b → r ≡ k → {A : Type 0} (f : Class → A) {v : A} → f k ≡ v → v ≡ f (classOf b)
 by-class b e told f w = sym w ∙ ap f (sym told ∙ e)
+
+-- No other test holds of a byte from 128 to 191.
+pub continuation-class : (b : ℕ) → 128 ≤ b → b ≤ 191 → classOf b ≡ Continuation
+unfolding classOf isSingle
+continuation-class b low high =
+    rw (
+      ne-eqb b 10 (omega arith),
+      ne-eqb b 9 (omega arith),
+      ne-eqb b 13 (omega arith),
+      ne-eqb b 32 (omega arith),
+      le-ltb b 32 (omega arith),
+      ne-eqb b 127 (omega arith),
+      ne-eqb b 58 (omega arith),
+      ne-eqb b 44 (omega arith),
+      ne-eqb b 40 (omega arith),
+      ne-eqb b 41 (omega arith),
+      ne-eqb b 91 (omega arith),
+      ne-eqb b 93 (omega arith),
+      ne-eqb b 61 (omega arith),
+      ne-eqb b 59 (omega arith),
+      ne-eqb b 37 (omega arith),
+      le-leb 48 b (omega arith),
+      lt-leb b 57 (omega arith),
+      le-leb 128 b low,
+      le-leb b 191 high,
+    )

@@ -177,7 +177,18 @@ pub run-empty : (c : ℕ) → (runLength [] ≡ 0) × (columnOver (take (runLeng
 unfolding runLength columnOver
 run-empty c = (refl, refl)
 
--- A run whose first byte is known.
+-- A run from its first byte on, in a text.
+pub run-on :
+    (text : List ℕ) (at c : ℕ)
+    → at < length text
+    → inRun (getD text at 0) ≡ true
+    → (runLength (drop at text) ≡ suc (runLength (drop (at + 1) text)))
+    × (columnOver (take (runLength (drop at text)) (drop at text)) c
+    ≡ columnOver (take (runLength (drop (at + 1) text)) (drop (at + 1) text)) (columnAfter (getD text at 0) c))
+run-on text at c h q =
+    let more = run-more (getD text at 0) (drop (at + 1) text) c q in
+    (rw (from-one text at h) (more .0), rw (from-one text at h) (more .1))
+
 pub run-begun :
     (text : List ℕ) (at c : ℕ)
     → at < length text
@@ -187,14 +198,9 @@ pub run-begun :
     → {e : Spot}
     → RunEnd text (at + 1) d e
     → RunEnd text at c e
-run-begun text at c h q {d} w {e} r =
-    let more = run-more (getD text at 0) (drop (at + 1) text) c q in
-    let size : runLength (drop at text) ≡ suc (runLength (drop (at + 1) text)) = rw (from-one text at h) (more .0) in
-    let over :
-    columnOver (take (runLength (drop at text)) (drop at text)) c
-    ≡ columnOver (take (runLength (drop (at + 1) text)) (drop (at + 1) text)) (columnAfter (getD text at 0) c) =
-    rw (from-one text at h) (more .1) in
-    record { ends = omega (arith, r .ends); within = r .within; column = r .column ∙ rw w (sym over) }
+run-begun text at c h q w r =
+    let on = run-on text at c h q in
+    record { ends = omega (arith, r .ends, on .0); within = r .within; column = r .column ∙ rw w (sym (on .1)) }
 
 -- What was found behind the bytes that were passed over, by the byte there.
 module _ (text : List ℕ) (first start : ℕ) (m : Bool) (s : Spot) (k : Skipped text first start m s) where

@@ -59,6 +59,7 @@ fn run_end(report: &[u8], first: usize, start: u32) -> Spot
     let mut column = start;
     while at < report.len() {
         let class = class_of(report[at]);
+        // Before the test: with the test between them the compiler asks for digits and run bytes apart.
         let next = column_by(class, column);
         if !run_class(class) {
             return Spot { at, column };

@@ -1,5 +1,6 @@
 -- Where no byte is over 127 a report scans as it did before Note 3 of 02: its columns, places, tokens, steps and answer are
--- those of the rule of 01, which is stated first.
+-- those of the rule of 01, which is stated first. Where a token begins and how long it is hangs on no column and is not
+-- stated again; that this is as it was is in `NeverFarther`.
 use Prim.Native.Nat.{ℕ, zero, suc, _+_, _*_, _/_, _≤_, _<_}
 use mathlib.Core.Path.{_≡_, refl, ap, ap₂, _∙_}
 use mathlib.Core.Bool.{Bool, true, false, cond, _&&_, _||_}
@@ -8,13 +9,14 @@ use mathlib.Core.Option.{none}
 use lib.Dec.{leb, ltb, eqb}
 use lib.ListN.{length, getD, take, drop}
 use native.Mathlib.Omega.{arith}
-use borrow.Author.Tests.{leb-true, le-leb, lt-leb, le-ltb, ne-eqb}
+use borrow.Author.Tests.{leb-true, lt-leb}
 use Rattle.table.specs.Limits.{mostTokens}
 use Rattle.table.specs.Answer.{Answer, given, refuseIf, andThen}
-use Rattle.table.proofs.Every.{and-left}
+use Rattle.table.proofs.Every.{and-left, and-right}
 use Rattle.byte_class.specs.Bytes.{isSingle, classOf}
 use Rattle.byte_class.specs.declared.Class.{Class}
 use Rattle.byte_class.specs.declared.Class.the-variants.{Break, Tab, Blank, Single, Digit, Run, Continuation, Refused}
+use Rattle.byte_class.proofs.ClassLaws.{continuation-class}
 use Rattle.grammar_file.specs.File.{fileAnswer}
 use Rattle.report_checks.specs.Report.{fails8}
 use Rattle.places.specs.Columns.{columnBy, columnAfter, columnAt, columnOver}
@@ -73,58 +75,53 @@ oldNextPlace (b ∷ bytes) o c m =
 abbrev pub oldNextIn : List ℕ → Position → Move
 oldNextIn text p = oldNextPlace (drop (p .offset) text) (p .offset) (p .column) (p .mark)
 
+-- The classes of 01.
+unfoldable pub oldClassOf : ℕ → Class
+oldClassOf b =
+    cond (eqb b 10) Break
+    (cond (eqb b 9) Tab
+    (cond (eqb b 13 || eqb b 32) Blank
+    (cond (ltb b 32 || eqb b 127) Refused
+    (cond (isSingle b) Single
+    (cond (leb 48 b && leb b 57) Digit
+    Run)))))
+
+old-column : (b c : ℕ) → columnBy (oldClassOf b) c ≡ oldColumnAfter b c
+unfolding oldClassOf oldColumnAfter
+old-column b c = by-tests (eqb b 10) (eqb b 9) (eqb b 13 || eqb b 32) (ltb b 32 || eqb b 127) (isSingle b) (leb 48 b && leb b 57)
+  where
+    by-tests :
+        (p q r s t d : Bool)
+        → columnBy (cond p Break (cond q Tab (cond r Blank (cond s Refused (cond t Single (cond d Digit Run)))))) c
+        ≡ cond p 0 (cond q ((c / 8 + 1) * 8) (c + 1))
+    by-tests true q r s t d = refl
+    by-tests false true r s t d = refl
+    by-tests false false true s t d = refl
+    by-tests false false false true t d = refl
+    by-tests false false false false true d = refl
+    by-tests false false false false false true = refl
+    by-tests false false false false false false = refl
+
 -- Note 3: "A byte from 128 to 191 no longer advances the column". Every other byte does what it did.
 abbrev pub continues : ℕ → Bool
 continues byte = leb 128 byte && leb byte 191
 
-module _ (c : ℕ) where
-  -- The classes in the order of their tests; no other test holds of a continuation byte.
-  others :
-      (p q r s t d : Bool)
-      → columnBy (cond p Break (cond q Tab (cond r Blank (cond s Refused (cond t Single (cond d Digit Run)))))) c
-      ≡ cond p 0 (cond q ((c / 8 + 1) * 8) (c + 1))
-  others true q r s t d = refl
-  others false true r s t d = refl
-  others false false true s t d = refl
-  others false false false true t d = refl
-  others false false false false true d = refl
-  others false false false false false true = refl
-  others false false false false false false = refl
-
--- The class of a byte from 128 to 191.
-pub continuation-class : (b : ℕ) → continues b ≡ true → classOf b ≡ Continuation
-unfolding classOf isSingle
-continuation-class b k =
-    let low : 128 ≤ b = leb-true 128 b (and-left (leb 128 b) (leb b 191) k) in
-    rw (
-      ne-eqb b 10 (omega arith),
-      ne-eqb b 9 (omega arith),
-      ne-eqb b 13 (omega arith),
-      ne-eqb b 32 (omega arith),
-      le-ltb b 32 (omega arith),
-      ne-eqb b 127 (omega arith),
-      ne-eqb b 58 (omega arith),
-      ne-eqb b 44 (omega arith),
-      ne-eqb b 40 (omega arith),
-      ne-eqb b 41 (omega arith),
-      ne-eqb b 91 (omega arith),
-      ne-eqb b 93 (omega arith),
-      ne-eqb b 61 (omega arith),
-      ne-eqb b 59 (omega arith),
-      ne-eqb b 37 (omega arith),
-      le-leb 48 b (omega arith),
-      lt-leb b 57 (omega arith),
-      k,
-    )
+pub class-rule : (b : ℕ) → classOf b ≡ cond (continues b) Continuation (oldClassOf b)
+unfolding classOf oldClassOf
+class-rule b = by-test (continues b) refl
+  where
+    by-test : (k : Bool) → continues b ≡ k → classOf b ≡ cond k Continuation (oldClassOf b)
+    by-test true e =
+        continuation-class b (leb-true 128 b (and-left (leb 128 b) (leb b 191) e)) (leb-true b 191 (and-right (leb 128 b) (leb b 191) e))
+    by-test false e = rw e refl
 
 pub column-rule : (b c : ℕ) → columnAfter b c ≡ cond (continues b) c (oldColumnAfter b c)
-unfolding columnAfter classOf oldColumnAfter
-column-rule b c = by-test (continues b) refl
+unfolding columnAfter
+column-rule b c = ap (λ (k : Class). columnBy k c) (class-rule b) ∙ by-test (continues b)
   where
-    by-test : (k : Bool) → continues b ≡ k → columnBy (classOf b) c ≡ cond k c (oldColumnAfter b c)
-    by-test true e = ap (λ (k : Class). columnBy k c) (continuation-class b e)
-    by-test false e =
-        rw e (others c (eqb b 10) (eqb b 9) (eqb b 13 || eqb b 32) (ltb b 32 || eqb b 127) (isSingle b) (leb 48 b && leb b 57))
+    by-test : (k : Bool) → columnBy (cond k Continuation (oldClassOf b)) c ≡ cond k c (oldColumnAfter b c)
+    by-test true = refl
+    by-test false = old-column b c
 
 -- A byte up to 127.
 pub ascii-column : (b c : ℕ) → b ≤ 127 → columnAfter b c ≡ oldColumnAfter b c

@@ -14,7 +14,7 @@ use Rattle.places.specs.Columns.{columnAfter, columnAt, columnOver}
 use Rattle.places.proofs.FindLaws.{from-one}
 use Rattle.scanned_columns.proofs.AsciiScans.{oldColumnAfter, column-rule}
 
--- The bytes of a letter, by its number in Unicode.
+-- The bytes of a code point.
 unfoldable pub utf8 : ℕ → List ℕ
 utf8 x =
     cond (ltb x 128) (x ∷ [])
@@ -26,7 +26,7 @@ unfoldable pub bytesOf : List ℕ → List ℕ
 bytesOf [] = []
 bytesOf (x ∷ xs) = utf8 x ++ bytesOf xs
 
--- A letter of Unicode that is not a tab or a break.
+-- A letter: a code point that is not a tab or a break.
 abbrev pub Letter : ℕ → Type 0
 Letter x = (x < 1114112) × (x ≡ 9 → ⊥) × (x ≡ 10 → ⊥)
 
@@ -104,12 +104,12 @@ walked s t (suc n) i e =
     ∙ sym (ap (λ (l : List ℕ). columnOver l (columnAt (s ++ t) i)) (from-one s i (omega arith)))
 
 -- What stands behind letters at the start of a text or of a later line stands in the column that they count.
-pub line-column : (line after xs : List ℕ) → columnOver line 0 ≡ 0 → Letters xs
-    → columnAt ((line ++ bytesOf xs) ++ after) (length (line ++ bytesOf xs)) ≡ length xs
+pub line-column : (before after xs : List ℕ) → columnOver before 0 ≡ 0 → Letters xs
+    → columnAt ((before ++ bytesOf xs) ++ after) (length (before ++ bytesOf xs)) ≡ length xs
 unfolding columnAt
-line-column line after xs e ks =
-    walked (line ++ bytesOf xs) after (length (line ++ bytesOf xs)) 0 (omega arith)
-    ∙ over-append line (bytesOf xs) 0
+line-column before after xs e ks =
+    walked (before ++ bytesOf xs) after (length (before ++ bytesOf xs)) 0 (omega arith)
+    ∙ over-append before (bytesOf xs) 0
     ∙ ap (columnOver (bytesOf xs)) e
     ∙ letters-columns ks 0
     ∙ zero-add (length xs)

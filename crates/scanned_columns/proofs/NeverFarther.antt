@@ -1,8 +1,8 @@
--- Beside the rule of 01 no token has moved to the right, and nothing but columns has changed: a report that was scanned is
+-- Beside the rule of 01 nothing but columns has changed, and no token has moved to the right: a report that was scanned is
 -- scanned still, and 9 refuses fewer. A column is at most 8 a byte, as before, and tabs reach that.
 use Prim.Native.Nat.{ℕ, zero, suc, _+_, _*_, _/_, _≤_}
-use mathlib.Core.Path.{_≡_, refl, ap}
-use mathlib.Core.Bool.{Bool, true, false, cond, _||_}
+use mathlib.Core.Path.{_≡_, refl, sym, ap, _∙_}
+use mathlib.Core.Bool.{Bool, true, false, cond, _&&_, _||_, or-false}
 use mathlib.Core.List.{List, [], _∷_, _++_}
 use lib.Dec.{leb, ltb, eqb}
 use lib.ListN.{length, getD, drop, replicate, getD-replicate}
@@ -11,18 +11,69 @@ use borrow.Author.Tests.{leb-true, le-ltb, ltb-false, ne-eqb}
 use Rattle.table.specs.Limits.{mostTokens, mostColumn}
 use Rattle.table.specs.Answer.{Answer, given, refused, refusedAt, refuseIf, andThen}
 use Rattle.table.proofs.Every.{and-left, both-false}
-use Rattle.byte_class.specs.Bytes.{classOf}
+use Rattle.byte_class.specs.Bytes.{isSingle, classOf}
 use Rattle.byte_class.specs.declared.Class.{Class}
 use Rattle.byte_class.specs.declared.Class.the-variants.{Break, Tab, Blank, Single, Digit, Run, Continuation, Refused}
 use Rattle.grammar_file.specs.File.{fileAnswer}
-use Rattle.report_checks.specs.Report.{fails8}
+use Rattle.report_checks.specs.Report.{mostBytes, refusedClass, fails8}
+use Rattle.number_spelling.specs.Number.{digitClass}
 use Rattle.places.specs.Columns.{columnAfter, columnAt}
-use Rattle.places.specs.Places.{Place, runLength}
+use Rattle.places.specs.Places.{Place, runClass, runLength}
+use Rattle.places.specs.Moves.{Position, Move, moveBy, nextIn}
 use Rattle.places.proofs.FindLaws.{column-grows}
-use Rattle.scanner.specs.Steps.{lastStepColumn}
-use Rattle.token_words.specs.Places.{midRun, hadToken, lineEnd, placeBy, placeAt, placesAt, places}
+use Rattle.scanner.specs.Steps.{lastStepColumn, stepFails8}
+use Rattle.token_words.specs.Places.{midRun, markBy, hadToken, lineEnd, placeBy, placeAt, placesAt, places}
+use Rattle.token_words.proofs.PlaceLaws.{onward}
 use Rattle.token_words.specs.Scan.{overColumn, fails9, fails10, scanAnswer}
-use Rattle.scanned_columns.proofs.AsciiScans.{oldColumnAfter, oldColumnAt, oldPlaceAt, oldPlacesAt, oldPlaces, oldScanAnswer, continues, column-rule}
+use Rattle.scanned_columns.proofs.AsciiScans.{oldColumnAfter, oldColumnAt, oldPlaceAt, oldPlacesAt, oldPlaces, oldScanAnswer, oldClassOf, continues, class-rule, column-rule}
+
+-- What is the same of continuation bytes and run bytes is, of every byte, what it was by the classes of 01.
+was-run : (b : ℕ) → continues b ≡ true → oldClassOf b ≡ Run
+unfolding classOf oldClassOf
+was-run b e =
+    by-tests (eqb b 10) (eqb b 9) (eqb b 13 || eqb b 32) (ltb b 32 || eqb b 127) (isSingle b) (leb 48 b && leb b 57) (continues b)
+    (class-rule b ∙ rw e refl)
+  where
+    by-tests :
+        (p q r s t d k : Bool)
+        → cond p Break (cond q Tab (cond r Blank (cond s Refused (cond t Single (cond d Digit (cond k Continuation Run)))))) ≡ Continuation
+        → cond p Break (cond q Tab (cond r Blank (cond s Refused (cond t Single (cond d Digit Run))))) ≡ Run
+    by-tests true q r s t d k h = absurd (let o : _≡_ {A = ℕ} 0 1 = cc in omega arith)
+    by-tests false true r s t d k h = absurd (let o : _≡_ {A = ℕ} 0 1 = cc in omega arith)
+    by-tests false false true s t d k h = absurd (let o : _≡_ {A = ℕ} 0 1 = cc in omega arith)
+    by-tests false false false true t d k h = absurd (let o : _≡_ {A = ℕ} 0 1 = cc in omega arith)
+    by-tests false false false false true d k h = absurd (let o : _≡_ {A = ℕ} 0 1 = cc in omega arith)
+    by-tests false false false false false true k h = absurd (let o : _≡_ {A = ℕ} 0 1 = cc in omega arith)
+    by-tests false false false false false false k h = refl
+
+as-it-was : (b : ℕ) {A : Type 0} (f : Class → A) → f Continuation ≡ f Run → f (classOf b) ≡ f (oldClassOf b)
+as-it-was b f same = ap f (class-rule b) ∙ by-test (continues b) refl
+  where
+    by-test : (k : Bool) → continues b ≡ k → f (cond k Continuation (oldClassOf b)) ≡ f (oldClassOf b)
+    by-test true e = same ∙ sym (ap f (was-run b e))
+    by-test false e = refl
+
+-- So it is with runs, digits, refused bytes, lines that have had a token, and the tokens that begin at a byte.
+pub record AsBefore (b : ℕ) : Type 0 where
+  pub run : runClass (classOf b) ≡ runClass (oldClassOf b)
+  pub digit : digitClass (classOf b) ≡ digitClass (oldClassOf b)
+  pub refuses : refusedClass (classOf b) ≡ refusedClass (oldClassOf b)
+  pub mark : (m : Bool) → markBy (classOf b) m ≡ markBy (oldClassOf b) m
+  pub place : (had mid : Bool) (c o n : ℕ) → placeBy (classOf b) had mid c o n ≡ placeBy (oldClassOf b) had mid c o n
+  pub moves :
+      (m : Bool) (o c next n after : ℕ) (rest : Move)
+      → moveBy (classOf b) m o c next n after rest ≡ moveBy (oldClassOf b) m o c next n after rest
+
+pub as-before : (b : ℕ) → AsBefore b
+as-before b =
+    record {
+      run = as-it-was b runClass refl;
+      digit = as-it-was b digitClass refl;
+      refuses = as-it-was b refusedClass refl;
+      mark = λ m. as-it-was b (λ k. markBy k m) refl;
+      place = λ had mid c o n. as-it-was b (λ k. placeBy k had mid c o n) refl;
+      moves = λ m o c next n after rest. as-it-was b (λ k. moveBy k m o c next n after rest) refl;
+    }
 
 -- The old rule from a column on, and what a byte from 128 to 191 did.
 old-more : (b c d : ℕ) → c ≤ d → oldColumnAfter b c ≤ oldColumnAfter b d
@@ -144,16 +195,28 @@ still-scanned file text lent n = after-file (fileAnswer file) _ _ n (by-8 (fails
     by-8 true e = e
     by-8 false e = by-9 (overColumn (places text)) (overColumn (oldPlaces text)) (none-over x) e
 
--- A column is at most 8 a byte: no report leads a step to a column that 8 refuses. As many tabs stand there.
+-- A column is at most 8 a byte, and so many tabs reach it.
 pub columns-within : (text : List ℕ) (i : ℕ) → columnAt text i ≤ 8 * i
 unfolding columnAt
 columns-within text zero = omega arith
 columns-within text (suc i) = omega (arith, column-grows (getD text i 0) (columnAt text i), columns-within text i)
 
-pub steps-within : (text : List ℕ) (i : ℕ) → length text ≤ 65535 → i ≤ length text → columnAt text i ≤ lastStepColumn
-steps-within text i h k = omega (arith, columns-within text i)
-
 pub tabs-reach : (n i : ℕ) → i ≤ n → columnAt (replicate n 9) i ≡ 8 * i
 unfolding columnAt columnAfter classOf
 tabs-reach n zero h = refl
 tabs-reach n (suc i) h = rw (getD-replicate {A = ℕ} n i 9 0 h, tabs-reach n i (omega arith)) (omega arith)
+
+-- Steps from the start of a report stay so: 8 never refuses one for its offset or its column.
+abbrev pub Within : List ℕ → Position → Type 0
+Within text p = (p .offset ≤ length text) × (p .column ≤ 8 * p .offset)
+
+pub step-within : (text : List ℕ) (p : Position) → length text ≤ mostBytes → Within text p → Within text (nextIn text p .reached)
+step-within text p h w =
+    let on = onward text p (record { within = w .0; fits = omega (arith, w .0, w .1) }) in
+    (on .room .within, omega (arith, on .wide, on .room .within, w .0, w .1))
+
+pub none-refused : (text : List ℕ) (p : Position) → length text ≤ mostBytes → Within text p → stepFails8 text p ≡ fails8 text
+unfolding stepFails8
+none-refused text p h w =
+    rw (le-ltb (length text) (p .offset) (w .0), le-ltb lastStepColumn (p .column) (omega (arith, w .0, w .1)))
+    (or-false (fails8 text || false) ∙ or-false (fails8 text))

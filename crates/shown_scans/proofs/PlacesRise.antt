@@ -43,8 +43,8 @@ module _ (c o n : ℕ) {bound : ℕ} {ps : List Place} (h : o < bound) (k : o + 
   at-byte Digit had true = behind
   at-byte Digit had false = begins-here false n k
   at-byte Run had true = behind
-  at-byte Continuation had true = behind
   at-byte Run had false = begins-here false n k
+  at-byte Continuation had true = behind
   at-byte Continuation had false = begins-here false n k
   at-byte Refused had mid = behind
 

@@ -135,7 +135,7 @@ impl Stats {
         let mut chunks = report.utf8_chunks();
         let tokens = answer.as_ref().map_or(&[][..], |words| words);
         for (holds, class) in [
-            (!report.is_ascii(), "UTF-8 outside ASCII"),
+            (!report.is_ascii(), "bytes over 127"),
             (
                 chunks.any(|chunk| !chunk.valid().is_ascii()),
                 "a whole letter outside ASCII",

@@ -1,15 +1,16 @@
 -- `byte_class::class_of` meets its contract. The match asks first whether the byte is one of its lone numbers,
 -- and then goes through its ranges upwards.
 use Prim.Native.Nat.{ℕ, _≤_, _<_, _+_}
-use mathlib.Core.Path.{_≡_, refl}
+use mathlib.Core.Path.{_≡_, refl, sym}
 use mathlib.Core.Bool.{Bool, true, false, cond, _&&_}
 use mathlib.Core.Logic.{_⊎_, inl, inr, ⊎-elim}
 use native.Mathlib.Nat.{eq-or-lt-of-le}
 use native.Mathlib.Omega.{arith}
 use borrow.Author.Tests.{lt-ltb, le-ltb, le-leb, lt-leb, ne-eqb}
 use lib.Dec.{leb}
-use Rattle.byte_class.specs.declared.Class.the-variants.{Single, Digit, Run, Continuation}
+use Rattle.byte_class.specs.declared.Class.the-variants.{Single, Digit, Run}
 use Rattle.byte_class.specs.Bytes.{isSingle, classOf}
+use Rattle.byte_class.proofs.ClassLaws.{continuation-class}
 use Rattle.byte_class.proofs.class_of.Statement.{statement}
 use Rattle.byte_class.proofs.class_of.Tie as tie
 
@@ -49,16 +50,16 @@ not-single b a l =
       ne-eqb b 37 (λ e. l (inl e)),
     )
 
--- Such a byte, if it is not single, is a digit, a continuation byte or a run byte.
+-- Such a byte, if it is not single and not from 128 to 191, is a digit or a run byte.
 plain :
-    (b : ℕ) (digit continuation : Bool)
+    (b : ℕ) (digit : Bool)
     → Apart b
     → (Lone b → ⊥)
     → (leb 48 b && leb b 57) ≡ digit
-    → (leb 128 b && leb b 191) ≡ continuation
-    → cond digit Digit (cond continuation Continuation Run) ≡ classOf b
+    → (leb 128 b && leb b 191) ≡ false
+    → cond digit Digit Run ≡ classOf b
 unfolding classOf
-plain b digit continuation a l e f =
+plain b digit a l e f =
     rw (
       ne-eqb b 10 (omega arith),
       ne-eqb b 9 (omega arith),
@@ -102,21 +103,20 @@ returns-3 : tie.Need-returns-3
 returns-3 c =
     let byte = c .before .before .before .before .before .before .args .b in
     let rest = c .before .before .before .before .before .match .rest in
-    plain byte true false (omega arith) (rest .1)
+    plain byte true (omega arith) (rest .1)
     (between byte 48 57 (omega arith) (omega arith)) (below byte 128 191 (omega arith))
 
 returns-4 : tie.Need-returns-4
 returns-4 c =
     let byte = c .before .before .before .before .before .before .before .before .before .args .b in
     let rest = c .before .before .before .before .before .before .before .before .match .rest in
-    plain byte false true (omega arith, rest .0 .1, omega arith, omega arith, omega arith, omega arith) (rest .1)
-    (above byte 48 57 (omega arith) (omega arith)) (between byte 128 191 (past byte 127 (c .before .if7 .left) (rest .0 .1)) (up-to byte 191 (c .if8 .taken)))
+    sym (continuation-class byte (past byte 127 (c .before .if7 .left) (rest .0 .1)) (up-to byte 191 (c .if8 .taken)))
 
 returns-5 : tie.Need-returns-5
 returns-5 c =
     let byte = c .before .before .before .args .b in
     let rest = c .before .before .match .rest in
-    plain byte false false
+    plain byte false
     (past byte 32 (c .before .if1 .left) (rest .0 .0 .1), omega arith, omega arith, omega arith, omega arith, omega arith) (rest .1)
     (below byte 48 57 (omega arith)) (below byte 128 191 (omega arith))
 
@@ -124,21 +124,21 @@ returns-6 : tie.Need-returns-6
 returns-6 c =
     let byte = c .before .before .before .before .before .args .b in
     let rest = c .before .before .before .before .match .rest in
-    plain byte false false (omega arith) (rest .1)
+    plain byte false (omega arith) (rest .1)
     (below byte 48 57 (omega arith)) (below byte 128 191 (omega arith))
 
 returns-7 : tie.Need-returns-7
 returns-7 c =
     let byte = c .before .before .before .before .before .before .before .before .args .b in
     let rest = c .before .before .before .before .before .before .before .match .rest in
-    plain byte false false (omega arith) (rest .1)
+    plain byte false (omega arith) (rest .1)
     (above byte 48 57 (omega arith) (omega arith)) (below byte 128 191 (omega arith))
 
 returns-8 : tie.Need-returns-8
 returns-8 c =
     let byte = c .before .before .before .before .before .before .before .before .before .args .b in
     let rest = c .before .before .before .before .before .before .before .before .match .rest in
-    plain byte false false (omega arith) (rest .1)
+    plain byte false (omega arith) (rest .1)
     (above byte 48 57 (omega arith) (omega arith)) (above byte 128 191 (omega arith) (behind byte 191 (c .if8 .left)))
 
 returns-9 : tie.Need-returns-9

@@ -3,7 +3,7 @@ use Rattle.places.proofs.run_end.Statement.{statement}
 use Rattle.places.proofs.run_end.Tie as tie
 use native.Mathlib.Omega.{arith}
 use borrow.Author.Tests.{not-true, not-false}
-use Prim.Native.Nat.{ℕ, suc, _+_, _-_, _≤_, _<_}
+use Prim.Native.Nat.{ℕ, _+_, _-_, _≤_, _<_}
 use mathlib.Core.Path.{_≡_, refl, sym, _∙_}
 use mathlib.Core.Bool.{true, false}
 use mathlib.Core.List.{List}
@@ -12,7 +12,7 @@ use Rattle.places.specs.InternalFind.{Room, RunEnd}
 use Rattle.places.specs.Columns.{columnAfter, columnOver}
 use Rattle.places.specs.Places.{inRun, runLength}
 use Rattle.places.proofs.ClassLaws.{column-found, run-found}
-use Rattle.places.proofs.FindLaws.{from-one, room-next, run-more, run-none, run-empty}
+use Rattle.places.proofs.FindLaws.{from-one, room-next, run-on, run-none, run-empty}
 
 -- The run and its last column, from what is left of it.
 abbrev Running : List ℕ → ℕ → ℕ → ℕ → ℕ → Type 0
@@ -38,13 +38,8 @@ module _ (text : List ℕ) (first start at column : ℕ) (r : Running text first
   -- One byte on.
   run-goes : at < length text → inRun (getD text at 0) ≡ true → {next : ℕ} → next ≡ columnAfter (getD text at 0) column → Running text first start (at + 1) next
   run-goes h e {next} q =
-      let n = run-more (getD text at 0) (drop (at + 1) text) column e in
-      let a : runLength (drop at text) ≡ suc (runLength (drop (at + 1) text)) = rw (from-one text at h) (n .0) in
-      let b :
-      columnOver (take (runLength (drop at text)) (drop at text)) column
-      ≡ columnOver (take (runLength (drop (at + 1) text)) (drop (at + 1) text)) (columnAfter (getD text at 0) column) =
-      rw (from-one text at h) (n .1) in
-      (room-next (r .0) h (getD text at 0) q, omega (arith, r .1), r .2 ∙ b ∙ rw q refl)
+      let on = run-on text at column h e in
+      (room-next (r .0) h (getD text at 0) q, omega (arith, r .1, on .0), r .2 ∙ on .1 ∙ rw q refl)
 
 abbrev Inv-loop : tie.InvT-loop
 Inv-loop report first start at₀ column₀ at column = Running report first start at column
