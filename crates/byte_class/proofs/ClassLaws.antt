@@ -1,12 +1,14 @@
--- What a function says of a class it says of a byte that has it; and the class of a byte from 128 to 191.
+-- What a function says of a class it says of a byte that has it; and the class of a continuation byte.
 use Prim.Native.Nat.{ℕ, _≤_}
-use mathlib.Core.Path.{_≡_, sym, ap, _∙_}
+use mathlib.Core.Path.{_≡_, refl, sym, ap, _∙_}
+use mathlib.Core.Bool.{Bool, true, false, _&&_}
 use mathlib.Core.List.{List}
+use lib.Dec.{leb}
 use native.Mathlib.Omega.{arith}
-use borrow.Author.Tests.{le-ltb, le-leb, lt-leb, ne-eqb}
+use borrow.Author.Tests.{leb-true, le-ltb, le-leb, lt-leb, ne-eqb}
 use denote.Enum.Declared.{tagOf}
 use types.Run.{OneOf}
-use Rattle.byte_class.specs.Bytes.{isSingle, classOf}
+use Rattle.byte_class.specs.Bytes.{isSingle, isContinuation, classOf}
 use Rattle.byte_class.specs.declared.Class.{Class}
 use Rattle.byte_class.specs.declared.Class.the-variants.{Break, Tab, Blank, Single, Digit, Run, Continuation, Refused}
 use Rattle.byte_class.proofs.Class.{the-type}
@@ -31,10 +33,11 @@ each-class P a b c d e f g h Refused = h
 pub by-class : (b : ℕ) {r k : Class} → r ≡ classOf b → r ≡ k → {A : Type 0} (f : Class → A) {v : A} → f k ≡ v → v ≡ f (classOf b)
 by-class b e told f w = sym w ∙ ap f (sym told ∙ e)
 
--- No other test holds of a byte from 128 to 191.
-pub continuation-class : (b : ℕ) → 128 ≤ b → b ≤ 191 → classOf b ≡ Continuation
-unfolding classOf isSingle
-continuation-class b low high =
+-- No other test holds of a continuation byte.
+pub continuation-class : (b : ℕ) → isContinuation b ≡ true → classOf b ≡ Continuation
+unfolding classOf isSingle isContinuation
+continuation-class b e =
+    let low : 128 ≤ b = leb-true 128 b (first (leb 128 b) (leb b 191) e) in
     rw (
       ne-eqb b 10 (omega arith),
       ne-eqb b 9 (omega arith),
@@ -53,6 +56,9 @@ continuation-class b low high =
       ne-eqb b 37 (omega arith),
       le-leb 48 b (omega arith),
       lt-leb b 57 (omega arith),
-      le-leb 128 b low,
-      le-leb b 191 high,
+      e,
     )
+  where
+    first : (p q : Bool) → (p && q) ≡ true → p ≡ true
+    first true q h = refl
+    first false q h = h

@@ -9,9 +9,13 @@ use Rattle.byte_class.specs.declared.Class.the-variants.{Break, Tab, Bla
 unfoldable pub isSingle : ℕ → Bool
 isSingle b = eqb b 58 || eqb b 44 || eqb b 40 || eqb b 41 || eqb b 91 || eqb b 93 || eqb b 61 || eqb b 59 || eqb b 37
 
+-- The continuation bytes: "a byte from 128 to 191" (Note 3).
+unfoldable pub isContinuation : ℕ → Bool
+isContinuation b = leb 128 b && leb b 191
+
 -- "Byte 10 ends a line", "Byte 9 moves to the next higher multiple of 8", "Bytes 13 and 32 are blanks", "Other bytes
 -- below 32, and 127, are refused", the nine bytes "are tokens by themselves", digits are `0` to `9`, and "other tokens
--- are longest runs of the remaining bytes". Of these, "a byte from 128 to 191" (Note 3) is a continuation byte.
+-- are longest runs of the remaining bytes", the continuation bytes with them.
 unfoldable pub classOf : ℕ → Class
 classOf b =
     cond (eqb b 10) Break
@@ -20,5 +24,5 @@ classOf b =
     (cond (ltb b 32 || eqb b 127) Refused
     (cond (isSingle b) Single
     (cond (leb 48 b && leb b 57) Digit
-    (cond (leb 128 b && leb b 191) Continuation
+    (cond (isContinuation b) Continuation
     Run))))))

@@ -1,6 +1,6 @@
-// The class of a byte: the one place that decides break, tab, blank, single, digit, run byte, continuation byte or refusal.
+// The class of a byte: the one match that decides break, tab, blank, single, digit, run byte, continuation byte or refusal.
 ghost use mathlib.Core.Path.{_≡_};
-ghost use Rattle.byte_class.specs.Bytes.{classOf};
+ghost use Rattle.byte_class.specs.Bytes.{isContinuation, classOf};
 
 pub enum Class {
     Break,
@@ -26,4 +26,11 @@ pub fn class_of(b: u8) -> Class
         128..=191 => Class::Continuation,
         _ => Class::Run,
     }
+}
+
+// Whether a byte has the class of continuation bytes, by comparing alone: for a loop that knows that it is in a run.
+pub fn is_continuation(b: u8) -> bool
+    ensures { λ r. ⌜ r ≡ isContinuation b ⌝ }
+{
+    128 <= b && b <= 191
 }

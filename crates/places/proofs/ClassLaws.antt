@@ -1,14 +1,18 @@
 -- What the class that was found for a byte says of the byte. `search classes` answers the arms of `column_by` that name a
 -- class, `column-others` the last.
-use Prim.Native.Nat.{ℕ, _+_}
+use Prim.Native.Nat.{ℕ, _+_, _≤_}
 use mathlib.Core.Path.{_≡_, refl, sym, ap, _∙_}
-use mathlib.Core.Bool.{Bool}
+use mathlib.Core.Bool.{Bool, true, false, cond, _&&_, _||_, true≢false, false≢true}
 use mathlib.Core.List.{List, [], _∷_}
 use types.Run.{miss}
+use lib.Dec.{leb, ltb, eqb}
+use native.Mathlib.Nat.{add-zero}
+use native.Mathlib.Omega.{arith}
 use borrow.Author.Needs.{needs}
-use Rattle.byte_class.specs.Bytes.{classOf}
+use Rattle.byte_class.specs.Bytes.{isSingle, isContinuation, classOf}
 use Rattle.byte_class.specs.declared.Class.{Class}
-use Rattle.byte_class.proofs.ClassLaws.{Others, each-class}
+use Rattle.byte_class.specs.declared.Class.the-variants.{Break, Tab, Blank, Single, Digit, Run, Continuation, Refused}
+use Rattle.byte_class.proofs.ClassLaws.{Others, each-class, continuation-class}
 use Rattle.places.specs.Columns.{columnBy, columnAfter}
 use Rattle.places.specs.Places.{runClass, inRun}
 use Rattle.places.specs.InternalFind.{passedBy, passedOver}
@@ -39,3 +43,34 @@ module _ (b : ℕ) {class : Class} (e : class ≡ classOf b) where
   pub passed-found : (m : Bool) {v : Bool} → v ≡ passedBy class m → passedOver b m ≡ v
   unfolding passedOver
   passed-found m w = sym (w ∙ ap (λ (k : Class). passedBy k m) e)
+
+-- The columns of a byte of a run.
+pub run-width : (b c : ℕ) → inRun b ≡ true → c + cond (isContinuation b) 0 1 ≡ columnAfter b c
+unfolding inRun columnAfter classOf
+run-width b c e = by-test (isContinuation b) refl
+  where
+    others :
+        (p q r s t d k : Bool)
+        → k ≡ false
+        → runClass (cond p Break (cond q Tab (cond r Blank (cond s Refused (cond t Single (cond d Digit (cond k Continuation Run))))))) ≡ true
+        → c + 1 ≡ columnBy (cond p Break (cond q Tab (cond r Blank (cond s Refused (cond t Single (cond d Digit (cond k Continuation Run))))))) c
+    others true q r s t d k n h = absurd (false≢true h)
+    others false true r s t d k n h = absurd (false≢true h)
+    others false false true s t d k n h = absurd (false≢true h)
+    others false false false true t d k n h = absurd (false≢true h)
+    others false false false false true d k n h = absurd (false≢true h)
+    others false false false false false true k n h = refl
+    others false false false false false false true n h = absurd (true≢false n)
+    others false false false false false false false n h = refl
+
+    by-test : (k : Bool) → isContinuation b ≡ k → c + cond k 0 1 ≡ columnBy (classOf b) c
+    by-test true k = add-zero c ∙ ap (λ (k : Class). columnBy k c) (sym (continuation-class b k))
+    by-test false k =
+        others (eqb b 10) (eqb b 9) (eqb b 13 || eqb b 32) (ltb b 32 || eqb b 127) (isSingle b) (leb 48 b && leb b 57) (isContinuation b) k e
+
+pub width-most : (b : ℕ) → cond (isContinuation b) 0 1 ≤ 1
+width-most b = by-test (isContinuation b)
+  where
+    by-test : (k : Bool) → cond k 0 1 ≤ 1
+    by-test true = omega arith
+    by-test false = omega arith

@@ -1,10 +1,13 @@
-// What the class of a byte means to a place. `byte_class::class_of` alone decides the class.
+// What the class of a byte means to a place. `byte_class` alone decides the class.
 ghost use mathlib.Core.Path.{_≡_};
+ghost use mathlib.Core.Bool.{cond};
 ghost use Prim.Native.Nat.{_+_, _<_, _^_};
+ghost use Rattle.byte_class.specs.Bytes.{isContinuation};
 ghost use Rattle.places.specs.Columns.{columnBy};
 ghost use Rattle.places.specs.Places.{runClass};
 ghost use Rattle.places.specs.InternalFind.{passedBy};
 use byte_class::Class;
+use byte_class::is_continuation;
 
 // The column behind a byte of a class.
 pub(crate) fn column_by(class: Class, column: u32) -> u32
@@ -33,6 +36,13 @@ pub(crate) fn run_class(class: Class) -> bool
         Class::Continuation => true,
         Class::Refused => false,
     }
+}
+
+// The columns of a byte of a run.
+pub(crate) fn run_width(b: u8) -> u32
+    ensures { λ r. ⌜ r ≡ cond (isContinuation b) 0 1 ⌝ }
+{
+    if is_continuation(b) { 0 } else { 1 }
 }
 
 // Whether a byte of a class begins and ends no token, where the line has had a token or not.

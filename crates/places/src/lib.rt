@@ -10,6 +10,7 @@ use byte_class::class_of;
 use classes::column_by;
 use classes::passed_by;
 use classes::run_class;
+use classes::run_width;
 
 // The last column that 32 bits hold.
 const LAST: u32 = 4294967295;
@@ -58,13 +59,11 @@ fn run_end(report: &[u8], first: usize, start: u32) -> Spot
     let mut at = first;
     let mut column = start;
     while at < report.len() {
-        let class = class_of(report[at]);
-        // Before the test: with the test between them the compiler asks for digits and run bytes apart.
-        let next = column_by(class, column);
-        if !run_class(class) {
+        let b = report[at];
+        if !run_class(class_of(b)) {
             return Spot { at, column };
         }
-        column = next;
+        column += run_width(b);
         at += 1;
     }
     Spot { at, column }

@@ -9,11 +9,10 @@ use mathlib.Core.Option.{none}
 use lib.Dec.{leb, ltb, eqb}
 use lib.ListN.{length, getD, take, drop}
 use native.Mathlib.Omega.{arith}
-use borrow.Author.Tests.{leb-true, lt-leb}
+use borrow.Author.Tests.{lt-leb}
 use Rattle.table.specs.Limits.{mostTokens}
 use Rattle.table.specs.Answer.{Answer, given, refuseIf, andThen}
-use Rattle.table.proofs.Every.{and-left, and-right}
-use Rattle.byte_class.specs.Bytes.{isSingle, classOf}
+use Rattle.byte_class.specs.Bytes.{isSingle, isContinuation, classOf}
 use Rattle.byte_class.specs.declared.Class.{Class}
 use Rattle.byte_class.specs.declared.Class.the-variants.{Break, Tab, Blank, Single, Digit, Run, Continuation, Refused}
 use Rattle.byte_class.proofs.ClassLaws.{continuation-class}
@@ -103,21 +102,17 @@ old-column b c = by-tests (eqb b 10) (eqb b 9) (eqb b 13 || eqb b 32) (ltb b 32 
     by-tests false false false false false false = refl
 
 -- Note 3: "A byte from 128 to 191 no longer advances the column". Every other byte does what it did.
-abbrev pub continues : ℕ → Bool
-continues byte = leb 128 byte && leb byte 191
-
-pub class-rule : (b : ℕ) → classOf b ≡ cond (continues b) Continuation (oldClassOf b)
+pub class-rule : (b : ℕ) → classOf b ≡ cond (isContinuation b) Continuation (oldClassOf b)
 unfolding classOf oldClassOf
-class-rule b = by-test (continues b) refl
+class-rule b = by-test (isContinuation b) refl
   where
-    by-test : (k : Bool) → continues b ≡ k → classOf b ≡ cond k Continuation (oldClassOf b)
-    by-test true e =
-        continuation-class b (leb-true 128 b (and-left (leb 128 b) (leb b 191) e)) (leb-true b 191 (and-right (leb 128 b) (leb b 191) e))
+    by-test : (k : Bool) → isContinuation b ≡ k → classOf b ≡ cond k Continuation (oldClassOf b)
+    by-test true e = continuation-class b e
     by-test false e = rw e refl
 
-pub column-rule : (b c : ℕ) → columnAfter b c ≡ cond (continues b) c (oldColumnAfter b c)
+pub column-rule : (b c : ℕ) → columnAfter b c ≡ cond (isContinuation b) c (oldColumnAfter b c)
 unfolding columnAfter
-column-rule b c = ap (λ (k : Class). columnBy k c) (class-rule b) ∙ by-test (continues b)
+column-rule b c = ap (λ (k : Class). columnBy k c) (class-rule b) ∙ by-test (isContinuation b)
   where
     by-test : (k : Bool) → columnBy (cond k Continuation (oldClassOf b)) c ≡ cond k c (oldColumnAfter b c)
     by-test true = refl
@@ -125,6 +120,7 @@ column-rule b c = ap (λ (k : Class). columnBy k c) (class-rule b) ∙ by-test (
 
 -- A byte up to 127.
 pub ascii-column : (b c : ℕ) → b ≤ 127 → columnAfter b c ≡ oldColumnAfter b c
+unfolding isContinuation
 ascii-column b c h = column-rule b c ∙ rw (lt-leb 128 b (omega arith)) refl
 
 -- A text none of whose bytes is over 127.

@@ -9,7 +9,7 @@ use native.Mathlib.Nat.{le-of-eq, zero-add}
 use native.Mathlib.Numerals.{add-one}
 use native.Mathlib.Omega.{arith}
 use borrow.Author.Tests.{ltb-true, le-leb, lt-leb, ne-eqb}
-use Rattle.byte_class.specs.Bytes.{classOf}
+use Rattle.byte_class.specs.Bytes.{isContinuation, classOf}
 use Rattle.places.specs.Columns.{columnAfter, columnAt, columnOver}
 use Rattle.places.proofs.FindLaws.{from-one}
 use Rattle.scanned_columns.proofs.AsciiScans.{oldColumnAfter, column-rule}
@@ -32,6 +32,7 @@ Letter x = (x < 1114112) × (x ≡ 9 → ⊥) × (x ≡ 10 → ⊥)
 
 -- A byte that continues a letter, and any other but 9 and 10.
 continues-none : (b c : ℕ) → 128 ≤ b → b ≤ 191 → columnAfter b c ≡ c
+unfolding isContinuation
 continues-none b c l h = column-rule b c ∙ rw (le-leb 128 b l, le-leb b 191 h) refl
 
 old-one : (b c : ℕ) → (b ≡ 9 → ⊥) → (b ≡ 10 → ⊥) → oldColumnAfter b c ≡ c + 1
@@ -39,9 +40,11 @@ unfolding oldColumnAfter
 old-one b c t k = rw (ne-eqb b 10 k, ne-eqb b 9 t) refl
 
 below-one : (b c : ℕ) → Letter b → b < 128 → columnAfter b c ≡ c + 1
+unfolding isContinuation
 below-one b c k h = column-rule b c ∙ rw (lt-leb 128 b h) (old-one b c (k .1) (k .2))
 
 lead-one : (b c : ℕ) → 192 ≤ b → columnAfter b c ≡ c + 1
+unfolding isContinuation
 lead-one b c h = column-rule b c ∙ rw (le-leb 128 b (omega arith), lt-leb b 191 (omega arith)) (old-one b c (omega arith) (omega arith))
 
 -- The column behind a letter is one more.

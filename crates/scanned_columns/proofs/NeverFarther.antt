@@ -11,7 +11,7 @@ use borrow.Author.Tests.{leb-true, le-ltb, ltb-false, ne-eqb}
 use Rattle.table.specs.Limits.{mostTokens, mostColumn}
 use Rattle.table.specs.Answer.{Answer, given, refused, refusedAt, refuseIf, andThen}
 use Rattle.table.proofs.Every.{and-left, both-false}
-use Rattle.byte_class.specs.Bytes.{isSingle, classOf}
+use Rattle.byte_class.specs.Bytes.{isSingle, isContinuation, classOf}
 use Rattle.byte_class.specs.declared.Class.{Class}
 use Rattle.byte_class.specs.declared.Class.the-variants.{Break, Tab, Blank, Single, Digit, Run, Continuation, Refused}
 use Rattle.grammar_file.specs.File.{fileAnswer}
@@ -25,13 +25,13 @@ use Rattle.scanner.specs.Steps.{lastStepColumn, stepFails8}
 use Rattle.token_words.specs.Places.{midRun, markBy, hadToken, lineEnd, placeBy, placeAt, placesAt, places}
 use Rattle.token_words.proofs.PlaceLaws.{onward}
 use Rattle.token_words.specs.Scan.{overColumn, fails9, fails10, scanAnswer}
-use Rattle.scanned_columns.proofs.AsciiScans.{oldColumnAfter, oldColumnAt, oldPlaceAt, oldPlacesAt, oldPlaces, oldScanAnswer, oldClassOf, continues, class-rule, column-rule}
+use Rattle.scanned_columns.proofs.AsciiScans.{oldColumnAfter, oldColumnAt, oldPlaceAt, oldPlacesAt, oldPlaces, oldScanAnswer, oldClassOf, class-rule, column-rule}
 
 -- What is the same of continuation bytes and run bytes is, of every byte, what it was by the classes of 01.
-was-run : (b : ℕ) → continues b ≡ true → oldClassOf b ≡ Run
+was-run : (b : ℕ) → isContinuation b ≡ true → oldClassOf b ≡ Run
 unfolding classOf oldClassOf
 was-run b e =
-    by-tests (eqb b 10) (eqb b 9) (eqb b 13 || eqb b 32) (ltb b 32 || eqb b 127) (isSingle b) (leb 48 b && leb b 57) (continues b)
+    by-tests (eqb b 10) (eqb b 9) (eqb b 13 || eqb b 32) (ltb b 32 || eqb b 127) (isSingle b) (leb 48 b && leb b 57) (isContinuation b)
     (class-rule b ∙ rw e refl)
   where
     by-tests :
@@ -47,9 +47,9 @@ was-run b e =
     by-tests false false false false false false k h = refl
 
 as-it-was : (b : ℕ) {A : Type 0} (f : Class → A) → f Continuation ≡ f Run → f (classOf b) ≡ f (oldClassOf b)
-as-it-was b f same = ap f (class-rule b) ∙ by-test (continues b) refl
+as-it-was b f same = ap f (class-rule b) ∙ by-test (isContinuation b) refl
   where
-    by-test : (k : Bool) → continues b ≡ k → f (cond k Continuation (oldClassOf b)) ≡ f (oldClassOf b)
+    by-test : (k : Bool) → isContinuation b ≡ k → f (cond k Continuation (oldClassOf b)) ≡ f (oldClassOf b)
     by-test true e = same ∙ sym (ap f (was-run b e))
     by-test false e = refl
 
@@ -85,17 +85,17 @@ old-more b c d h = by-tests (eqb b 10) (eqb b 9)
     by-tests false true = omega arith
     by-tests false false = omega arith
 
-old-advances : (b c : ℕ) → continues b ≡ true → oldColumnAfter b c ≡ c + 1
-unfolding oldColumnAfter
+old-advances : (b c : ℕ) → isContinuation b ≡ true → oldColumnAfter b c ≡ c + 1
+unfolding oldColumnAfter isContinuation
 old-advances b c k =
     let low : 128 ≤ b = leb-true 128 b (and-left (leb 128 b) (leb b 191) k) in
     rw (ne-eqb b 10 (omega arith), ne-eqb b 9 (omega arith)) refl
 
 -- No byte moves the column farther than it did.
 pub column-nearer : (b c d : ℕ) → c ≤ d → columnAfter b c ≤ oldColumnAfter b d
-column-nearer b c d h = rw (column-rule b c) (by-test (continues b) refl)
+column-nearer b c d h = rw (column-rule b c) (by-test (isContinuation b) refl)
   where
-    by-test : (k : Bool) → continues b ≡ k → cond k c (oldColumnAfter b c) ≤ oldColumnAfter b d
+    by-test : (k : Bool) → isContinuation b ≡ k → cond k c (oldColumnAfter b c) ≤ oldColumnAfter b d
     by-test true e = omega (arith, old-advances b d e)
     by-test false e = old-more b c d h
 

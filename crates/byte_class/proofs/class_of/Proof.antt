@@ -9,7 +9,7 @@ use native.Mathlib.Omega.{arith}
 use borrow.Author.Tests.{lt-ltb, le-ltb, le-leb, lt-leb, ne-eqb}
 use lib.Dec.{leb}
 use Rattle.byte_class.specs.declared.Class.the-variants.{Single, Digit, Run}
-use Rattle.byte_class.specs.Bytes.{isSingle, classOf}
+use Rattle.byte_class.specs.Bytes.{isSingle, isContinuation, classOf}
 use Rattle.byte_class.proofs.ClassLaws.{continuation-class}
 use Rattle.byte_class.proofs.class_of.Statement.{statement}
 use Rattle.byte_class.proofs.class_of.Tie as tie
@@ -58,7 +58,7 @@ plain :
     → (leb 48 b && leb b 57) ≡ digit
     → (leb 128 b && leb b 191) ≡ false
     → cond digit Digit Run ≡ classOf b
-unfolding classOf
+unfolding classOf isContinuation
 plain b digit a l e f =
     rw (
       ne-eqb b 10 (omega arith),
@@ -107,10 +107,11 @@ returns-3 c =
     (between byte 48 57 (omega arith) (omega arith)) (below byte 128 191 (omega arith))
 
 returns-4 : tie.Need-returns-4
+unfolding isContinuation
 returns-4 c =
     let byte = c .before .before .before .before .before .before .before .before .before .args .b in
     let rest = c .before .before .before .before .before .before .before .before .match .rest in
-    sym (continuation-class byte (past byte 127 (c .before .if7 .left) (rest .0 .1)) (up-to byte 191 (c .if8 .taken)))
+    sym (continuation-class byte (between byte 128 191 (past byte 127 (c .before .if7 .left) (rest .0 .1)) (up-to byte 191 (c .if8 .taken))))
 
 returns-5 : tie.Need-returns-5
 returns-5 c =

@@ -4,14 +4,14 @@ use Rattle.places.proofs.run_end.Tie as tie
 use native.Mathlib.Omega.{arith}
 use borrow.Author.Tests.{not-true, not-false}
 use Prim.Native.Nat.{ℕ, _+_, _-_, _≤_, _<_}
-use mathlib.Core.Path.{_≡_, refl, sym, _∙_}
+use mathlib.Core.Path.{_≡_, refl, sym, ap, _∙_}
 use mathlib.Core.Bool.{true, false}
 use mathlib.Core.List.{List}
 use lib.ListN.{length, getD, take, drop, drop-of-length-le}
 use Rattle.places.specs.InternalFind.{Room, RunEnd}
 use Rattle.places.specs.Columns.{columnAfter, columnOver}
 use Rattle.places.specs.Places.{inRun, runLength}
-use Rattle.places.proofs.ClassLaws.{column-found, run-found}
+use Rattle.places.proofs.ClassLaws.{run-found, run-width, width-most}
 use Rattle.places.proofs.FindLaws.{from-one, room-next, run-on, run-none, run-empty}
 
 -- The run and its last column, from what is left of it.
@@ -52,17 +52,20 @@ loop-holds c = (c .before .pre, refl, refl)
 
 returns : tie.Need-returns Inv-loop μ-loop
 returns c =
-    let class-of = c .before .before .before .class-of in
-    let loop-test = c .before .before .before .before .before .loop-test in
-    let loop = c .before .before .before .before .before .before .loop in
-    let args = c .before .before .before .before .before .before .before .before .args in
+    let class-of = c .before .before .class-of in
+    let loop-test = c .before .before .before .before .loop-test in
+    let loop = c .before .before .before .before .before .loop in
+    let args = c .before .before .before .before .before .before .before .args in
     run-stops (args .report .now) (args .first) (args .start) (loop .at) (loop .column) (loop .inv) (loop-test .taken)
     (run-found (getD (args .report .now) (loop .at) 0) (class-of .ensures) (c .before .run-class .ensures) ∙ not-true _ (c .if1 .taken))
 
-column-by-requires : tie.Need-column-by-requires Inv-loop μ-loop
-column-by-requires c κs =
-    let room = c .before .before .before .loop .inv .0 in
-    omega (arith, room .fits, room .within)
+add-column : tie.Need-add-column Inv-loop μ-loop
+add-column c =
+    let loop = c .before .before .before .before .before .before .loop in
+    let args = c .before .before .before .before .before .before .before .before .args in
+    let room = loop .inv .0 in
+    let most = width-most (getD (args .report .now) (loop .at) 0) in
+    omega (arith, room .fits, room .within, c .run-width .ensures, most)
 
 loop-again : tie.Need-loop-again Inv-loop μ-loop
 loop-again c =
@@ -71,9 +74,9 @@ loop-again c =
     let loop = c .before .before .before .before .before .before .loop in
     let args = c .before .before .before .before .before .before .before .before .args in
     let byte = getD (args .report .now) (loop .at) 0 in
-    run-goes (args .report .now) (args .first) (args .start) (loop .at) (loop .column) (loop .inv) (loop-test .taken)
-    (run-found byte (class-of .ensures) (c .before .run-class .ensures) ∙ not-false _ (c .if1 .left))
-    (column-found byte (class-of .ensures) (loop .column) (c .before .before .column-by .ensures))
+    let in-run = run-found byte (class-of .ensures) (c .before .before .run-class .ensures) ∙ not-false _ (c .before .if1 .left) in
+    run-goes (args .report .now) (args .first) (args .start) (loop .at) (loop .column) (loop .inv) (loop-test .taken) in-run
+    (ap (λ (n : ℕ). loop .column + n) (c .run-width .ensures) ∙ run-width byte (loop .column) in-run)
 
 returns-2 : tie.Need-returns-2 Inv-loop μ-loop
 returns-2 c =
@@ -84,5 +87,5 @@ returns-2 c =
 pub run-end-spec : {M : Type 1} → statement M
 run-end-spec =
     tie.close
-    (tie.spec Inv-loop μ-loop loop-holds (λ c. omega arith) (λ c κs. tt) column-by-requires (λ c κs. tt) returns
+    (tie.spec Inv-loop μ-loop loop-holds (λ c. omega arith) (λ c κs. tt) (λ c κs. tt) returns (λ c κs. tt) add-column
     (λ c. omega arith) (λ c. omega arith) loop-again returns-2)

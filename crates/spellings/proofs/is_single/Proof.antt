@@ -10,7 +10,7 @@ use denote.Enum.Declared.{tagOf}
 use lib.Dec.{leb, ltb, eqb}
 use Rattle.byte_class.specs.declared.Class.{Class}
 use Rattle.byte_class.specs.declared.Class.the-variants.{Break, Tab, Blank, Single, Digit, Run, Continuation, Refused}
-use Rattle.byte_class.specs.Bytes.{isSingle, classOf}
+use Rattle.byte_class.specs.Bytes.{isSingle, isContinuation, classOf}
 use Rattle.byte_class.proofs.Class.{the-type}
 use Rattle.spellings.proofs.is_single.Statement.{statement}
 use Rattle.spellings.proofs.is_single.Tie as tie
@@ -63,7 +63,7 @@ by-position b = by-test (isSingle b) refl
     by-test false e =
         rw e
         (sym
-        (no-other (eqb b 10) (eqb b 9) (eqb b 13 || eqb b 32) (ltb b 32 || eqb b 127) (leb 48 b && leb b 57) (leb 128 b && leb b 191)))
+        (no-other (eqb b 10) (eqb b 9) (eqb b 13 || eqb b 32) (ltb b 32 || eqb b 127) (leb 48 b && leb b 57) (isContinuation b)))
 
 -- None of the other positions is that of the single bytes.
 apart : (n : ℕ) → (n ≡ 0) ⊎ ((n ≡ 1) ⊎ ((n ≡ 2) ⊎ ((n ≡ 4) ⊎ ((n ≡ 5) ⊎ ((n ≡ 6) ⊎ (n ≡ 7)))))) → n ≡ 3 → ⊥
