@@ -603,7 +603,7 @@ for name, text, column in (
     ("bytes 128", b"  \x80\x80", 2), ("letters b5", b"\xc2\xb5\xc2\xb5m", 3), ("a letter of four bytes", b"\xf0\x9f\x98\x80", 1),
 ):
     case(f"line end column with {name}", grammar(END_COLUMN, EQUAL, ()), text, success(2, column, column))
-# "Byte 9 moves to the next higher multiple of 8"; "Each byte but 9 and 10 advances the column by one."
+# "Byte 9 moves to the next higher multiple of 8"; "Each byte but 9 and 10 advances the column by one" (Note 3 excepts 128 to 191).
 for name, text, column in (
     ("a tab", b"\t", 8), ("two tabs", b"\t\t", 16), ("1 blank and a tab", b" \t", 8),
     ("7 and a tab", b" " * 7 + b"\t", 8),

@@ -103,8 +103,8 @@ uint32_t saktroum_read(const uint8_t *file, size_t file_bytes,
                        size_t result[5]);
 
 /* Scans a report by the keywords of a grammar file (1 to 5, 8 to 10). Writes four words a token (terminal, column,
- * offset, length) to `tokens`; result: the number of tokens. Columns count letters of UTF-8 (a byte from 128 to 191 adds
- * none), offsets and lengths bytes. */
+ * offset, length) to `tokens`; result: the number of tokens. A letter of UTF-8 is one column (a byte from
+ * 128 to 191 adds none); offsets and lengths count bytes. */
 uint32_t saktroum_scan(const uint8_t *file, size_t file_bytes,
                        const uint8_t *report, size_t report_bytes,
                        uint32_t *tokens, size_t token_words,

@@ -1,16 +1,18 @@
 -- Beside the rule of 01 nothing but columns has changed, and no token has moved to the right: a report that was scanned is
 -- scanned still, and 9 refuses fewer. A column is at most 8 a byte, as before, and tabs reach that.
-use Prim.Native.Nat.{ℕ, zero, suc, _+_, _*_, _/_, _≤_}
+use Prim.Native.Nat.{ℕ, zero, suc, _+_, _*_, _/_, _≤_, _<_}
 use mathlib.Core.Path.{_≡_, refl, sym, ap, _∙_}
 use mathlib.Core.Bool.{Bool, true, false, cond, _&&_, _||_, or-false}
 use mathlib.Core.List.{List, [], _∷_, _++_}
+use mathlib.Core.Logic.{⊎-elim}
 use lib.Dec.{leb, ltb, eqb}
 use lib.ListN.{length, getD, drop, replicate, getD-replicate}
 use native.Mathlib.Omega.{arith}
-use borrow.Author.Tests.{leb-true, le-ltb, ltb-false, ne-eqb}
+use borrow.Author.Tests.{leb-true, lt-ltb, le-ltb, ltb-false, ne-eqb}
 use Rattle.table.specs.Limits.{mostTokens, mostColumn}
 use Rattle.table.specs.Answer.{Answer, given, refused, refusedAt, refuseIf, andThen}
 use Rattle.table.proofs.Every.{and-left, both-false}
+use Rattle.table.proofs.Orders.{le-or-lt}
 use Rattle.byte_class.specs.Bytes.{isSingle, isContinuation, classOf}
 use Rattle.byte_class.specs.declared.Class.{Class}
 use Rattle.byte_class.specs.declared.Class.the-variants.{Break, Tab, Blank, Single, Digit, Run, Continuation, Refused}
@@ -215,8 +217,12 @@ step-within text p h w =
     let on = onward text p (record { within = w .0; fits = omega (arith, w .0, w .1) }) in
     (on .room .within, omega (arith, on .wide, on .room .within, w .0, w .1))
 
-pub none-refused : (text : List ℕ) (p : Position) → length text ≤ mostBytes → Within text p → stepFails8 text p ≡ fails8 text
-unfolding stepFails8
-none-refused text p h w =
+pub none-refused : (text : List ℕ) (p : Position) → Within text p → stepFails8 text p ≡ fails8 text
+unfolding stepFails8 fails8
+none-refused text p w =
+    ⊎-elim
+    (λ (h : length text ≤ mostBytes).
     rw (le-ltb (length text) (p .offset) (w .0), le-ltb lastStepColumn (p .column) (omega (arith, w .0, w .1)))
-    (or-false (fails8 text || false) ∙ or-false (fails8 text))
+    (or-false (fails8 text || false) ∙ or-false (fails8 text)))
+    (λ (h : mostBytes < length text). rw (lt-ltb mostBytes (length text) h) refl)
+    (le-or-lt (length text) mostBytes)
