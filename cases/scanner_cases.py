@@ -268,7 +268,8 @@ for byte in (0, 8, 11, 12, 14, 31, 127):
 # --- Letters of UTF-8, whole and damaged ---------------------------------------------------------
 
 # Note 3: "a `\u00b5` ahead of an entry pushes it one column too far. A byte from 128 to 191 no longer advances the
-# column; offsets still count bytes." The names say the letters by their Unicode numbers.
+# column; offsets still count bytes." The names say the letters by their Unicode numbers, in
+# hexadecimal as those are written.
 MICRO, DEGREE = "\u00b5".encode(), "\u00b0".encode()
 THREE = "\u2013".encode()  # A dash, e2 80 93.
 FOUR = "\U0001f600".encode()  # A face, f0 9f 98 80.
@@ -306,6 +307,9 @@ for said, letter in (("b5", MICRO), ("b0", DEGREE), ("2013", THREE), ("1f600", F
 # The entry that went wrong: `\u00b5` and two blanks, and below it three blanks, lead to the same column.
 reads("entries below each other", LOSS, MICRO + b"  loss\n   loss\n",
       [(1, 0, 0, 2), (3, 3, 4, 4), (2, 7, 8, 0), (3, 3, 12, 4), (2, 7, 16, 0)], 0)
+
+# A byte order mark is a letter like any other: it makes the first word another one, and takes a column.
+reads("byte order mark before a keyword", LOSS, b"\xef\xbb\xbfloss loss", [(1, 0, 0, 7), (3, 6, 8, 4), (2, 10, 12, 0)], 10)
 
 # Bytes 128 to 191 by themselves: run bytes that move no column, at every place.
 for byte in (128, 176, 191):
@@ -743,6 +747,7 @@ reads("8191 tabs, `a` and 6 blanks", PLAIN, T8191 + b"a      ", [(1, 65528, 8191
 too_far("8191 tabs, `a`, tab and `b`", PLAIN, T8191 + b"a\tb", 1, 8192, 65529, True)
 # Note 3: a line may hold more bytes before 9 comes.
 reads("8191 tabs and 7 letters b5", PLAIN, T8191 + MICRO * 7, [(1, 65528, 8191, 14), (2, 65535, 8205, 0)], 65535)
+too_many("8191 tabs and 7 letters b5, 7 words lent", PLAIN, T8191 + MICRO * 7, 2, 65535, 7)
 too_far("8191 tabs and 8 letters b5", PLAIN, T8191 + MICRO * 8, 1, 8207, 65536, True)
 reads("8191 tabs and 57344 bytes 128", PLAIN, T8191 + b"\x80" * 57344, [(1, 65528, 8191, 57344), (2, 65528, 65535, 0)], 65528)
 reads("8191 tabs, 7 blanks and byte 128", PLAIN, T8191 + b"       \x80", [(1, 65535, 8198, 1), (2, 65535, 8199, 0)], 65535)

@@ -1,15 +1,17 @@
 -- Where no byte is over 127 a report scans as it did before Note 3 of 02: its columns, places, tokens, steps and answer are
--- those of the rule of 01, which is stated first. Where a token begins and how long it is hangs on no column and is not
--- stated again; that this is as it was is in `NeverFarther`.
+-- those of 01, which are stated first. Shared are what a class means (`runClass`, `placeBy` and their like) and the terminal
+-- of a spelling, which asks a byte's class only whether it is that of digits: by `as-it-was` each of these gives a byte what
+-- it gave it by the classes of 01.
 use Prim.Native.Nat.{ℕ, zero, suc, _+_, _*_, _/_, _≤_, _<_}
-use mathlib.Core.Path.{_≡_, refl, ap, ap₂, _∙_}
-use mathlib.Core.Bool.{Bool, true, false, cond, _&&_, _||_}
+use mathlib.Core.Path.{_≡_, refl, sym, ap, ap₂, _∙_}
+use mathlib.Core.Bool.{Bool, true, false, cond, not, _&&_, _||_}
 use mathlib.Core.List.{List, [], _∷_, _++_, map}
 use mathlib.Core.Option.{none}
 use lib.Dec.{leb, ltb, eqb}
 use lib.ListN.{length, getD, take, drop}
 use native.Mathlib.Omega.{arith}
 use borrow.Author.Tests.{lt-leb}
+use Rattle.table.specs.Every.{every}
 use Rattle.table.specs.Limits.{mostTokens}
 use Rattle.table.specs.Answer.{Answer, given, refuseIf, andThen}
 use Rattle.byte_class.specs.Bytes.{isSingle, isContinuation, classOf}
@@ -17,13 +19,24 @@ use Rattle.byte_class.specs.declared.Class.{Class}
 use Rattle.byte_class.specs.declared.Class.the-variants.{Break, Tab, Blank, Single, Digit, Run, Continuation, Refused}
 use Rattle.byte_class.proofs.ClassLaws.{continuation-class}
 use Rattle.grammar_file.specs.File.{fileAnswer}
-use Rattle.report_checks.specs.Report.{fails8}
+use Rattle.report_checks.specs.Report.{mostBytes, refusedClass, fails8}
 use Rattle.places.specs.Columns.{columnBy, columnAfter, columnAt, columnOver}
-use Rattle.places.specs.Places.{Place, runLength}
+use Rattle.places.specs.Places.{Place, runClass, inRun, runLength}
 use Rattle.places.specs.Moves.{Position, position, Move, move, moveBy, nextPlace, nextIn}
 use Rattle.scanner.specs.Tokens.{Token, tokenOf}
-use Rattle.token_words.specs.Places.{midRun, hadToken, lineEnd, placeBy, placeAt, placesAt, places}
+use Rattle.token_words.specs.Places.{midRun, markBy, markAfter, hadToken, lineEnd, placeBy, placeAt, placesAt, places}
 use Rattle.token_words.specs.Scan.{tokens, overColumn, fails9, fails10, scanAnswer}
+
+-- The classes of 01.
+unfoldable pub oldClassOf : ℕ → Class
+oldClassOf b =
+    cond (eqb b 10) Break
+    (cond (eqb b 9) Tab
+    (cond (eqb b 13 || eqb b 32) Blank
+    (cond (ltb b 32 || eqb b 127) Refused
+    (cond (isSingle b) Single
+    (cond (leb 48 b && leb b 57) Digit
+    Run)))))
 
 -- The old rule: "Byte 10 ends a line and sets the column to 0. Byte 9 moves to the next higher multiple of 8. .. Each byte but
 -- 9 and 10 advances the column by one."
@@ -39,9 +52,26 @@ unfoldable pub oldColumnOver : List ℕ → ℕ → ℕ
 oldColumnOver [] c = c
 oldColumnOver (b ∷ bytes) c = oldColumnOver bytes (oldColumnAfter b c)
 
--- The places of a text, at these columns.
+-- Runs, and lines that have had a token.
+unfoldable pub oldInRun : ℕ → Bool
+oldInRun byte = runClass (oldClassOf byte)
+
+unfoldable pub oldRunLength : List ℕ → ℕ
+oldRunLength [] = 0
+oldRunLength (b ∷ bytes) = cond (oldInRun b) (suc (oldRunLength bytes)) 0
+
+unfoldable pub oldMidRun : List ℕ → ℕ → Bool
+oldMidRun text zero = false
+oldMidRun text (suc i) = oldInRun (getD text i 0)
+
+unfoldable pub oldHadToken : List ℕ → ℕ → Bool
+oldHadToken text zero = false
+oldHadToken text (suc i) = markBy (oldClassOf (getD text i 0)) (oldHadToken text i)
+
+-- The places of a text.
 unfoldable pub oldPlaceAt : List ℕ → ℕ → List Place
-oldPlaceAt text i = placeBy (classOf (getD text i 0)) (hadToken text i) (midRun text i) (oldColumnAt text i) i (runLength (drop i text))
+oldPlaceAt text i =
+    placeBy (oldClassOf (getD text i 0)) (oldHadToken text i) (oldMidRun text i) (oldColumnAt text i) i (oldRunLength (drop i text))
 
 unfoldable pub oldPlacesAt : List ℕ → ℕ → ℕ → List Place
 oldPlacesAt text i zero = []
@@ -49,16 +79,19 @@ oldPlacesAt text i (suc n) = oldPlaceAt text i ++ oldPlacesAt text (suc i) n
 
 unfoldable pub oldPlaces : List ℕ → List Place
 oldPlaces text =
-    oldPlacesAt text 0 (length text) ++ lineEnd (hadToken text (length text)) (oldColumnAt text (length text)) (length text)
+    oldPlacesAt text 0 (length text) ++ lineEnd (oldHadToken text (length text)) (oldColumnAt text (length text)) (length text)
 
--- The tokens there, and what a scan answers.
+-- The tokens there, 8, and what a scan answers.
 unfoldable pub oldTokens : List (List ℕ) → List ℕ → List Token
 oldTokens keywords text = map (tokenOf keywords text) (oldPlaces text)
+
+unfoldable pub oldFails8 : List ℕ → Bool
+oldFails8 text = ltb mostBytes (length text) || not (every (length text) (λ i. not (refusedClass (oldClassOf (getD text i 0)))))
 
 unfoldable pub oldScanAnswer : List ℕ → List ℕ → ℕ → Answer ℕ
 oldScanAnswer file text lent =
     andThen (fileAnswer file)
-    (refuseIf (fails8 text) 8
+    (refuseIf (oldFails8 text) 8
     (refuseIf (overColumn (oldPlaces text)) 9
     (refuseIf (ltb mostTokens (length (oldPlaces text)) || ltb lent (length (oldPlaces text) * 4)) 10
     (given (length (oldPlaces text))))))
@@ -68,22 +101,11 @@ unfoldable pub oldNextPlace : List ℕ → ℕ → ℕ → Bool → Move
 oldNextPlace [] o c true = move true c o 0 (position o c false)
 oldNextPlace [] o c false = record { found = none; reached = position o c false }
 oldNextPlace (b ∷ bytes) o c m =
-    moveBy (classOf b) m o c (oldColumnAfter b c) (runLength (b ∷ bytes))
-    (oldColumnOver (take (runLength (b ∷ bytes)) (b ∷ bytes)) c) (oldNextPlace bytes (o + 1) (oldColumnAfter b c) m)
+    moveBy (oldClassOf b) m o c (oldColumnAfter b c) (oldRunLength (b ∷ bytes))
+    (oldColumnOver (take (oldRunLength (b ∷ bytes)) (b ∷ bytes)) c) (oldNextPlace bytes (o + 1) (oldColumnAfter b c) m)
 
 abbrev pub oldNextIn : List ℕ → Position → Move
 oldNextIn text p = oldNextPlace (drop (p .offset) text) (p .offset) (p .column) (p .mark)
-
--- The classes of 01.
-unfoldable pub oldClassOf : ℕ → Class
-oldClassOf b =
-    cond (eqb b 10) Break
-    (cond (eqb b 9) Tab
-    (cond (eqb b 13 || eqb b 32) Blank
-    (cond (ltb b 32 || eqb b 127) Refused
-    (cond (isSingle b) Single
-    (cond (leb 48 b && leb b 57) Digit
-    Run)))))
 
 old-column : (b c : ℕ) → columnBy (oldClassOf b) c ≡ oldColumnAfter b c
 unfolding oldClassOf oldColumnAfter
@@ -118,6 +140,68 @@ column-rule b c = ap (λ (k : Class). columnBy k c) (class-rule b) ∙ by-test (
     by-test true = refl
     by-test false = old-column b c
 
+-- What is the same of continuation bytes and run bytes is, of every byte, what it was by the classes of 01.
+was-run : (b : ℕ) → isContinuation b ≡ true → oldClassOf b ≡ Run
+unfolding classOf oldClassOf
+was-run b e =
+    by-tests (eqb b 10) (eqb b 9) (eqb b 13 || eqb b 32) (ltb b 32 || eqb b 127) (isSingle b) (leb 48 b && leb b 57) (isContinuation b)
+    (class-rule b ∙ rw e refl)
+  where
+    by-tests :
+        (p q r s t d k : Bool)
+        → cond p Break (cond q Tab (cond r Blank (cond s Refused (cond t Single (cond d Digit (cond k Continuation Run)))))) ≡ Continuation
+        → cond p Break (cond q Tab (cond r Blank (cond s Refused (cond t Single (cond d Digit Run))))) ≡ Run
+    by-tests true q r s t d k h = absurd (let o : _≡_ {A = ℕ} 0 1 = cc in omega arith)
+    by-tests false true r s t d k h = absurd (let o : _≡_ {A = ℕ} 0 1 = cc in omega arith)
+    by-tests false false true s t d k h = absurd (let o : _≡_ {A = ℕ} 0 1 = cc in omega arith)
+    by-tests false false false true t d k h = absurd (let o : _≡_ {A = ℕ} 0 1 = cc in omega arith)
+    by-tests false false false false true d k h = absurd (let o : _≡_ {A = ℕ} 0 1 = cc in omega arith)
+    by-tests false false false false false true k h = absurd (let o : _≡_ {A = ℕ} 0 1 = cc in omega arith)
+    by-tests false false false false false false k h = refl
+
+pub as-it-was : (b : ℕ) {A : Type 0} (f : Class → A) → f Continuation ≡ f Run → f (classOf b) ≡ f (oldClassOf b)
+as-it-was b f same = ap f (class-rule b) ∙ by-test (isContinuation b) refl
+  where
+    by-test : (k : Bool) → isContinuation b ≡ k → f (cond k Continuation (oldClassOf b)) ≡ f (oldClassOf b)
+    by-test true e = same ∙ sym (ap f (was-run b e))
+    by-test false e = refl
+
+-- So for every text runs, lines that have had a token, 8, and the place that begins at a byte, at whatever column.
+run-same : (b : ℕ) → inRun b ≡ oldInRun b
+unfolding inRun oldInRun
+run-same b = as-it-was b runClass refl
+
+length-same : (bytes : List ℕ) → runLength bytes ≡ oldRunLength bytes
+unfolding runLength oldRunLength
+length-same [] = refl
+length-same (b ∷ bytes) = rw (run-same b, length-same bytes) refl
+
+mid-same : (text : List ℕ) (i : ℕ) → midRun text i ≡ oldMidRun text i
+unfolding midRun oldMidRun
+mid-same text zero = refl
+mid-same text (suc i) = run-same (getD text i 0)
+
+pub had-same : (text : List ℕ) (i : ℕ) → hadToken text i ≡ oldHadToken text i
+unfolding hadToken oldHadToken markAfter
+had-same text zero = refl
+had-same text (suc i) =
+    ap (markAfter (getD text i 0)) (had-same text i) ∙ as-it-was (getD text i 0) (λ k. markBy k (oldHadToken text i)) refl
+
+pub refused-same : (text : List ℕ) → fails8 text ≡ oldFails8 text
+unfolding fails8 oldFails8
+refused-same text =
+    ap
+    (λ (f : ℕ → Bool). ltb mostBytes (length text) || not (every (length text) f))
+    (λ j i. not (as-it-was (getD text i 0) refusedClass refl j))
+
+pub begun-same :
+    (text : List ℕ) (i c : ℕ)
+    → placeBy (classOf (getD text i 0)) (hadToken text i) (midRun text i) c i (runLength (drop i text))
+    ≡ placeBy (oldClassOf (getD text i 0)) (oldHadToken text i) (oldMidRun text i) c i (oldRunLength (drop i text))
+begun-same text i c =
+    as-it-was (getD text i 0) (λ k. placeBy k (hadToken text i) (midRun text i) c i (runLength (drop i text))) refl
+    ∙ rw (had-same text i, mid-same text i, length-same (drop i text)) refl
+
 -- A byte up to 127.
 pub ascii-column : (b c : ℕ) → b ≤ 127 → columnAfter b c ≡ oldColumnAfter b c
 unfolding isContinuation
@@ -139,6 +223,7 @@ module _ (text : List ℕ) (a : Ascii text) where
   unfolding placeAt oldPlaceAt
   place-same i h =
       ap (λ (c : ℕ). placeBy (classOf (getD text i 0)) (hadToken text i) (midRun text i) c i (runLength (drop i text))) (ascii-columns i h)
+      ∙ begun-same text i (oldColumnAt text i)
 
   places-same : (n i : ℕ) → i + n ≡ length text → placesAt text i n ≡ oldPlacesAt text i n
   unfolding placesAt oldPlacesAt
@@ -150,7 +235,7 @@ module _ (text : List ℕ) (a : Ascii text) where
   unfolding places oldPlaces
   ascii-places =
       ap₂ _++_ (places-same (length text) 0 (omega arith))
-      (ap (λ (c : ℕ). lineEnd (hadToken text (length text)) c (length text)) (ascii-columns (length text) (omega arith)))
+      (ap₂ (λ (m : Bool) (c : ℕ). lineEnd m c (length text)) (had-same text (length text)) (ascii-columns (length text) (omega arith)))
 
   pub ascii-tokens : (keywords : List (List ℕ)) → tokens keywords text ≡ oldTokens keywords text
   unfolding tokens oldTokens
@@ -159,7 +244,7 @@ module _ (text : List ℕ) (a : Ascii text) where
   -- What a scan of it answers.
   pub ascii-scans : (file : List ℕ) (lent : ℕ) → scanAnswer file text lent ≡ oldScanAnswer file text lent
   unfolding scanAnswer oldScanAnswer fails9 fails10
-  ascii-scans file lent = rw ascii-places refl
+  ascii-scans file lent = rw (refused-same text, ascii-places) refl
 
 -- The same for its steps.
 tail-ascii : (b : ℕ) (bytes : List ℕ) → Ascii (b ∷ bytes) → Ascii bytes
@@ -177,10 +262,11 @@ unfolding nextPlace oldNextPlace
 next-same [] a o c true = refl
 next-same [] a o c false = refl
 next-same (b ∷ bytes) a o c m =
-    rw (ascii-column b c (a 0 (omega arith)), over-same (runLength (b ∷ bytes)) (b ∷ bytes) a c)
-    (ap
-    (moveBy (classOf b) m o c (oldColumnAfter b c) (runLength (b ∷ bytes)) (oldColumnOver (take (runLength (b ∷ bytes)) (b ∷ bytes)) c))
-    (next-same bytes (tail-ascii b bytes a) (o + 1) (oldColumnAfter b c) m))
+    rw (ascii-column b c (a 0 (omega arith)), over-same (runLength (b ∷ bytes)) (b ∷ bytes) a c, length-same (b ∷ bytes), next-same bytes (tail-ascii b bytes a) (o + 1) (oldColumnAfter b c) m)
+    (as-it-was b
+    (λ k.
+    moveBy k m o c (oldColumnAfter b c) (oldRunLength (b ∷ bytes)) (oldColumnOver (take (oldRunLength (b ∷ bytes)) (b ∷ bytes)) c)
+    (oldNextPlace bytes (o + 1) (oldColumnAfter b c) m)) refl)
 
 drop-ascii : (o : ℕ) (text : List ℕ) → Ascii text → Ascii (drop o text)
 drop-ascii zero text a = a

@@ -22,6 +22,13 @@ utf8 x =
     (cond (ltb x 65536) ((224 + x / 4096) ∷ (128 + x / 64 % 64) ∷ (128 + x % 64) ∷ [])
     ((240 + x / 262144) ∷ (128 + x / 4096 % 64) ∷ (128 + x / 64 % 64) ∷ (128 + x % 64) ∷ [])))
 
+-- Those of `µ`, of a dash and of a sign of four bytes.
+pub known-letters :
+    (utf8 181 ≡ 194 ∷ 181 ∷ []) × (utf8 8211 ≡ 226 ∷ 128 ∷ 147 ∷ []) × (utf8 128512 ≡ 240 ∷ 159 ∷ 152 ∷ 128 ∷ [])
+unfolding utf8
+known-letters = (refl, refl, refl)
+
+-- The bytes of some code points.
 unfoldable pub bytesOf : List ℕ → List ℕ
 bytesOf [] = []
 bytesOf (x ∷ xs) = utf8 x ++ bytesOf xs

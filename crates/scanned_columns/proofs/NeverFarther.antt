@@ -1,9 +1,10 @@
--- Beside the rule of 01 nothing but columns has changed, and no token has moved to the right: a report that was scanned is
--- scanned still, and 9 refuses fewer. A column is at most 8 a byte, as before, and tabs reach that.
+-- Beside the rule of 01 nothing but columns has changed, and no token has moved to the right: a scan answers what it did,
+-- unless that was 9. A column is at most 8 a byte, as before, and tabs reach that.
 use Prim.Native.Nat.{ℕ, zero, suc, _+_, _*_, _/_, _≤_, _<_}
 use mathlib.Core.Path.{_≡_, refl, sym, ap, _∙_}
 use mathlib.Core.Bool.{Bool, true, false, cond, _&&_, _||_, or-false}
 use mathlib.Core.List.{List, [], _∷_, _++_}
+use mathlib.Core.Option.{Option}
 use mathlib.Core.Logic.{⊎-elim}
 use lib.Dec.{leb, ltb, eqb}
 use lib.ListN.{length, getD, drop, replicate, getD-replicate}
@@ -21,39 +22,15 @@ use Rattle.report_checks.specs.Report.{mostBytes, refusedClass, fails8}
 use Rattle.number_spelling.specs.Number.{digitClass}
 use Rattle.places.specs.Columns.{columnAfter, columnAt}
 use Rattle.places.specs.Places.{Place, runClass, runLength}
-use Rattle.places.specs.Moves.{Position, Move, moveBy, nextIn}
+use Rattle.places.specs.Moves.{Position, position, Move, moveBy, nextIn}
 use Rattle.places.proofs.FindLaws.{column-grows}
-use Rattle.scanner.specs.Steps.{lastStepColumn, stepFails8}
+use Rattle.scanner.specs.Tokens.{Token}
+use Rattle.scanner.specs.Steps.{lastStepColumn, stepFails8, standing}
 use Rattle.token_words.specs.Places.{midRun, markBy, hadToken, lineEnd, placeBy, placeAt, placesAt, places}
 use Rattle.token_words.proofs.PlaceLaws.{onward}
 use Rattle.token_words.specs.Scan.{overColumn, fails9, fails10, scanAnswer}
-use Rattle.scanned_columns.proofs.AsciiScans.{oldColumnAfter, oldColumnAt, oldPlaceAt, oldPlacesAt, oldPlaces, oldScanAnswer, oldClassOf, class-rule, column-rule}
-
--- What is the same of continuation bytes and run bytes is, of every byte, what it was by the classes of 01.
-was-run : (b : ℕ) → isContinuation b ≡ true → oldClassOf b ≡ Run
-unfolding classOf oldClassOf
-was-run b e =
-    by-tests (eqb b 10) (eqb b 9) (eqb b 13 || eqb b 32) (ltb b 32 || eqb b 127) (isSingle b) (leb 48 b && leb b 57) (isContinuation b)
-    (class-rule b ∙ rw e refl)
-  where
-    by-tests :
-        (p q r s t d k : Bool)
-        → cond p Break (cond q Tab (cond r Blank (cond s Refused (cond t Single (cond d Digit (cond k Continuation Run)))))) ≡ Continuation
-        → cond p Break (cond q Tab (cond r Blank (cond s Refused (cond t Single (cond d Digit Run))))) ≡ Run
-    by-tests true q r s t d k h = absurd (let o : _≡_ {A = ℕ} 0 1 = cc in omega arith)
-    by-tests false true r s t d k h = absurd (let o : _≡_ {A = ℕ} 0 1 = cc in omega arith)
-    by-tests false false true s t d k h = absurd (let o : _≡_ {A = ℕ} 0 1 = cc in omega arith)
-    by-tests false false false true t d k h = absurd (let o : _≡_ {A = ℕ} 0 1 = cc in omega arith)
-    by-tests false false false false true d k h = absurd (let o : _≡_ {A = ℕ} 0 1 = cc in omega arith)
-    by-tests false false false false false true k h = absurd (let o : _≡_ {A = ℕ} 0 1 = cc in omega arith)
-    by-tests false false false false false false k h = refl
-
-as-it-was : (b : ℕ) {A : Type 0} (f : Class → A) → f Continuation ≡ f Run → f (classOf b) ≡ f (oldClassOf b)
-as-it-was b f same = ap f (class-rule b) ∙ by-test (isContinuation b) refl
-  where
-    by-test : (k : Bool) → isContinuation b ≡ k → f (cond k Continuation (oldClassOf b)) ≡ f (oldClassOf b)
-    by-test true e = same ∙ sym (ap f (was-run b e))
-    by-test false e = refl
+use Rattle.scanned_columns.proofs.AsciiScans.{oldColumnAfter, oldColumnAt, oldPlaceAt, oldPlacesAt, oldPlaces, oldScanAnswer, oldClassOf, column-rule, as-it-was}
+use Rattle.scanned_columns.proofs.AsciiScans.{oldHadToken, oldFails8, had-same, refused-same, begun-same}
 
 -- So it is with runs, digits, refused bytes, lines that have had a token, and the tokens that begin at a byte.
 pub record AsBefore (b : ℕ) : Type 0 where
@@ -143,8 +120,9 @@ module _ (text : List ℕ) where
   at-nearer : (i : ℕ) → Nearer (placeAt text i) (oldPlaceAt text i)
   unfolding placeAt oldPlaceAt
   at-nearer i =
-      place-nearer (columnAt text i) (oldColumnAt text i) i (columns-nearer text i) (classOf (getD text i 0)) (hadToken text i) (midRun text i)
-      (runLength (drop i text))
+      rw (sym (begun-same text i (oldColumnAt text i)))
+      (place-nearer (columnAt text i) (oldColumnAt text i) i (columns-nearer text i) (classOf (getD text i 0)) (hadToken text i) (midRun text i)
+      (runLength (drop i text)))
 
   all-nearer : (n i : ℕ) → Nearer (placesAt text i n) (oldPlacesAt text i n)
   unfolding placesAt oldPlacesAt
@@ -155,7 +133,8 @@ module _ (text : List ℕ) where
   unfolding places oldPlaces
   places-nearer =
       joined (all-nearer (length text) 0)
-      (end-nearer (columnAt text (length text)) (oldColumnAt text (length text)) (length text) (columns-nearer text (length text)) (hadToken text (length text)))
+      (rw (sym (had-same text (length text)))
+      (end-nearer (columnAt text (length text)) (oldColumnAt text (length text)) (length text) (columns-nearer text (length text)) (hadToken text (length text))))
 
 -- As many, and none of them past the last column if none was.
 same-count : {ps qs : List Place} → Nearer ps qs → length ps ≡ length qs
@@ -169,18 +148,22 @@ none-over (more {c = c} {d = d} {ps = ps} {qs = qs} h x) e =
     let both = both-false (ltb mostColumn d) (overColumn qs) e in
     rw (le-ltb mostColumn c (omega (arith, ltb-false mostColumn d (both .0))), none-over x (both .1)) refl
 
--- What a scan answered it answers.
-after-file : {A : Type 0} (a : Answer A) (x y : Answer ℕ) (n : ℕ) → (x ≡ given n → y ≡ given n) → andThen a x ≡ given n → andThen a y ≡ given n
-after-file (given v) x y n f e = f e
-after-file (refused k) x y n f e = e
-after-file (refusedAt k node) x y n f e = e
+-- What a scan answered it answers, unless that was 9.
+after-file :
+    {A : Type 0} (a : Answer A) (x y : Answer ℕ)
+    → ((y ≡ refused 9 → ⊥) → x ≡ y)
+    → (andThen a y ≡ refused 9 → ⊥)
+    → andThen a x ≡ andThen a y
+after-file (given v) x y f n = f n
+after-file (refused k) x y f n = refl
+after-file (refusedAt k node) x y f n = refl
 
-no-answer : (k n : ℕ) → refused k ≡ given n → ⊥
-no-answer k n e = absurd (let o : _≡_ {A = ℕ} 0 1 = cc in omega arith)
-
-pub still-scanned : (file text : List ℕ) (lent n : ℕ) → oldScanAnswer file text lent ≡ given n → scanAnswer file text lent ≡ given n
+pub only-nine :
+    (file text : List ℕ) (lent : ℕ)
+    → (oldScanAnswer file text lent ≡ refused 9 → ⊥)
+    → scanAnswer file text lent ≡ oldScanAnswer file text lent
 unfolding scanAnswer oldScanAnswer fails9 fails10
-still-scanned file text lent n = after-file (fileAnswer file) _ _ n (by-8 (fails8 text))
+only-nine file text lent = rw (sym (refused-same text)) (after-file (fileAnswer file) _ _ (by-8 (fails8 text)))
   where
     x : Nearer (places text) (oldPlaces text)
     x = places-nearer text
@@ -188,14 +171,27 @@ still-scanned file text lent n = after-file (fileAnswer file) _ _ n (by-8 (fails
     rest : ℕ → Answer ℕ
     rest m = refuseIf (ltb mostTokens m || ltb lent (m * 4)) 10 (given m)
 
-    by-9 : (u v : Bool) → (v ≡ false → u ≡ false) → refuseIf v 9 (rest (length (oldPlaces text))) ≡ given n → refuseIf u 9 (rest (length (places text))) ≡ given n
-    by-9 u true f e = absurd (no-answer 9 n e)
-    by-9 u false f e = rw (f refl, same-count x) e
+    by-9 :
+        (u v : Bool)
+        → (v ≡ false → u ≡ false)
+        → (refuseIf v 9 (rest (length (oldPlaces text))) ≡ refused 9 → ⊥)
+        → refuseIf u 9 (rest (length (places text))) ≡ refuseIf v 9 (rest (length (oldPlaces text)))
+    by-9 u true f n = absurd (n refl)
+    by-9 u false f n = rw (f refl, same-count x) refl
 
-    by-8 : (t : Bool) → refuseIf t 8 (refuseIf (overColumn (oldPlaces text)) 9 (rest (length (oldPlaces text)))) ≡ given n
-        → refuseIf t 8 (refuseIf (overColumn (places text)) 9 (rest (length (places text)))) ≡ given n
-    by-8 true e = e
-    by-8 false e = by-9 (overColumn (places text)) (overColumn (oldPlaces text)) (none-over x) e
+    by-8 :
+        (t : Bool)
+        → (refuseIf t 8 (refuseIf (overColumn (oldPlaces text)) 9 (rest (length (oldPlaces text)))) ≡ refused 9 → ⊥)
+        → refuseIf t 8 (refuseIf (overColumn (places text)) 9 (rest (length (places text))))
+        ≡ refuseIf t 8 (refuseIf (overColumn (oldPlaces text)) 9 (rest (length (oldPlaces text))))
+    by-8 true n = refl
+    by-8 false n = by-9 (overColumn (places text)) (overColumn (oldPlaces text)) (none-over x) n
+
+no-answer : (k n : ℕ) → refused k ≡ given n → ⊥
+no-answer k n e = absurd (let o : _≡_ {A = ℕ} 0 1 = cc in omega arith)
+
+pub still-scanned : (file text : List ℕ) (lent n : ℕ) → oldScanAnswer file text lent ≡ given n → scanAnswer file text lent ≡ given n
+still-scanned file text lent n e = only-nine file text lent (λ r. no-answer 9 n (sym r ∙ e)) ∙ e
 
 -- A column is at most 8 a byte, and so many tabs reach it.
 pub columns-within : (text : List ℕ) (i : ℕ) → columnAt text i ≤ 8 * i
@@ -212,10 +208,18 @@ tabs-reach n (suc i) h = rw (getD-replicate {A = ℕ} n i 9 0 h, tabs-reach n i 
 abbrev pub Within : List ℕ → Position → Type 0
 Within text p = (p .offset ≤ length text) × (p .column ≤ 8 * p .offset)
 
+pub start-within : (text : List ℕ) → Within text (position 0 0 false)
+start-within text = (omega arith, omega arith)
+
 pub step-within : (text : List ℕ) (p : Position) → length text ≤ mostBytes → Within text p → Within text (nextIn text p .reached)
 step-within text p h w =
     let on = onward text p (record { within = w .0; fits = omega (arith, w .0, w .1) }) in
     (on .room .within, omega (arith, on .wide, on .room .within, w .0, w .1))
+
+pub stands-within : (text : List ℕ) (p : Position) (a : Answer (Option Token)) → length text ≤ mostBytes → Within text p → Within text (standing a text p)
+stands-within text p (given t) h w = step-within text p h w
+stands-within text p (refused n) h w = w
+stands-within text p (refusedAt n node) h w = w
 
 pub none-refused : (text : List ℕ) (p : Position) → Within text p → stepFails8 text p ≡ fails8 text
 unfolding stepFails8 fails8
