@@ -107,6 +107,7 @@ oldNextPlace (b ∷ bytes) o c m =
 abbrev pub oldNextIn : List ℕ → Position → Move
 oldNextIn text p = oldNextPlace (drop (p .offset) text) (p .offset) (p .column) (p .mark)
 
+-- The old rule by these classes.
 old-column : (b c : ℕ) → columnBy (oldClassOf b) c ≡ oldColumnAfter b c
 unfolding oldClassOf oldColumnAfter
 old-column b c = by-tests (eqb b 10) (eqb b 9) (eqb b 13 || eqb b 32) (ltb b 32 || eqb b 127) (isSingle b) (leb 48 b && leb b 57)
@@ -262,7 +263,12 @@ unfolding nextPlace oldNextPlace
 next-same [] a o c true = refl
 next-same [] a o c false = refl
 next-same (b ∷ bytes) a o c m =
-    rw (ascii-column b c (a 0 (omega arith)), over-same (runLength (b ∷ bytes)) (b ∷ bytes) a c, length-same (b ∷ bytes), next-same bytes (tail-ascii b bytes a) (o + 1) (oldColumnAfter b c) m)
+    rw (
+      ascii-column b c (a 0 (omega arith)),
+      over-same (runLength (b ∷ bytes)) (b ∷ bytes) a c,
+      length-same (b ∷ bytes),
+      next-same bytes (tail-ascii b bytes a) (o + 1) (oldColumnAfter b c) m,
+    )
     (as-it-was b
     (λ k.
     moveBy k m o c (oldColumnAfter b c) (oldRunLength (b ∷ bytes)) (oldColumnOver (take (oldRunLength (b ∷ bytes)) (b ∷ bytes)) c)
