@@ -32,7 +32,8 @@ use Rattle.token_words.specs.Scan.{overColumn, fails9, fails10, scanAnswer}
 use Rattle.scanned_columns.proofs.AsciiScans.{oldColumnAfter, oldColumnAt, oldPlaceAt, oldPlacesAt, oldPlaces, oldScanAnswer, oldClassOf, column-rule, as-it-was}
 use Rattle.scanned_columns.proofs.AsciiScans.{oldHadToken, oldFails8, had-same, refused-same, begun-same}
 
--- So it is with runs, digits, refused bytes, lines that have had a token, and the tokens that begin at a byte.
+-- What a class means is for every byte what it was: to runs, digits, refused bytes, lines that have had a token, and the
+-- tokens that begin at a byte.
 pub record AsBefore (b : ℕ) : Type 0 where
   pub run : runClass (classOf b) ≡ runClass (oldClassOf b)
   pub digit : digitClass (classOf b) ≡ digitClass (oldClassOf b)
