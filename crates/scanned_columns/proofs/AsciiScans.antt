@@ -107,7 +107,7 @@ oldNextPlace (b ∷ bytes) o c m =
 abbrev pub oldNextIn : List ℕ → Position → Move
 oldNextIn text p = oldNextPlace (drop (p .offset) text) (p .offset) (p .column) (p .mark)
 
--- The old rule by these classes.
+-- The old rule by the classes of 01.
 old-column : (b c : ℕ) → columnBy (oldClassOf b) c ≡ oldColumnAfter b c
 unfolding oldClassOf oldColumnAfter
 old-column b c = by-tests (eqb b 10) (eqb b 9) (eqb b 13 || eqb b 32) (ltb b 32 || eqb b 127) (isSingle b) (leb 48 b && leb b 57)
@@ -167,7 +167,7 @@ as-it-was b f same = ap f (class-rule b) ∙ by-test (isContinuation b) refl
     by-test true e = same ∙ sym (ap f (was-run b e))
     by-test false e = refl
 
--- So for every text runs, lines that have had a token, 8, and the place that begins at a byte, at whatever column.
+-- So are, for every text, runs, lines that have had a token, 8, and the place that begins at a byte, at whatever column.
 run-same : (b : ℕ) → inRun b ≡ oldInRun b
 unfolding inRun oldInRun
 run-same b = as-it-was b runClass refl

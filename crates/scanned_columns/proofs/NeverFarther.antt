@@ -2,7 +2,7 @@
 -- unless that was 9. A column is at most 8 a byte, as before, and tabs reach that.
 use Prim.Native.Nat.{ℕ, zero, suc, _+_, _*_, _/_, _≤_, _<_}
 use mathlib.Core.Path.{_≡_, refl, sym, ap, _∙_}
-use mathlib.Core.Bool.{Bool, true, false, cond, _&&_, _||_, or-false}
+use mathlib.Core.Bool.{Bool, true, false, cond, _||_, or-false}
 use mathlib.Core.List.{List, [], _∷_, _++_}
 use mathlib.Core.Option.{Option}
 use mathlib.Core.Logic.{⊎-elim}
@@ -14,7 +14,7 @@ use Rattle.table.specs.Limits.{mostTokens, mostColumn}
 use Rattle.table.specs.Answer.{Answer, given, refused, refusedAt, refuseIf, andThen}
 use Rattle.table.proofs.Every.{and-left, both-false}
 use Rattle.table.proofs.Orders.{le-or-lt}
-use Rattle.byte_class.specs.Bytes.{isSingle, isContinuation, classOf}
+use Rattle.byte_class.specs.Bytes.{isContinuation, classOf}
 use Rattle.byte_class.specs.declared.Class.{Class}
 use Rattle.byte_class.specs.declared.Class.the-variants.{Break, Tab, Blank, Single, Digit, Run, Continuation, Refused}
 use Rattle.grammar_file.specs.File.{fileAnswer}
@@ -30,7 +30,7 @@ use Rattle.token_words.specs.Places.{midRun, markBy, hadToken, lineEnd, placeBy
 use Rattle.token_words.proofs.PlaceLaws.{onward}
 use Rattle.token_words.specs.Scan.{overColumn, fails9, fails10, scanAnswer}
 use Rattle.scanned_columns.proofs.AsciiScans.{oldColumnAfter, oldColumnAt, oldPlaceAt, oldPlacesAt, oldPlaces, oldScanAnswer, oldClassOf, column-rule, as-it-was}
-use Rattle.scanned_columns.proofs.AsciiScans.{oldHadToken, oldFails8, had-same, refused-same, begun-same}
+use Rattle.scanned_columns.proofs.AsciiScans.{had-same, refused-same, begun-same}
 
 -- What a class means is for every byte what it was: to runs, digits, refused bytes, lines that have had a token, and the
 -- tokens that begin at a byte.
