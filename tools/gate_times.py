@@ -46,6 +46,7 @@ def main():
     checks, edits = read(words[0])
     print("\n".join(table(checks, edits)))
     if "--edits" in sys.argv:
+        print("\nEach edit, in seconds:\n")
         for crate in filter(edits.get, list(edits)):
             print(f"- `{crate}`: " + ", ".join(f"{name} {seconds}" for name, seconds in edits[crate].items()))
 
