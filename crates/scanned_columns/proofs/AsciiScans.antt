@@ -1,7 +1,7 @@
 -- Where no byte is over 127 a report scans as it did before Note 3 of 02: its columns, places, tokens, steps and answer are
 -- those of 01, which are stated first. Shared are what a class means (`runClass`, `placeBy` and their like) and the terminal
--- of a spelling, which asks a byte's class only whether it is that of digits: by `as-it-was` each of these gives a byte what
--- it gave it by the classes of 01.
+-- of a spelling, which asks a byte's class only whether it is that of digits: by `as-it-was` and `digit-same` each of these
+-- gives a byte what it gave it by the classes of 01.
 use Prim.Native.Nat.{ℕ, zero, suc, _+_, _*_, _/_, _≤_, _<_}
 use mathlib.Core.Path.{_≡_, refl, sym, ap, ap₂, _∙_}
 use mathlib.Core.Bool.{Bool, true, false, cond, not, _&&_, _||_}
@@ -20,6 +20,7 @@ use Rattle.byte_class.specs.declared.Class.the-variants.{Break, Tab, Blank, Sin
 use Rattle.byte_class.proofs.ClassLaws.{continuation-class}
 use Rattle.grammar_file.specs.File.{fileAnswer}
 use Rattle.report_checks.specs.Report.{mostBytes, refusedClass, fails8}
+use Rattle.number_spelling.specs.Number.{digitClass}
 use Rattle.places.specs.Columns.{columnBy, columnAfter, columnAt, columnOver}
 use Rattle.places.specs.Places.{Place, runClass, inRun, runLength}
 use Rattle.places.specs.Moves.{Position, position, Move, move, moveBy, nextPlace, nextIn}
@@ -167,7 +168,11 @@ as-it-was b f same = ap f (class-rule b) ∙ by-test (isContinuation b) refl
     by-test true e = same ∙ sym (ap f (was-run b e))
     by-test false e = refl
 
--- So are, for every text, runs, lines that have had a token, 8, and the place that begins at a byte, at whatever column.
+-- So are digits, and for every text runs, lines that have had a token, 8, and the place that begins at a byte, at whatever
+-- column.
+pub digit-same : (b : ℕ) → digitClass (classOf b) ≡ digitClass (oldClassOf b)
+digit-same b = as-it-was b digitClass refl
+
 run-same : (b : ℕ) → inRun b ≡ oldInRun b
 unfolding inRun oldInRun
 run-same b = as-it-was b runClass refl

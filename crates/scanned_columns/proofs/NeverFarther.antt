@@ -18,42 +18,18 @@ use Rattle.byte_class.specs.Bytes.{isContinuation, classOf}
 use Rattle.byte_class.specs.declared.Class.{Class}
 use Rattle.byte_class.specs.declared.Class.the-variants.{Break, Tab, Blank, Single, Digit, Run, Continuation, Refused}
 use Rattle.grammar_file.specs.File.{fileAnswer}
-use Rattle.report_checks.specs.Report.{mostBytes, refusedClass, fails8}
-use Rattle.number_spelling.specs.Number.{digitClass}
+use Rattle.report_checks.specs.Report.{mostBytes, fails8}
 use Rattle.places.specs.Columns.{columnAfter, columnAt}
-use Rattle.places.specs.Places.{Place, runClass, runLength}
-use Rattle.places.specs.Moves.{Position, position, Move, moveBy, nextIn}
+use Rattle.places.specs.Places.{Place, runLength}
+use Rattle.places.specs.Moves.{Position, position, nextIn}
 use Rattle.places.proofs.FindLaws.{column-grows}
 use Rattle.scanner.specs.Tokens.{Token}
 use Rattle.scanner.specs.Steps.{lastStepColumn, stepFails8, standing}
-use Rattle.token_words.specs.Places.{midRun, markBy, hadToken, lineEnd, placeBy, placeAt, placesAt, places}
+use Rattle.token_words.specs.Places.{midRun, hadToken, lineEnd, placeBy, placeAt, placesAt, places}
 use Rattle.token_words.proofs.PlaceLaws.{onward}
 use Rattle.token_words.specs.Scan.{overColumn, fails9, fails10, scanAnswer}
-use Rattle.scanned_columns.proofs.AsciiScans.{oldColumnAfter, oldColumnAt, oldPlaceAt, oldPlacesAt, oldPlaces, oldScanAnswer, oldClassOf, column-rule, as-it-was}
+use Rattle.scanned_columns.proofs.AsciiScans.{oldColumnAfter, oldColumnAt, oldPlaceAt, oldPlacesAt, oldPlaces, oldScanAnswer, column-rule}
 use Rattle.scanned_columns.proofs.AsciiScans.{had-same, refused-same, begun-same}
-
--- What a class means is for every byte what it was: to runs, digits, refused bytes, lines that have had a token, and the
--- tokens that begin at a byte.
-pub record AsBefore (b : ℕ) : Type 0 where
-  pub run : runClass (classOf b) ≡ runClass (oldClassOf b)
-  pub digit : digitClass (classOf b) ≡ digitClass (oldClassOf b)
-  pub refuses : refusedClass (classOf b) ≡ refusedClass (oldClassOf b)
-  pub mark : (m : Bool) → markBy (classOf b) m ≡ markBy (oldClassOf b) m
-  pub place : (had mid : Bool) (c o n : ℕ) → placeBy (classOf b) had mid c o n ≡ placeBy (oldClassOf b) had mid c o n
-  pub moves :
-      (m : Bool) (o c next n after : ℕ) (rest : Move)
-      → moveBy (classOf b) m o c next n after rest ≡ moveBy (oldClassOf b) m o c next n after rest
-
-pub as-before : (b : ℕ) → AsBefore b
-as-before b =
-    record {
-      run = as-it-was b runClass refl;
-      digit = as-it-was b digitClass refl;
-      refuses = as-it-was b refusedClass refl;
-      mark = λ m. as-it-was b (λ k. markBy k m) refl;
-      place = λ had mid c o n. as-it-was b (λ k. placeBy k had mid c o n) refl;
-      moves = λ m o c next n after rest. as-it-was b (λ k. moveBy k m o c next n after rest) refl;
-    }
 
 -- The old rule from a column on, and what a byte from 128 to 191 did.
 old-more : (b c d : ℕ) → c ≤ d → oldColumnAfter b c ≤ oldColumnAfter b d
