@@ -1,10 +1,10 @@
 /* Saktroum: a reader for indentation grammars. The C interface of the archive libsaktroum.a (x86-64 Linux).
  *
  * Four parts: a grammar file reader, a report scanner, a well-formedness check and an interpreter, which may also list its
- * captures, what each rule read; the text shown for a capture; the line of the program over them; and the keywords and rule
- * names of a grammar file (docs/FORMAT.md says what such a file is). Every call ends and keeps no state between calls;
- * calls from several threads at once are fine. What a call answers and writes is proved; what it is owed by its caller is
- * not checked:
+ * captures, what each rule read; a grammar file writer; the text shown for a capture; the line of the program over them; and
+ * the keywords and rule names of a grammar file (docs/FORMAT.md says what such a file is). Every call ends and keeps no state
+ * between calls; calls from several threads at once are fine. What a call answers and writes is proved; what it is owed by
+ * its caller is not checked:
  *
  * - A slice is a pointer and the number of its elements. The pointer is not null, even for 0 elements, is aligned for
  *   its element type, and the elements are there and set. `result` points to as many words as its brackets say. A bool
@@ -16,9 +16,9 @@
  *   grammar and 4,096 tokens, and the usual 8 MiB are not (docs/BENCHMARKS.md). saktroum_stack.h has a function that runs
  *   the caller's work on a thread with 1 GiB. The other calls do not nest and need little.
  *
- * The answer of the first six is 0 if the call passed every check, or else the number of the first check it failed, for 7
+ * The answer of the first seven is 0 if the call passed every check, or else the number of the first check it failed, for 7
  * with the node: 7 + 65,536 * node. saktroum_number and saktroum_node take it apart; enum saktroum_refusal has a name for
- * each number. If one of the first six answers anything but 0, it has written nothing. If it answers 0, words past those
+ * each number. If one of the first seven answers anything but 0, it has written nothing. If it answers 0, words past those
  * written are as before; saktroum_list writes every word of `captures`, 0 behind the list.
  */
 #ifndef SAKTROUM_H
@@ -38,6 +38,7 @@ extern "C" {
 enum {
     SAKTROUM_NODE_WORDS = 2048,
     SAKTROUM_RULE_WORDS = 128,
+    SAKTROUM_FILE_BYTES = 18209, /* a written file; one that is read may have 65,535 */
     SAKTROUM_TOKEN_WORDS = 16384,
     SAKTROUM_LINE_BYTES = 64,
     SAKTROUM_NAME_BYTES = 32
@@ -53,8 +54,9 @@ enum saktroum_refusal {
                                          nodes, 0 to 128 rules) */
     SAKTROUM_REFUSED_NODE = 4,        /* kind over 9, child not lower, no such rule, terminal over 255, relation over 34,
                                          unused word not 0 */
-    SAKTROUM_REFUSED_RULE = 5,        /* a rule's node or the file's start node not in the table, the file's mode over 34 */
-    SAKTROUM_REFUSED_ROOM = 6,        /* a lent slice too short for the table or the rules */
+    SAKTROUM_REFUSED_RULE = 5,        /* a rule's node or the start node not in the table, the start's mode over 34: of a
+                                         file, or of what is to be written */
+    SAKTROUM_REFUSED_ROOM = 6,        /* a lent slice too short for the table or the rules, or for the written file */
     SAKTROUM_REFUSED_ILL_FORMED = 7,  /* not well formed; the node is the lowest such one */
     SAKTROUM_REFUSED_REPORT = 8,      /* report over 65,535 bytes, or a refused byte */
     SAKTROUM_REFUSED_COLUMN = 9,      /* a token's column over 65,535 */
@@ -65,9 +67,10 @@ enum saktroum_refusal {
                                          allowed), lower end over the upper or over 65,535, upper end over 65,535, mode
                                          over 34 */
     SAKTROUM_REFUSED_CAPTURE_ROOM = 13, /* fewer places for captures than the list needs, four words each */
-    SAKTROUM_REFUSED_CAPTURE = 14     /* a capture whose rule or tokens are not there, whose first token comes after the
+    SAKTROUM_REFUSED_CAPTURE = 14,    /* a capture whose rule or tokens are not there, whose first token comes after the
                                          token that follows it, whose tokens' offsets fall, or whose last token ends past
                                          the report */
+    SAKTROUM_REFUSED_RULE_COUNT = 15  /* the rule count differs from that of the file that lends the names */
 };
 
 /* The kinds of nodes; a, b and relation are words 1 to 3 of a node, 0 where they are not used. */
@@ -101,6 +104,18 @@ uint32_t saktroum_read(const uint8_t *file, size_t file_bytes,
                        uint16_t *nodes, size_t node_words,
                        uint16_t *rules, size_t rule_words,
                        size_t result[5]);
+
+/* Writes the grammar file of a table and its rules with a start, its node and mode, to `out`; the keywords and the rule
+ * names are those of a grammar file that lends them, rule for rule. The checks: the lending file by 1 to 5, the table, the
+ * rules and the start by 3 to 5, then 15, then 6. After 3 to 5 saktroum_read, or saktroum_check, on each tells whose it is.
+ * A table that is not well formed is written too; saktroum_check says so. result: the number of bytes of the file. Reading
+ * it gives the same table, rules and start. */
+uint32_t saktroum_write(const uint8_t *lending, size_t lending_bytes,
+                        const uint16_t *nodes, size_t node_words,
+                        const uint16_t *rules, size_t rule_words,
+                        uint16_t node, uint16_t mode,
+                        uint8_t *out, size_t out_bytes,
+                        size_t result[1]);
 
 /* Scans a report by the keywords of a grammar file (1 to 5, 8 to 10). Writes four words a token (terminal, column,
  * offset, length) to `tokens`; result: the number of tokens. A letter of UTF-8 is one column (a byte from

@@ -65,14 +65,14 @@ module _ (file : List ℕ) (s : Shape) (p : Parts file s) where
       (sym keywords-are) (sym names-are))
 
 -- Numbers 3, 4 and 5 of a table, and number 5 with two tests more.
-tests-refuse : (f3 f4 f5 a b : Bool) (n : ℕ) (next : Answer Contents) → _≡_ {A = Answer Unit} (refuseIf f3 3 (refuseIf f4 4 (refuseIf f5 5 (given tt)))) (refused n)
+pub tests-refuse : {A : Type 0} (f3 f4 f5 a b : Bool) (n : ℕ) (next : Answer A) → _≡_ {A = Answer Unit} (refuseIf f3 3 (refuseIf f4 4 (refuseIf f5 5 (given tt)))) (refused n)
     → refuseIf f3 3 (refuseIf f4 4 (refuseIf (f5 || a || b) 5 next)) ≡ refused n
 tests-refuse true f4 f5 a b n next e = let k : 3 ≡ n = cc in ap refused k
 tests-refuse false true f5 a b n next e = let k : 4 ≡ n = cc in ap refused k
 tests-refuse false false true a b n next e = let k : 5 ≡ n = cc in ap refused k
 tests-refuse false false false a b n next e = absurd (let z : _≡_ {A = ℕ} 0 1 = cc in omega arith)
 
-tests-pass : (f3 f4 f5 a b : Bool) (next : Answer Contents) → _≡_ {A = Answer Unit} (refuseIf f3 3 (refuseIf f4 4 (refuseIf f5 5 (given tt)))) (given tt)
+pub tests-pass : {A : Type 0} (f3 f4 f5 a b : Bool) (next : Answer A) → _≡_ {A = Answer Unit} (refuseIf f3 3 (refuseIf f4 4 (refuseIf f5 5 (given tt)))) (given tt)
     → refuseIf f3 3 (refuseIf f4 4 (refuseIf (f5 || a || b) 5 next)) ≡ refuseIf (a || b) 5 next
 tests-pass true f4 f5 a b next e = absurd (let z : _≡_ {A = ℕ} 0 1 = cc in omega arith)
 tests-pass false true f5 a b next e = absurd (let z : _≡_ {A = ℕ} 0 1 = cc in omega arith)

@@ -54,7 +54,7 @@ module _ (file : List ℕ) (at t : ℕ) where
   run-good a b (suc k) h = run-good a b k (λ i c. h i (omega arith)) ∙ good-step file (offsetOf file at k) t a b (h k (omega arith))
 
 -- The fields of a tag, of two lists one behind the other.
-tagged-append : (u : ℕ) (xs ys : List Field) → tagged u (xs ++ ys) ≡ tagged u xs ++ tagged u ys
+pub tagged-append : (u : ℕ) (xs ys : List Field) → tagged u (xs ++ ys) ≡ tagged u xs ++ tagged u ys
 unfolding tagged
 tagged-append u [] ys = refl
 tagged-append u (x ∷ xs) ys = by-test (eqb (x .tag) u) (tagged-append u xs ys)

@@ -78,12 +78,13 @@ fails2 fs =
     && every (length (keywords fs)) (λ k. singleAlone (getD (keywords fs) k []))
     && rightSpellings (ruleNames fs))
 
--- 5: "a rule's node, or a file's start node, not in the table .."
+-- 5: "a rule's node, or a file's start node, not in the table ..": of a table, its rules and a start node and mode.
+abbrev pub fails5With : List ℕ → List ℕ → ℕ → ℕ → Bool
+fails5With nodes rules node mode = fails5 nodes rules || not (ltb node (nodeCount nodes)) || not (isRelation mode)
+
+-- 5 of a file.
 unfoldable pub fails5ByFile : List Field → Bool
-fails5ByFile fs =
-    fails5 (nodeTable fs) (ruleList fs)
-    || not (ltb (startNode fs) (nodeCount (nodeTable fs)))
-    || not (isRelation (startMode fs))
+fails5ByFile fs = fails5With (nodeTable fs) (ruleList fs) (startNode fs) (startMode fs)
 
 -- "A read answers the counts of nodes, rules and keywords and the start."
 pub record Contents : Type 0 where

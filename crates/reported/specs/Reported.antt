@@ -32,7 +32,7 @@ reported words (refusedAt n node) before = before
 abbrev pub contentsWords : Contents → List ℕ
 contentsWords c = c .nodes ∷ c .rules ∷ c .keywords ∷ c .start ∷ c .mode ∷ []
 
--- The number of tokens of a scan: one word.
+-- The number of tokens of a scan, or of bytes of a written file: one word.
 abbrev pub countWords : ℕ → List ℕ
 countWords n = n ∷ []
 

@@ -1,8 +1,9 @@
-// What the C interface reports of an answer: its number, and the words of a read, a scan, a run, a run that lists and a
-// shown text. The exported functions hand on to these what a part answered.
+// What the C interface reports of an answer: its number, and the words of a read, a written file, a scan, a run, a run that
+// lists and a shown text. The exported functions hand on to these what a part answered.
 use columns::State;
 use columns::Upper;
 use grammar_file::FileRead;
+use grammar_writer::FileWritten;
 use interpreter::Listed;
 use interpreter::Ran;
 use shown_text::ShownPart;
@@ -12,6 +13,7 @@ use well_formed::Verdict;
 ghost use mathlib.Core.Path.{_≡_};
 ghost use Prim.Native.Nat.{ℕ, _+_, _*_};
 ghost use Rattle.grammar_file.specs.File.{numbers as fileNumbers};
+ghost use Rattle.grammar_writer.specs.Written.{numbers as writtenNumbers};
 ghost use Rattle.token_words.specs.Numbers.{numbers as scanNumbers};
 ghost use Rattle.well_formed.specs.Check.{numbers as checkNumbers};
 ghost use Rattle.interpreter.specs.Numbers.{numbers, listNumbers};
@@ -34,6 +36,20 @@ pub fn report_read(x: FileRead, result: &mut [usize; 5]) -> u32
             mode,
         } => {
             *result = [nodes, rules, keywords, start as usize, mode as usize];
+            0
+        }
+    }
+}
+
+// Reports what a write of a grammar file answered: the number of bytes where it was written.
+pub fn report_write(x: FileWritten, result: &mut [usize; 1]) -> u32
+    ensures { λ r. ⌜ r ≡ number (writtenNumbers x) ⌝ }
+    ensures { λ r. ⌜ now (result .exit) ≡ reported countWords (writtenNumbers x) (now (result .entry)) ⌝ }
+{
+    match x {
+        FileWritten::Refused(n) => n as u32,
+        FileWritten::Bytes(count) => {
+            *result = [count];
             0
         }
     }

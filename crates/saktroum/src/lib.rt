@@ -1,4 +1,4 @@
-// The C interface: the four parts, captures and what is shown for them, the program's line and the names of a file, over
+// The C interface: the four parts, the writer of grammar files, captures and what is shown for them, the program's line and the names of a file, over
 // plain slices. `include/saktroum.h` declares it for C.
 use columns::Capture;
 use columns::Interval;
@@ -8,6 +8,7 @@ ghost use mathlib.Core.Path.{_≡_};
 ghost use lib.ListN.{length};
 ghost use Rattle.table.specs.Answer.{afterwards};
 ghost use Rattle.grammar_file.specs.File.{fieldsOf, nodeTable, ruleList, readAnswer, keywordBytes, nameBytes};
+ghost use Rattle.grammar_writer.specs.Written.{writtenFile, writeAnswer};
 ghost use Rattle.token_words.specs.Scan.{wordsOf, scanTokens, scanAnswer};
 ghost use Rattle.well_formed.specs.Check.{checkAnswer};
 ghost use Rattle.clauses.specs.RunAnswer.{runAnswer};
@@ -41,6 +42,33 @@ pub extern "C" fn saktroum_read(
 {
     let x = grammar_file::read(file, nodes, rules);
     reported::report_read(x, result)
+}
+
+// Writes the grammar file of a table, its rules and a start, with the keywords and rule names of a lending file. The answer
+// is 0, with the number of bytes in `result`, or the number that refused the call.
+#[no_mangle]
+pub extern "C" fn saktroum_write(
+    lending: &[u8],
+    nodes: &[u16],
+    rules: &[u16],
+    node: u16,
+    mode: u16,
+    out: &mut [u8],
+    result: &mut [usize; 1],
+) -> u32
+    ensures { λ r. ⌜ r
+        ≡ number (writeAnswer (now (lending .entry)) (now (nodes .entry)) (now (rules .entry)) node mode
+        (length (now (out .entry)))) ⌝ }
+    ensures { λ r. ⌜ now (out .exit)
+        ≡ afterwards (writeAnswer (now (lending .entry)) (now (nodes .entry)) (now (rules .entry)) node mode
+        (length (now (out .entry))))
+        (writtenFile (now (lending .entry)) (now (nodes .entry)) (now (rules .entry)) node mode) (now (out .entry)) ⌝ }
+    ensures { λ r. ⌜ now (result .exit)
+        ≡ reported countWords (writeAnswer (now (lending .entry)) (now (nodes .entry)) (now (rules .entry)) node mode
+        (length (now (out .entry)))) (now (result .entry)) ⌝ }
+{
+    let x = grammar_writer::write(lending, nodes, rules, node, mode, out);
+    reported::report_write(x, result)
 }
 
 // Scans a report by the keywords of a grammar file. The answer is 0, with the number of tokens in `result`, or the

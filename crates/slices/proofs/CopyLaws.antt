@@ -1,25 +1,29 @@
--- Bytes copied one by one to the front of a list.
-use Prim.Native.Nat.{ℕ, _+_, _<_, _≤_}
-use mathlib.Core.Path.{_≡_, refl}
+-- Bytes put one by one into a list from an index on.
+use Prim.Native.Nat.{ℕ, zero, _+_, _<_, _≤_}
+use mathlib.Core.Path.{_≡_, refl, sym, ap, _∙_}
 use mathlib.Core.List.{List, _++_}
 use native.Mathlib.Nat.{zero-add}
 use native.Mathlib.Numerals.{add-one}
 use native.Mathlib.Omega.{arith}
 use borrow.Author.Tests.{lt-ltb, le-ltb}
 use lib.ListN.{length, take, drop, getD, set}
-use lib.Seq.{paste-suc, take-length}
-use Rattle.slices.specs.Copied.{copied}
+use lib.Seq.{paste, paste-suc, take-length}
+use Rattle.slices.specs.Copied.{copied, placed}
 
-module _ (bytes old : List ℕ) where
+module _ (bytes old : List ℕ) (at : ℕ) where
   -- One byte more.
-  pub copy-next : (i : ℕ) {out : List ℕ} → out ≡ take i bytes ++ drop i old → i < length bytes → i < length old
-      → set out i (getD bytes i 0) ≡ take (i + 1) bytes ++ drop (i + 1) old
-  copy-next i e h g = rw (e, add-one) (simp zero-add at (paste-suc old 0 bytes i 0 (omega arith) h))
+  pub put-next : (i : ℕ) {out : List ℕ} → out ≡ paste old at bytes i → i < length bytes → at + i < length old
+      → set out (at + i) (getD bytes i 0) ≡ paste old at bytes (i + 1)
+  put-next i e h g = rw (e, add-one) (paste-suc old at bytes i 0 g h)
 
   -- All of them.
-  pub copy-whole : length bytes ≤ length old → take (length bytes) bytes ++ drop (length bytes) old ≡ copied bytes old
-  copy-whole h = rw (le-ltb (length old) (length bytes) h, take-length bytes) refl
+  pub put-whole : at + length bytes ≤ length old → paste old at bytes (length bytes) ≡ placed at bytes old
+  put-whole h = rw (le-ltb (length old) (at + length bytes) h, take-length bytes) refl
 
   -- Too little room.
-  pub copy-none : length old < length bytes → old ≡ copied bytes old
-  copy-none h = rw (lt-ltb (length old) (length bytes) h) refl
+  pub put-none : length old < at + length bytes → old ≡ placed at bytes old
+  put-none h = rw (lt-ltb (length old) (at + length bytes) h) refl
+
+-- From the front on.
+pub copy-front : (bytes old : List ℕ) → placed 0 bytes old ≡ copied bytes old
+copy-front bytes old = rw zero-add refl

@@ -1,9 +1,9 @@
-// What programs and the C interface ask of slices: the first bytes or tokens, bytes copied to a lent slice, and whether
+// What programs and the C interface ask of slices: the first bytes or tokens, bytes put into a lent slice, and whether
 // words are still the marker that they were set to.
 ghost use mathlib.Core.Path.{_≡_};
 ghost use Prim.Native.Nat.{_*_};
 ghost use lib.ListN.{length, take, drop};
-ghost use Rattle.slices.specs.Copied.{copied};
+ghost use Rattle.slices.specs.Copied.{copied, placed};
 ghost use Rattle.slices.specs.Filled.{filled};
 
 // The first n bytes, or all where there are fewer.
@@ -32,15 +32,25 @@ pub fn copy(bytes: &[u8], out: &mut [u8]) -> usize
     ensures { λ r. ⌜ r ≡ length (now (bytes .entry)) ⌝ }
     ensures { λ r. ⌜ now (out .exit) ≡ copied (now (bytes .entry)) (now (out .entry)) ⌝ }
 {
+    put(bytes, out, 0);
+    bytes.len()
+}
+
+// Puts bytes into a lent slice from an index on. A slice that is too short for them is left as it is.
+pub fn put(bytes: &[u8], out: &mut [u8], at: usize)
+    ensures { λ _. ⌜ now (out .exit) ≡ placed at (now (bytes .entry)) (now (out .entry)) ⌝ }
+{
     if out.len() < bytes.len() {
-        return bytes.len();
+        return;
+    }
+    if out.len() - bytes.len() < at {
+        return;
     }
     let mut i = 0;
     while i < bytes.len() {
-        out[i] = bytes[i];
+        out[at + i] = bytes[i];
         i += 1;
     }
-    bytes.len()
 }
 
 // Whether every word from an index on is a value.

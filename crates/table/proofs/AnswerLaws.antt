@@ -25,6 +25,11 @@ second-given (given b) next x e = e
 second-given (refused number) next x e = absurd (let z : _≡_ {A = ℕ} 0 1 = cc in omega arith)
 second-given (refusedAt number node) next x e = absurd (let z : _≡_ {A = ℕ} 0 1 = cc in omega arith)
 
+-- A check that an answer passes.
+pub if-given : {A : Type 0} (fails : Bool) (n : ℕ) (next : Answer A) {x : A} → refuseIf fails n next ≡ given x → (fails ≡ false) × (next ≡ given x)
+if-given true n next e = absurd (let z : _≡_ {A = ℕ} 0 1 = cc in omega arith)
+if-given false n next e = (refl, e)
+
 -- An answer that names no node.
 abbrev pub Nameless : {A : Type 0} → Answer A → Type 0
 Nameless a = (number node : ℕ) → a ≡ refusedAt number node → ⊥

@@ -60,6 +60,21 @@ words-relation rules n (suc (suc (suc (suc (suc (suc (suc (suc zero)))))))) a b 
 words-relation rules n (suc (suc (suc (suc (suc (suc (suc (suc (suc zero))))))))) a b r e = relation-unused r (third (lower a n) (unused b) (unused r) e)
 words-relation rules n (suc (suc (suc (suc (suc (suc (suc (suc (suc (suc k)))))))))) a b r e = absurd (false≢true e)
 
+-- The kind is one of those there are.
+words-kind : (rules n kind a b r : ℕ) → rightWords rules n kind a b r ≡ true → kind < 10
+unfolding rightWords
+words-kind rules n zero a b r e = omega arith
+words-kind rules n (suc zero) a b r e = omega arith
+words-kind rules n (suc (suc zero)) a b r e = omega arith
+words-kind rules n (suc (suc (suc zero))) a b r e = omega arith
+words-kind rules n (suc (suc (suc (suc zero)))) a b r e = omega arith
+words-kind rules n (suc (suc (suc (suc (suc zero))))) a b r e = omega arith
+words-kind rules n (suc (suc (suc (suc (suc (suc zero)))))) a b r e = omega arith
+words-kind rules n (suc (suc (suc (suc (suc (suc (suc zero))))))) a b r e = omega arith
+words-kind rules n (suc (suc (suc (suc (suc (suc (suc (suc zero)))))))) a b r e = omega arith
+words-kind rules n (suc (suc (suc (suc (suc (suc (suc (suc (suc zero))))))))) a b r e = omega arith
+words-kind rules n (suc (suc (suc (suc (suc (suc (suc (suc (suc (suc k)))))))))) a b r e = absurd (false≢true e)
+
 -- None of the three numbers applies.
 none-fails : (a b c : Bool) → _≡_ {A = Answer Unit} (refuseIf a 3 (refuseIf b 4 (refuseIf c 5 (given tt)))) (given tt) → (a ≡ false) × (b ≡ false) × (c ≡ false)
 none-fails true b c e = absurd (let z : _≡_ {A = ℕ} 0 1 = cc in omega arith)
@@ -67,7 +82,7 @@ none-fails false true c e = absurd (let z : _≡_ {A = ℕ} 0 1 = cc in omega ar
 none-fails false false true e = absurd (let z : _≡_ {A = ℕ} 0 1 = cc in omega arith)
 none-fails false false false e = (refl, refl, refl)
 
-unnot : (b : Bool) → not b ≡ false → b ≡ true
+pub unnot : (b : Bool) → not b ≡ false → b ≡ true
 unnot true e = refl
 unnot false e = absurd (true≢false e)
 
@@ -87,6 +102,14 @@ unfolding tableAnswer fails4
 relation-there nodes rules e n h =
     let ok = none-fails (fails3 nodes rules) (fails4 nodes rules) (fails5 nodes rules) e in
     words-relation (length rules) n (kindOf nodes n) (aOf nodes n) (bOf nodes n) (relationOf nodes n)
+    (every-at (nodeCount nodes) (rightNode nodes rules) (unnot _ (ok .1)) n h)
+
+-- Every node's kind is one of those there are.
+pub kind-there : (nodes rules : List ℕ) → tableAnswer nodes rules ≡ given tt → (n : ℕ) → n < nodeCount nodes → kindOf nodes n < 10
+unfolding tableAnswer fails4
+kind-there nodes rules e n h =
+    let ok = none-fails (fails3 nodes rules) (fails4 nodes rules) (fails5 nodes rules) e in
+    words-kind (length rules) n (kindOf nodes n) (aOf nodes n) (bOf nodes n) (relationOf nodes n)
     (every-at (nodeCount nodes) (rightNode nodes rules) (unnot _ (ok .1)) n h)
 
 -- Its counts are within the limits, and its words are whole nodes.

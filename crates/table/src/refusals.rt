@@ -1,4 +1,4 @@
-// The numbers of the checks that turn a call down (01, "Turned-down calls"; 13 and 14: 02, Note 2).
+// The numbers of the checks that turn a call down (01, "Turned-down calls"; 13 and 14: 02, Note 2; 15: Note 4).
 
 // The grammar file: its length, fields, tags and number of keywords.
 pub const FIELDS: u8 = 1;
@@ -15,7 +15,7 @@ pub const NODE: u8 = 4;
 // A rule's node, or a file's start.
 pub const RULE: u8 = 5;
 
-// A lent slice is too short for the table or its rules.
+// A lent slice is too short for the table or its rules, or for the written file.
 pub const ROOM: u8 = 6;
 
 // Not well formed; it comes with its node.
@@ -41,3 +41,6 @@ pub const CAPTURE_ROOM: u8 = 13;
 
 // The capture that a text is shown for.
 pub const CAPTURE: u8 = 14;
+
+// The rule count differs from that of the file that lends the names.
+pub const RULE_COUNT: u8 = 15;

@@ -1,10 +1,11 @@
 //! The indentation grammar reader, written from document 01, which orders the work,
-//! Notes 1 to 3 of 02, and the papers alone. 001 below is Nestra 2017.
+//! Notes 1 to 4 of 02, and the papers alone. 001 below is Nestra 2017.
 //!
 //! Four parts: the file reader (`read`), the scanner (`scan`, `next_token`), the
 //! check (`check`) and the interpreter (`run`); `line` is the program over them.
 //! `list` is the run that also lists its captures, `shown` and `text` give the text
-//! shown for a capture. `sets` holds the same clauses over sets of natural numbers.
+//! shown for a capture. `write` writes the grammar file of tables and a start. `sets`
+//! holds the same clauses over sets of natural numbers.
 
 mod check;
 mod file;
@@ -14,6 +15,7 @@ pub(crate) mod run;
 mod scan;
 pub mod sets;
 mod shown;
+mod write;
 
 pub use check::{check, Verdict};
 pub use file::{read, FileRead};
@@ -22,6 +24,7 @@ pub use list::{list, list_within, Listed};
 pub use run::{run, run_within, Ran, Start};
 pub use scan::{next_token, scan, Handed, Value};
 pub use shown::{shown, text, Shown};
+pub use write::write;
 
 /// The kinds of nodes, 01 "The grammar table".
 pub mod kind {

@@ -1,0 +1,169 @@
+-- The written file, section by section: tag 1, the keywords, the rules, the nodes, the start.
+use Prim.Native.Nat.{ℕ, _+_, _*_, _/_, _%_, _≤_, _<_}
+use mathlib.Core.Path.{_≡_, refl, sym, ap, ap₂, _∙_}
+use mathlib.Core.List.{List, [], _∷_, _++_, append-assoc, append-nil}
+use native.Mathlib.Omega.{arith}
+use lib.ListN.{length, length-append}
+use Rattle.table.specs.Words.{eachWords}
+use Rattle.table.specs.Limits.{mostNodes, mostRules}
+use Rattle.table.specs.Form.{nodeCount}
+use Rattle.table.proofs.Words.{words-append}
+use Rattle.file_fields.specs.Fields.{Field}
+use Rattle.file_fields.specs.Offsets.{spellingsFrom}
+use Rattle.file_fields.proofs.Offsets.{length-spellings}
+use Rattle.file_shape.specs.Contents.{mostKeywords, keywords, ruleNames, fieldsOf}
+use Rattle.file_shape.specs.declared.Shape.{Shape}
+use Rattle.file_shape.proofs.PartLaws.{keywords-are, names-are}
+use Rattle.grammar_writer.specs.FieldBytes.{field, fieldBytes, bytesOf, formatField, startField}
+use Rattle.grammar_writer.specs.Written.{keywordFields, ruleFields, nodeFields, writtenFields, writtenFile}
+use Rattle.grammar_writer.specs.InternalWriting.{over, Lends}
+use Rattle.grammar_writer.proofs.PutLaws.{bytes-within, Over, over-starts, over-more}
+use Rattle.grammar_writer.proofs.SectionLaws.{keywordOf, keyword-short, ruleOf, rule-short, nodeOf, node-long}
+use Rattle.grammar_writer.proofs.LendLaws.{keywords-right, names-right, few-keywords, few-nodes}
+
+-- The bytes of the fields in their order.
+fields-bytes : (f s : Field) (ks rs ns : List Field) → bytesOf (f ∷ (ks ++ rs ++ ns ++ (s ∷ []))) ≡ fieldBytes f ++ bytesOf ks ++ bytesOf rs ++ bytesOf ns ++ fieldBytes s
+unfolding eachWords
+fields-bytes f s ks rs ns =
+    ap (λ (l : List ℕ). fieldBytes f ++ l)
+    (words-append fieldBytes (ks ++ rs ++ ns) (s ∷ [])
+    ∙ ap₂ _++_
+    (words-append fieldBytes (ks ++ rs) ns ∙ ap (λ (l : List ℕ). l ++ bytesOf ns) (words-append fieldBytes ks rs))
+    (append-nil (fieldBytes s)))
+    ∙ simp append-assoc
+
+module _ {lending nodes rules : List ℕ} {s : Shape} {node mode : ℕ} (h : Lends lending s nodes rules node mode) (e : length rules ≡ s .rules .count) where
+  abbrev Format : List ℕ
+  Format = fieldBytes formatField
+
+  abbrev Keywords : List ℕ
+  Keywords = bytesOf (keywordFields (spellingsFrom lending 4 (s .keywords) 0))
+
+  abbrev Rules : List ℕ
+  Rules = bytesOf (ruleFields rules (spellingsFrom lending (s .rules .at) (length rules) 2))
+
+  abbrev Nodes : List ℕ
+  Nodes = bytesOf (nodeFields nodes)
+
+  abbrev Start : List ℕ
+  Start = fieldBytes (startField node mode)
+
+  pub sections : Format ++ Keywords ++ Rules ++ Nodes ++ Start ≡ writtenFile lending nodes rules node mode
+  unfolding writtenFile
+  sections =
+      let words = keywords-are lending s (h .parts) in
+      let names = names-are lending s (h .parts) ∙ ap (λ (k : ℕ). spellingsFrom lending (s .rules .at) k 2) (sym e) in
+      sym
+      (ap₂ (λ (ws ns : List (List ℕ)). bytesOf (writtenFields ws ns nodes rules node mode)) words names
+      ∙ fields-bytes formatField (startField node mode) (keywordFields (spellingsFrom lending 4 (s .keywords) 0))
+      (ruleFields rules (spellingsFrom lending (s .rules .at) (length rules) 2)) (nodeFields nodes))
+
+  short-keywords : length Keywords ≤ s .keywords * 35
+  short-keywords =
+      let count = length-spellings lending 4 (s .keywords) 0 in
+      rw count
+      (bytes-within (keywordOf lending (s .keywords)) 35 (s .keywords) (keyword-short lending (s .keywords) (keywords-right h)))
+
+  short-rules : length Rules ≤ length rules * 37
+  short-rules = bytes-within (ruleOf lending (s .rules .at) rules) 37 (length rules) (rule-short lending (s .rules .at) rules (names-right h e))
+
+  short-nodes : length Nodes ≤ nodeCount nodes * 9
+  short-nodes = bytes-within (nodeOf nodes) 9 (nodeCount nodes) (λ i a. node-long nodes i)
+
+  format-long : length Format ≡ 4
+  unfolding fieldBytes
+  format-long = refl
+
+  start-long : length Start ≡ 6
+  unfolding fieldBytes
+  start-long = refl
+
+  -- Each section fits behind those before it.
+  module _ (old : List ℕ) (big : 18209 ≤ length old) where
+    pub format-put : {a : ℕ} {out : List ℕ} → a ≡ 0 + length Format → out ≡ over 0 Format old → Over 0 old Format a out
+    format-put x y = over-more 0 old (over-starts 0 old) Format (omega (arith, format-long)) x y
+
+    module _ {a : ℕ} {out : List ℕ} (p : Over 0 old Format a out) where
+      pub keywords-fit : a + s .keywords * 35 ≤ length out
+      keywords-fit = omega (arith, p .ends, p .same, format-long, few-keywords h)
+
+      pub keywords-put : {b : ℕ} {next : List ℕ} → b ≡ a + length Keywords → next ≡ over a Keywords out → Over 0 old (Format ++ Keywords) b next
+      keywords-put x y = over-more 0 old p Keywords (omega (arith, keywords-fit, short-keywords, p .same)) x y
+
+    module _ {a : ℕ} {out : List ℕ} (p : Over 0 old (Format ++ Keywords) a out) where
+      pub rules-fit : a + length rules * 37 ≤ length out
+      rules-fit = omega (arith, p .ends, p .same, length-append Format Keywords, format-long, short-keywords, few-keywords h, few-nodes h .1)
+
+      pub rules-put : {b : ℕ} {next : List ℕ} → b ≡ a + length Rules → next ≡ over a Rules out → Over 0 old (Format ++ Keywords ++ Rules) b next
+      rules-put x y = over-more 0 old p Rules (omega (arith, rules-fit, short-rules, p .same)) x y
+
+    module _ {a : ℕ} {out : List ℕ} (p : Over 0 old (Format ++ Keywords ++ Rules) a out) where
+      pub nodes-fit : a + nodeCount nodes * 9 ≤ length out
+      nodes-fit =
+          omega (
+            arith,
+            p .ends,
+            p .same,
+            length-append (Format ++ Keywords) Rules,
+            length-append Format Keywords,
+            format-long,
+            short-keywords,
+            few-keywords h,
+            short-rules,
+            few-nodes h .0,
+            few-nodes h .1,
+          )
+
+      pub nodes-put : {b : ℕ} {next : List ℕ} → b ≡ a + length Nodes → next ≡ over a Nodes out → Over 0 old (Format ++ Keywords ++ Rules ++ Nodes) b next
+      nodes-put x y = over-more 0 old p Nodes (omega (arith, nodes-fit, short-nodes, p .same)) x y
+
+    module _ {a : ℕ} {out : List ℕ} (p : Over 0 old (Format ++ Keywords ++ Rules ++ Nodes) a out) where
+      pub start-fits : a + 6 ≤ length out
+      start-fits =
+          omega (
+            arith,
+            p .ends,
+            p .same,
+            length-append (Format ++ Keywords ++ Rules) Nodes,
+            length-append (Format ++ Keywords) Rules,
+            length-append Format Keywords,
+            format-long,
+            short-keywords,
+            few-keywords h,
+            short-rules,
+            short-nodes,
+            few-nodes h .0,
+            few-nodes h .1,
+          )
+
+      pub start-put :
+          {high low : ℕ}
+          → high ≡ node / 256
+          → low ≡ node % 256
+          → {b : ℕ} {next : List ℕ}
+          → b ≡ a + length (fieldBytes (field 5 (high ∷ low ∷ mode ∷ [])))
+          → next ≡ over a (fieldBytes (field 5 (high ∷ low ∷ mode ∷ []))) out
+          → Over 0 old (writtenFile lending nodes rules node mode) b next
+      start-put x y {b} {next} e n =
+          let more = over-more 0 old p Start {m = b} {next = next} (omega (arith, start-fits, start-long, p .same)) (rw (sym x, sym y) e) (rw (sym x, sym y) n) in
+          rw (sym sections) more
+
+  -- The file is never longer than the bytes that do for every one.
+  pub file-short : length (writtenFile lending nodes rules node mode) ≤ 18209
+  file-short =
+      omega (
+        arith,
+        ap length sections,
+        length-append (Format ++ Keywords ++ Rules ++ Nodes) Start,
+        length-append (Format ++ Keywords ++ Rules) Nodes,
+        length-append (Format ++ Keywords) Rules,
+        length-append Format Keywords,
+        format-long,
+        start-long,
+        short-keywords,
+        few-keywords h,
+        short-rules,
+        short-nodes,
+        few-nodes h .0,
+        few-nodes h .1,
+      )

@@ -1,0 +1,3 @@
+pub mod FieldBytes
+pub mod Written
+pub mod InternalWriting

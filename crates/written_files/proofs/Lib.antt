@@ -1,0 +1,9 @@
+pub mod FieldsBack
+pub mod Tabulated
+pub mod Passed
+pub mod Longest
+pub mod Tags
+pub mod WrittenParts
+pub mod ReadsBack
+pub mod SameFields
+pub mod SameFile
