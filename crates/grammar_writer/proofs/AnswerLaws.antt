@@ -26,7 +26,8 @@ three-refuse false true c n next e = let k : n ≡ 4 = cc in ap refused k
 three-refuse false false true n next e = let k : n ≡ 5 = cc in ap refused k
 three-refuse false false false n next e = absurd (let z : _≡_ {A = ℕ} 0 1 = cc in omega arith)
 
-three-pass : (a b c : Bool) (next : Answer ℕ) → _≡_ {A = Answer Unit} (given tt) (refuseIf a 3 (refuseIf b 4 (refuseIf c 5 (given tt)))) → next ≡ refuseIf a 3 (refuseIf b 4 (refuseIf c 5 next))
+three-pass : (a b c : Bool) (next : Answer ℕ) → _≡_ {A = Answer Unit} (given tt) (refuseIf a 3 (refuseIf b 4 (refuseIf c 5 (given tt))))
+    → next ≡ refuseIf a 3 (refuseIf b 4 (refuseIf c 5 next))
 three-pass true b c next e = absurd (let z : _≡_ {A = ℕ} 0 1 = cc in omega arith)
 three-pass false true c next e = absurd (let z : _≡_ {A = ℕ} 0 1 = cc in omega arith)
 three-pass false false true next e = absurd (let z : _≡_ {A = ℕ} 0 1 = cc in omega arith)
@@ -60,7 +61,8 @@ module _ {lending nodes rules : List ℕ} {s : Shape} {node mode : ℕ} (h : Len
     unfolding lentAnswer fails15
     no-room k = rw (rule-count lending s (h .parts), eq-eqb (length rules) (s .rules .count) e, lt-ltb lent (length (writtenFile lending nodes rules node mode)) k) refl
 
-    pub enough : length (writtenFile lending nodes rules node mode) ≤ lent → given (length (writtenFile lending nodes rules node mode)) ≡ lentAnswer lending nodes rules node mode lent
+    pub enough : length (writtenFile lending nodes rules node mode) ≤ lent
+        → given (length (writtenFile lending nodes rules node mode)) ≡ lentAnswer lending nodes rules node mode lent
     unfolding lentAnswer fails15
     enough k = rw (rule-count lending s (h .parts), eq-eqb (length rules) (s .rules .count) e, le-ltb lent (length (writtenFile lending nodes rules node mode)) k) refl
 

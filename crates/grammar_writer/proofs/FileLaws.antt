@@ -3,7 +3,7 @@ use Prim.Native.Nat.{ℕ, _+_, _*_, _/_, _%_, _≤_, _<_}
 use mathlib.Core.Path.{_≡_, refl, sym, ap, ap₂, _∙_}
 use mathlib.Core.List.{List, [], _∷_, _++_, append-assoc, append-nil}
 use native.Mathlib.Omega.{arith}
-use lib.ListN.{length, length-append}
+use lib.ListN.{length, getD, length-append}
 use Rattle.table.specs.Words.{eachWords}
 use Rattle.table.specs.Limits.{mostNodes, mostRules}
 use Rattle.table.specs.Form.{nodeCount}
@@ -13,13 +13,13 @@ use Rattle.file_fields.specs.Offsets.{spellingsFrom}
 use Rattle.file_fields.proofs.Offsets.{length-spellings}
 use Rattle.file_shape.specs.Contents.{mostKeywords, keywords, ruleNames, fieldsOf}
 use Rattle.file_shape.specs.declared.Shape.{Shape}
-use Rattle.file_shape.proofs.PartLaws.{keywords-are, names-are}
+use Rattle.file_shape.proofs.PartLaws.{keywords-are, names-are, keyword-count}
 use Rattle.grammar_writer.specs.FieldBytes.{field, fieldBytes, bytesOf, formatField, startField}
 use Rattle.grammar_writer.specs.Written.{keywordFields, ruleFields, nodeFields, writtenFields, writtenFile}
 use Rattle.grammar_writer.specs.InternalWriting.{over, Lends}
-use Rattle.grammar_writer.proofs.PutLaws.{bytes-within, Over, over-starts, over-more}
-use Rattle.grammar_writer.proofs.SectionLaws.{keywordOf, keyword-short, ruleOf, rule-short, nodeOf, node-long}
-use Rattle.grammar_writer.proofs.LendLaws.{keywords-right, names-right, few-keywords, few-nodes}
+use Rattle.grammar_writer.proofs.PutLaws.{Over, over-starts, over-more}
+use Rattle.grammar_writer.proofs.SectionLaws.{spelling-short, keywords-short, rules-short, nodes-short}
+use Rattle.grammar_writer.proofs.LendLaws.{right-names, keywords-right, names-right, few-keywords, few-nodes}
 
 -- The bytes of the fields in their order.
 fields-bytes : (f s : Field) (ks rs ns : List Field) → bytesOf (f ∷ (ks ++ rs ++ ns ++ (s ∷ []))) ≡ fieldBytes f ++ bytesOf ks ++ bytesOf rs ++ bytesOf ns ++ fieldBytes s
@@ -31,6 +31,22 @@ fields-bytes f s ks rs ns =
     (words-append fieldBytes (ks ++ rs) ns ∙ ap (λ (l : List ℕ). l ++ bytesOf ns) (words-append fieldBytes ks rs))
     (append-nil (fieldBytes s)))
     ∙ simp append-assoc
+
+-- No written file is longer: tag 1's 4 bytes, 253 keywords of 35, 128 rules of 37, 512 nodes of 9 and the start's 6.
+module _ (words names : List (List ℕ)) (nodes rules : List ℕ) (node mode : ℕ) where
+  pub longest :
+      ((k : ℕ) → length (getD words k []) ≤ 32)
+      → ((k : ℕ) → length (getD names k []) ≤ 32)
+      → length words ≤ mostKeywords
+      → nodeCount nodes ≤ mostNodes
+      → length rules ≤ mostRules
+      → length (bytesOf (writtenFields words names nodes rules node mode)) ≤ 18209
+  unfolding eachWords fieldBytes
+  longest a b ks ns rs =
+      let all : length (bytesOf (writtenFields words names nodes rules node mode))
+      ≡ 4 + length (bytesOf (keywordFields words)) + length (bytesOf (ruleFields rules names)) + length (bytesOf (nodeFields nodes)) + 6 =
+      simp (words-append, length-append) (omega arith) in
+      omega (arith, all, keywords-short words a, rules-short rules names b, nodes-short nodes)
 
 module _ {lending nodes rules : List ℕ} {s : Shape} {node mode : ℕ} (h : Lends lending s nodes rules node mode) (e : length rules ≡ s .rules .count) where
   abbrev Format : List ℕ
@@ -60,15 +76,14 @@ module _ {lending nodes rules : List ℕ} {s : Shape} {node mode : ℕ} (h : Len
 
   short-keywords : length Keywords ≤ s .keywords * 35
   short-keywords =
-      let count = length-spellings lending 4 (s .keywords) 0 in
-      rw count
-      (bytes-within (keywordOf lending (s .keywords)) 35 (s .keywords) (keyword-short lending (s .keywords) (keywords-right h)))
+      let words = spellingsFrom lending 4 (s .keywords) 0 in
+      omega (arith, keywords-short words (spelling-short words (keywords-right h)), length-spellings lending 4 (s .keywords) 0)
 
   short-rules : length Rules ≤ length rules * 37
-  short-rules = bytes-within (ruleOf lending (s .rules .at) rules) 37 (length rules) (rule-short lending (s .rules .at) rules (names-right h e))
+  short-rules = let names = spellingsFrom lending (s .rules .at) (length rules) 2 in rules-short rules names (spelling-short names (names-right h e))
 
   short-nodes : length Nodes ≤ nodeCount nodes * 9
-  short-nodes = bytes-within (nodeOf nodes) 9 (nodeCount nodes) (λ i a. node-long nodes i)
+  short-nodes = nodes-short nodes
 
   format-long : length Format ≡ 4
   unfolding fieldBytes
@@ -150,20 +165,8 @@ module _ {lending nodes rules : List ℕ} {s : Shape} {node mode : ℕ} (h : Len
 
   -- The file is never longer than the bytes that do for every one.
   pub file-short : length (writtenFile lending nodes rules node mode) ≤ 18209
+  unfolding writtenFile
   file-short =
-      omega (
-        arith,
-        ap length sections,
-        length-append (Format ++ Keywords ++ Rules ++ Nodes) Start,
-        length-append (Format ++ Keywords ++ Rules) Nodes,
-        length-append (Format ++ Keywords) Rules,
-        length-append Format Keywords,
-        format-long,
-        start-long,
-        short-keywords,
-        few-keywords h,
-        short-rules,
-        short-nodes,
-        few-nodes h .0,
-        few-nodes h .1,
-      )
+      longest (keywords (fieldsOf lending)) (ruleNames (fieldsOf lending)) nodes rules node mode
+      (spelling-short (keywords (fieldsOf lending)) (right-names h .0)) (spelling-short (ruleNames (fieldsOf lending)) (right-names h .1))
+      (omega (arith, few-keywords h, keyword-count lending s (h .parts))) (few-nodes h .0) (few-nodes h .1)

@@ -16,6 +16,7 @@ use Rattle.table.proofs.Every.{and-left, and-right, both-false}
 use Rattle.table.proofs.AnswerLaws.{if-given}
 use Rattle.table.proofs.Inside.{unnot, kind-there, relation-there, counts-inside}
 use Rattle.spellings.specs.Spellings.{singleAlone, rightSpellings}
+use Rattle.file_fields.specs.Fields.{Field}
 use Rattle.file_fields.specs.Offsets.{spellingsFrom}
 use Rattle.file_shape.specs.Contents.{mostKeywords, keywords, ruleNames, fieldsOf, fails1, fails2, fails5With, fileAnswer}
 use Rattle.file_shape.specs.declared.Shape.{Shape}
@@ -23,34 +24,38 @@ use Rattle.file_shape.proofs.PartLaws.{keywords-are, names-are, tests-refuse, t
 use Rattle.grammar_file.proofs.CountLaws.{keywords-stand}
 use Rattle.grammar_writer.specs.InternalWriting.{ByteWords, startedAnswer, Lends}
 
--- A table, its rules and a start that pass 3 to 5.
-module _ (nodes rules : List ℕ) (node mode : ℕ) (e : startedAnswer nodes rules node mode ≡ given tt) where
-  from-4 : _≡_ {A = Answer Unit} (refuseIf (fails4 nodes rules) 4 (refuseIf (fails5With nodes rules node mode) 5 (given tt))) (given tt)
-  unfolding startedAnswer
-  from-4 = if-given (fails3 nodes rules) 3 _ e .1
+-- A table, its rules and a start that pass 3, 4 and 5.
+pub record Started (nodes rules : List ℕ) (node mode : ℕ) : Type 0 where
+  pub three : fails3 nodes rules ≡ false
+  pub four : fails4 nodes rules ≡ false
+  pub five : fails5With nodes rules node mode ≡ false
 
-  five : fails5With nodes rules node mode ≡ false
-  five = if-given (fails5With nodes rules node mode) 5 _ (if-given (fails4 nodes rules) 4 _ from-4 .1) .0
+-- They pass where an answer behind the three checks is given.
+pub table-passed :
+    {A : Type 0} (nodes rules : List ℕ) (node mode : ℕ) (next : Answer A) (x : A)
+    → refuseIf (fails3 nodes rules) 3 (refuseIf (fails4 nodes rules) 4 (refuseIf (fails5With nodes rules node mode) 5 next)) ≡ given x
+    → Started nodes rules node mode × (next ≡ given x)
+table-passed nodes rules node mode next x e =
+    let p = if-given (fails3 nodes rules) 3 _ e in
+    let q = if-given (fails4 nodes rules) 4 _ (p .1) in
+    let r = if-given (fails5With nodes rules node mode) 5 next (q .1) in
+    (record { three = p .0; four = q .0; five = r .0 }, r .1)
 
-  with-start : fails5 nodes rules || not (ltb node (nodeCount nodes)) ≡ false
-  with-start = both-false (fails5 nodes rules || not (ltb node (nodeCount nodes))) (not (isRelation mode)) five .0
+module _ (nodes rules : List ℕ) (node mode : ℕ) (s : Started nodes rules node mode) where
+  starts : (fails5 nodes rules || not (ltb node (nodeCount nodes)) ≡ false) × (not (isRelation mode) ≡ false)
+  starts = both-false (fails5 nodes rules || not (ltb node (nodeCount nodes))) (not (isRelation mode)) (s .five)
 
-  pub table-passes : tableAnswer nodes rules ≡ given tt
-  unfolding startedAnswer tableAnswer
-  table-passes =
-      rw (
-        if-given (fails3 nodes rules) 3 _ e .0,
-        if-given (fails4 nodes rules) 4 _ from-4 .0,
-        both-false (fails5 nodes rules) (not (ltb node (nodeCount nodes))) with-start .0,
-      )
-      refl
+  -- The table passes without its start.
+  pub table-right : tableAnswer nodes rules ≡ given tt
+  unfolding tableAnswer
+  table-right = rw (s .three, s .four, both-false (fails5 nodes rules) (not (ltb node (nodeCount nodes))) (starts .0) .0) refl
 
   pub byte-words : ByteWords nodes
-  byte-words n h = (omega (arith, kind-there nodes rules table-passes n h), omega (arith, relation-there nodes rules table-passes n h))
+  byte-words n h = (omega (arith, kind-there nodes rules table-right n h), omega (arith, relation-there nodes rules table-right n h))
 
   pub byte-mode : mode < 256
   byte-mode =
-      let small : mode < relationCount = ltb-true mode relationCount (unnot (isRelation mode) (both-false (fails5 nodes rules || not (ltb node (nodeCount nodes))) (not (isRelation mode)) five .1)) in
+      let small : mode < relationCount = ltb-true mode relationCount (unnot (isRelation mode) (starts .1)) in
       omega arith
 
 -- The checks of a table, and with them the start's.
@@ -71,32 +76,38 @@ module _ (nodes rules : List ℕ) (node mode : ℕ) where
       (tests-pass (fails3 nodes rules) (fails4 nodes rules) (fails5 nodes rules) (not (ltb node (nodeCount nodes)))
       (not (isRelation mode)) (given tt) (sym e)))
 
+-- Number 2 is about the keywords and about the names.
+pub both-spelled : (fs : List Field) → fails2 fs ≡ false → (rightSpellings (keywords fs) ≡ true) × (rightSpellings (ruleNames fs) ≡ true)
+unfolding fails2
+both-spelled fs e =
+    let ks = keywords fs in
+    let a = rightSpellings ks in
+    let b = every (length ks) (λ k. singleAlone (getD ks k [])) in
+    let c = rightSpellings (ruleNames fs) in
+    let t = unnot (a && b && c) e in
+    (and-left a b (and-left (a && b) c t), and-right (a && b) c t)
+
 -- A lending file whose shape is known.
 module _ {lending nodes rules : List ℕ} {s : Shape} {node mode : ℕ} (h : Lends lending s nodes rules node mode) where
-  right-names :
-      (rightSpellings (keywords (fieldsOf lending))
-      && every (length (keywords (fieldsOf lending))) (λ k. singleAlone (getD (keywords (fieldsOf lending)) k []))
-      && rightSpellings (ruleNames (fieldsOf lending)))
-      ≡ true
-  unfolding fileAnswer fails2
-  right-names = unnot _ (if-given (fails2 (fieldsOf lending)) 2 _ (if-given (fails1 lending) 1 _ (h .lends) .1) .0)
+  pub lends-started : Started nodes rules node mode
+  unfolding startedAnswer
+  lends-started = table-passed nodes rules node mode (given tt) tt (h .started) .0
+
+  pub right-names : (rightSpellings (keywords (fieldsOf lending)) ≡ true) × (rightSpellings (ruleNames (fieldsOf lending)) ≡ true)
+  unfolding fileAnswer
+  right-names = both-spelled (fieldsOf lending) (if-given (fails2 (fieldsOf lending)) 2 _ (if-given (fails1 lending) 1 _ (h .lends) .1) .0)
 
   pub keywords-right : rightSpellings (spellingsFrom lending 4 (s .keywords) 0) ≡ true
-  keywords-right =
-      ap rightSpellings (sym (keywords-are lending s (h .parts)))
-      ∙ and-left (rightSpellings (keywords (fieldsOf lending))) _ (and-left _ (rightSpellings (ruleNames (fieldsOf lending))) right-names)
+  keywords-right = ap rightSpellings (sym (keywords-are lending s (h .parts))) ∙ right-names .0
 
   pub names-right : {count : ℕ} → count ≡ s .rules .count → rightSpellings (spellingsFrom lending (s .rules .at) count 2) ≡ true
   names-right e =
       ap (λ (k : ℕ). rightSpellings (spellingsFrom lending (s .rules .at) k 2)) e
       ∙ ap rightSpellings (sym (names-are lending s (h .parts)))
-      ∙ and-right
-      (rightSpellings (keywords (fieldsOf lending))
-      && every (length (keywords (fieldsOf lending))) (λ k. singleAlone (getD (keywords (fieldsOf lending)) k [])))
-      (rightSpellings (ruleNames (fieldsOf lending))) right-names
+      ∙ right-names .1
 
   pub few-keywords : s .keywords ≤ mostKeywords
   few-keywords = keywords-stand lending s (h .parts) .1
 
   pub few-nodes : (nodeCount nodes ≤ mostNodes) × (length rules ≤ mostRules)
-  few-nodes = let inside = counts-inside nodes rules (table-passes nodes rules node mode (h .started)) in (inside .1, inside .2)
+  few-nodes = let inside = counts-inside nodes rules (table-right nodes rules node mode lends-started) in (inside .1, inside .2)

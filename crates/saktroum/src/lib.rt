@@ -1,5 +1,5 @@
-// The C interface: the four parts, the writer of grammar files, captures and what is shown for them, the program's line and the names of a file, over
-// plain slices. `include/saktroum.h` declares it for C.
+// The C interface: the four parts, the writer of grammar files, captures and what is shown for them, the program's line and
+// the names of a file, over plain slices. `include/saktroum.h` declares it for C.
 use columns::Capture;
 use columns::Interval;
 use columns::Start;

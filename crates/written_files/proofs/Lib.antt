@@ -1,7 +1,6 @@
 pub mod FieldsBack
 pub mod Tabulated
 pub mod Passed
-pub mod Longest
 pub mod Tags
 pub mod WrittenParts
 pub mod ReadsBack

@@ -10,19 +10,14 @@ use borrow.Author.Tests.{le-ltb, ltb-false, eq-eqb, eqb-true, not-false}
 use lib.ListN.{length}
 use lib.Dec.{ltb}
 use Rattle.table.specs.Answer.{Answer, given, refused, refusedAt, refuseIf, andThen}
-use Rattle.table.specs.Form.{nodeCount}
-use Rattle.table.specs.Checks.{fails3, fails4, fails5, isRelation, tableAnswer}
+use Rattle.table.specs.Checks.{fails3, fails4}
 use Rattle.table.proofs.Every.{both-false}
+use Rattle.table.proofs.AnswerLaws.{if-given}
 use Rattle.file_fields.specs.Fields.{Field, fields, inOrder}
 use Rattle.file_shape.specs.Contents.{mostBytes, mostKeywords, rightValues, keywords, ruleList, nodeTable, startNode, startMode, fieldsOf}
 use Rattle.file_shape.specs.Contents.{unreadable, fails1, fails2, fails5With, fails5ByFile, Contents, contents, fileAnswer}
 use Rattle.grammar_writer.specs.Written.{writtenFile, fails15, writeAnswer}
-
--- A table, its rules and a start pass 3, 4 and 5.
-pub record Started (nodes rules : List ℕ) (node mode : ℕ) : Type 0 where
-  pub three : fails3 nodes rules ≡ false
-  pub four : fails4 nodes rules ≡ false
-  pub five : fails5With nodes rules node mode ≡ false
+use Rattle.grammar_writer.proofs.LendLaws.{Started, table-passed}
 
 -- Fields pass 1 and 2.
 pub record Framed (fs : List Field) : Type 0 where
@@ -38,39 +33,18 @@ pub record Right (file : List ℕ) : Type 0 where
   pub framed : Framed (fieldsOf file)
   pub started : Started (nodeTable (fieldsOf file)) (ruleList (fieldsOf file)) (startNode (fieldsOf file)) (startMode (fieldsOf file))
 
-module _ {A : Type 0} where
-  -- A check before an answer that is given did not fail.
-  passed : (b : Bool) (k : ℕ) (next : Answer A) (x : A) → refuseIf b k next ≡ given x → (b ≡ false) × (next ≡ given x)
-  passed true k next x e = absurd (let z : _≡_ {A = ℕ} 0 1 = cc in omega arith)
-  passed false k next x e = (refl, e)
+-- A part before an answer that is given passed.
+first-given : {A B : Type 0} (first : Answer B) (next : Answer A) (x : A) → andThen first next ≡ given x → ((b : B) × (first ≡ given b)) × (next ≡ given x)
+first-given (given b) next x e = ((b, refl), e)
+first-given (refused number) next x e = absurd (let z : _≡_ {A = ℕ} 0 1 = cc in omega arith)
+first-given (refusedAt number node) next x e = absurd (let z : _≡_ {A = ℕ} 0 1 = cc in omega arith)
 
-  -- A part before it passed too.
-  first-given : {B : Type 0} (first : Answer B) (next : Answer A) (x : A) → andThen first next ≡ given x → ((b : B) × (first ≡ given b)) × (next ≡ given x)
-  first-given (given b) next x e = ((b, refl), e)
-  first-given (refused number) next x e = absurd (let z : _≡_ {A = ℕ} 0 1 = cc in omega arith)
-  first-given (refusedAt number node) next x e = absurd (let z : _≡_ {A = ℕ} 0 1 = cc in omega arith)
-
-  module _ (nodes rules : List ℕ) (node mode : ℕ) (next : Answer A) where
-    abbrev by-table : Answer A
-    by-table = refuseIf (fails3 nodes rules) 3 (refuseIf (fails4 nodes rules) 4 (refuseIf (fails5With nodes rules node mode) 5 next))
-
-    table-passed : (x : A) → by-table ≡ given x → Started nodes rules node mode × (next ≡ given x)
-    table-passed x e =
-        let p = passed (fails3 nodes rules) 3 _ x e in
-        let q = passed (fails4 nodes rules) 4 _ x (p .1) in
-        let r = passed (fails5With nodes rules node mode) 5 next x (q .1) in
-        (record { three = p .0; four = q .0; five = r .0 }, r .1)
-
-    table-passes : Started nodes rules node mode → by-table ≡ next
-    table-passes s = rw (s .three, s .four, s .five) refl
-
--- Such a table passes without its start.
-pub table-right : (nodes rules : List ℕ) (node mode : ℕ) → Started nodes rules node mode → tableAnswer nodes rules ≡ given tt
-unfolding tableAnswer
-table-right nodes rules node mode s =
-    let p = both-false (fails5 nodes rules || not (ltb node (nodeCount nodes))) (not (isRelation mode)) (s .five) in
-    let q = both-false (fails5 nodes rules) (not (ltb node (nodeCount nodes))) (p .0) in
-    rw (s .three, s .four, q .0) refl
+-- Three checks that pass.
+table-passes :
+    {A : Type 0} (nodes rules : List ℕ) (node mode : ℕ) (next : Answer A)
+    → Started nodes rules node mode
+    → refuseIf (fails3 nodes rules) 3 (refuseIf (fails4 nodes rules) 4 (refuseIf (fails5With nodes rules node mode) 5 next)) ≡ next
+table-passes nodes rules node mode next s = rw (s .three, s .four, s .five) refl
 
 -- What number 1 asks of the fields.
 readable : (o : Option (List Field)) → unreadable o ≡ false → fails2 (Option·getD o []) ≡ false → (o ≡ some (Option·getD o [])) × Framed (Option·getD o [])
@@ -93,8 +67,8 @@ pub passes-right : (file : List ℕ) (c : Contents) → fileAnswer file ≡ give
 unfolding fileAnswer fails1 fails5ByFile
 passes-right file c e =
     let fs = fieldsOf file in
-    let p = passed (fails1 file) 1 _ c e in
-    let q = passed (fails2 fs) 2 _ c (p .1) in
+    let p = if-given (fails1 file) 1 _ e in
+    let q = if-given (fails2 fs) 2 _ (p .1) in
     let r = table-passed (nodeTable fs) (ruleList fs) (startNode fs) (startMode fs) _ c (q .1) in
     let l = both-false (ltb mostBytes (length file)) (unreadable (fields file)) (p .0) in
     let o = readable (fields file) (l .1) (q .0) in
@@ -137,8 +111,8 @@ module _ (lending nodes rules : List ℕ) (node mode lent : ℕ) where
   writes-lent n e =
       let p = first-given (fileAnswer lending) _ n e in
       let q = table-passed nodes rules node mode _ n (p .1) in
-      let r = passed (fails15 lending rules) 15 _ n (q .1) in
-      let s = passed (ltb lent (length file)) 6 _ n (r .1) in
+      let r = if-given (fails15 lending rules) 15 _ (q .1) in
+      let s = if-given (ltb lent (length file)) 6 _ (r .1) in
       let told = s .1 in (
         record {
           lends = passes-right lending (p .0 .0) (p .0 .1) .0;

@@ -1,5 +1,5 @@
 -- A file that the writer wrote is read back: it passes 1 to 5, and the nodes, rules, start, keywords and names are those that
--- the writer had. It is never longer than 18,209 bytes.
+-- the writer had. It is never longer than 18,209 bytes, and what was read back is written again as the same file.
 use Prim.Native.Nat.{ℕ, _/_, _%_, _≤_}
 use mathlib.Core.Path.{_≡_, refl, sym, ap, ap₂, _∙_}
 use mathlib.Core.Bool.{false, not, _&&_, _||_}
@@ -20,8 +20,10 @@ use Rattle.file_shape.specs.Contents.{fails2, Contents, contents, fileAnswer}
 use Rattle.grammar_file.specs.File.{fails6, readAnswer, partOf, keywordBytes, nameBytes}
 use Rattle.grammar_writer.specs.Written.{writtenFields, writtenFile, writeAnswer}
 use Rattle.written_files.proofs.FieldsBack.{two-number, fields-back}
-use Rattle.written_files.proofs.Passed.{Right, Lent, table-right, right-passes, writes-lent}
-use Rattle.written_files.proofs.Longest.{spelling-short, both-spelled, longest}
+use Rattle.grammar_writer.proofs.LendLaws.{table-right, both-spelled}
+use Rattle.grammar_writer.proofs.SectionLaws.{spelling-short}
+use Rattle.grammar_writer.proofs.FileLaws.{longest}
+use Rattle.written_files.proofs.Passed.{Right, Lent, right-passes, writes-lent}
 use Rattle.written_files.proofs.WrittenParts.{written-ordered, written-values, written-keywords, written-rules, written-names, written-nodes, written-start}
 
 -- There are as many names as rules.
@@ -178,3 +180,17 @@ module _ (lending nodes rules : List ℕ) (node mode lent n : ℕ) (w : writeAns
   pub name-back : (r : ℕ) → nameBytes file r ≡ nameBytes lending r
   unfolding nameBytes
   name-back = part-back names names-back
+
+  -- What was read back of the file is written again as the same file, whichever file lends these keywords and names.
+  again : (lender : List ℕ) → keywords (fieldsOf lender) ≡ words → ruleNames (fieldsOf lender) ≡ names
+      → writtenFile lender (nodeTable (fieldsOf file)) (ruleList (fieldsOf file)) (startNode (fieldsOf file)) (startMode (fieldsOf file)) ≡ file
+  unfolding writtenFile
+  again lender p q = rw (nodes-back, rules-back, start-back .0, start-back .1, p, q) refl
+
+  -- The file that lent them does.
+  pub written-again : writtenFile lending (nodeTable (fieldsOf file)) (ruleList (fieldsOf file)) (startNode (fieldsOf file)) (startMode (fieldsOf file)) ≡ file
+  written-again = again lending refl refl
+
+  -- So does the written file itself.
+  pub written-by-itself : writtenFile file (nodeTable (fieldsOf file)) (ruleList (fieldsOf file)) (startNode (fieldsOf file)) (startMode (fieldsOf file)) ≡ file
+  written-by-itself = again file keywords-back names-back

@@ -22,7 +22,8 @@ use Rattle.grammar_writer.specs.Written.{writtenFields, writtenFile, writeAnswe
 use Rattle.written_files.specs.Bytes.{areBytes}
 use Rattle.written_files.proofs.FieldsBack.{Bytes, each-byte, bytes-back}
 use Rattle.written_files.proofs.Tabulated.{Each, each-both}
-use Rattle.written_files.proofs.Passed.{Started, Right, table-right, passes-right, lent-writes}
+use Rattle.grammar_writer.proofs.LendLaws.{Started, table-right}
+use Rattle.written_files.proofs.Passed.{Right, passes-right, lent-writes}
 use Rattle.written_files.proofs.Tags.{values-each}
 use Rattle.written_files.proofs.SameFields.{Sound, same-fields}
 

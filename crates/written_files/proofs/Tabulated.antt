@@ -1,14 +1,13 @@
 -- Laws of `tabulate`: its length, its elements, and a list told by its elements. And what holds of each thing in a list, which
 -- goes with lists put together and taken apart.
-use Prim.Native.Nat.{ℕ, zero, suc, _*_, _≤_, _<_}
+use Prim.Native.Nat.{ℕ, zero, suc, _<_}
 use mathlib.Core.Path.{_≡_, refl, sym, ap, ap₂, _∙_}
 use mathlib.Core.List.{List, [], _∷_, _++_, map, map-append}
 use mathlib.Core.Logic.{⊎-elim}
-use native.Mathlib.Nat.{eq-or-lt-of-le, le-of-suc-le-suc, suc-mul}
+use native.Mathlib.Nat.{eq-or-lt-of-le, le-of-suc-le-suc}
 use native.Mathlib.Omega.{arith}
 use lib.ListN.{length, getD, length-append, List·getD-append}
 use lib.Seq.{getD-at, ext-getD}
-use Rattle.table.specs.Words.{eachWords}
 use Rattle.grammar_writer.specs.Written.{tabulate}
 
 module _ {A : Type 0} where
@@ -87,11 +86,3 @@ module _ {A : Type 0} where
   -- A list, by what a function gives of the number of each.
   pub tabulate-each : (l : List A) (k : ℕ) (f : ℕ → A) (d : A) → length l ≡ k → ((i : ℕ) → i < length l → f i ≡ getD l i d) → tabulate k f ≡ l
   tabulate-each l k f d e h = tabulate-same k f (λ i. getD l i d) (λ i a. h i (rw e a)) ∙ tabulate-list l k d e
-
-  -- Words of things that have at most m words each.
-  pub words-most : (words : A → List ℕ) (m : ℕ) (xs : List A) → Each (λ x. length (words x) ≤ m) xs → length (eachWords words xs) ≤ length xs * m
-  unfolding eachWords
-  words-most words m [] e = omega arith
-  words-most words m (x ∷ xs) e =
-      let more = words-most words m xs (e .1) in
-      rw (length-append, suc-mul) (omega (arith, e .0))

@@ -9,26 +9,43 @@ use Rattle.grammar_writer.proofs.check_started.Tie as tie
 
 returns : tie.Need-returns
 returns c =
-    let a = c .before .before .before .before .before .before .args in
-    start-decides (a .nodes .now) (a .rules .now) (a .node) (a .mode) (ap numbers (sym (c .before .enum-told .given .1)) ∙ c .before .before .before .check .ensures)
-    (le-ltb _ _ (c .if1 .taken)) refl
+    let at-if1 = c in
+    let at-enum-told = at-if1 .before in
+    let at-check = at-enum-told .before .before in
+    let start = at-check .before .before .before in
+    let a = start .args in
+    start-decides (a .nodes .now) (a .rules .now) (a .node) (a .mode) (ap numbers (sym (at-enum-told .enum-told .given .1)) ∙ at-check .check .ensures)
+    (le-ltb _ _ (at-if1 .if1 .taken)) refl
 
 returns-2 : tie.Need-returns-2
 returns-2 c =
-    let a = c .before .before .before .before .before .before .before .args in
-    start-decides (a .nodes .now) (a .rules .now) (a .node) (a .mode) (ap numbers (sym (c .before .before .enum-told .given .1)) ∙ c .before .before .before .before .check .ensures)
-    (lt-ltb _ _ (c .before .if1 .left)) (le-ltb _ _ (c .if2 .taken))
+    let at-if2 = c in
+    let at-if1 = at-if2 .before in
+    let at-enum-told = at-if1 .before in
+    let at-check = at-enum-told .before .before in
+    let start = at-check .before .before .before in
+    let a = start .args in
+    start-decides (a .nodes .now) (a .rules .now) (a .node) (a .mode) (ap numbers (sym (at-enum-told .enum-told .given .1)) ∙ at-check .check .ensures)
+    (lt-ltb _ _ (at-if1 .if1 .left)) (le-ltb _ _ (at-if2 .if2 .taken))
 
 returns-3 : tie.Need-returns-3
 returns-3 c =
-    let a = c .before .before .before .before .before .before .args in
-    table-refuses (a .nodes .now) (a .rules .now) (a .node) (a .mode) (ap numbers (sym (c .before .table .given .1)) ∙ c .before .before .before .check .ensures)
+    let at-table = c .before in
+    let at-check = at-table .before .before in
+    let start = at-check .before .before .before in
+    let a = start .args in
+    table-refuses (a .nodes .now) (a .rules .now) (a .node) (a .mode) (ap numbers (sym (at-table .table .given .1)) ∙ at-check .check .ensures)
 
 returns-4 : tie.Need-returns-4
 returns-4 c =
-    let a = c .before .before .before .before .before .before .before .args in
-    start-decides (a .nodes .now) (a .rules .now) (a .node) (a .mode) (ap numbers (sym (c .before .before .enum-told .given .1)) ∙ c .before .before .before .before .check .ensures)
-    (lt-ltb _ _ (c .before .if1 .left)) (lt-ltb _ _ (c .if2 .left))
+    let at-if2 = c in
+    let at-if1 = at-if2 .before in
+    let at-enum-told = at-if1 .before in
+    let at-check = at-enum-told .before .before in
+    let start = at-check .before .before .before in
+    let a = start .args in
+    start-decides (a .nodes .now) (a .rules .now) (a .node) (a .mode) (ap numbers (sym (at-enum-told .enum-told .given .1)) ∙ at-check .check .ensures)
+    (lt-ltb _ _ (at-if1 .if1 .left)) (lt-ltb _ _ (at-if2 .if2 .left))
 
 pub check-started-spec : {M : Type 1} → statement M
 check-started-spec =

@@ -9,11 +9,17 @@ use Rattle.grammar_writer.proofs.PutLaws.{length-field, field-put}
 
 returns : tie.Need-returns
 returns c =
-    let a = c .before .before .before .before .before .before .before .before .before .before .before .before .before .before .before .before .before .before .args in (
+    let at-put3 = c .before .before in
+    let at-put2 = at-put3 .before .before .before .before in
+    let at-put = at-put2 .before .before .before .before in
+    let at-low-byte = at-put .before .before .before in
+    let at-high-byte = at-low-byte .before in
+    let start = at-high-byte .before .before .before .before in
+    let a = start .args in (
       omega (arith, length-field (a .tag) (a .head .now) (a .tail .now)),
-      c .before .before .put3 .ensures
-          ∙ ap (placed _ (a .tail .now)) (c .before .before .before .before .before .before .put2 .ensures ∙ ap (placed _ (a .head .now)) (c .before .before .before .before .before .before .before .before .before .before .put .ensures))
-          ∙ field-put (a .tag) (a .head .now) (a .tail .now) (c .before .before .before .before .before .before .before .before .before .before .before .before .before .before .high-byte .ensures) (c .before .before .before .before .before .before .before .before .before .before .before .before .before .low-byte .ensures)
+      at-put3 .put3 .ensures
+          ∙ ap (placed _ (a .tail .now)) (at-put2 .put2 .ensures ∙ ap (placed _ (a .head .now)) (at-put .put .ensures))
+          ∙ field-put (a .tag) (a .head .now) (a .tail .now) (at-high-byte .high-byte .ensures) (at-low-byte .low-byte .ensures)
           (a .to) (a .out .now) (omega arith),
     )
 

@@ -10,43 +10,62 @@ use Rattle.grammar_writer.proofs.write.Tie as tie
 
 write-named-requires : tie.Need-write-named-requires
 write-named-requires c κs =
-    let file = c .before .before .before .before .before .before .before .before .before .before .before .before .args .lending .now in
-    let found = c .before .before .before .before .before .found2 .given in
-    let shown = c .before .before .before .before .before .before .before .inspect .ensures in
+    let at-enum-told = c .before in
+    let at-check-started = at-enum-told .before .before in
+    let at-found2 = at-check-started .before .before in
+    let at-inspect = at-found2 .before .before in
+    let start = at-inspect .before .before .before .before .before in
+    let file = start .args .lending .now in
+    let found = at-found2 .found2 .given in
+    let shown = at-inspect .inspect .ensures in
     record {
       parts = parts file shown (found .0 .0) (found .1);
       lends = sym (passes file shown (found .0 .0) (found .1));
-      started = sym (ap numbers (sym (c .before .enum-told .given .1)) ∙ c .before .before .before .check-started .ensures);
+      started = sym (ap numbers (sym (at-enum-told .enum-told .given .1)) ∙ at-check-started .check-started .ensures);
     }
 
 returns : tie.Need-returns
 returns c =
-    let a = c .before .before .before .before .before .before .before .before .args in
-    let found = c .before .found .given in (
+    let at-found = c .before in
+    let at-inspect = at-found .before .before in
+    let start = at-inspect .before .before .before .before .before in
+    let a = start .args in
+    let found = at-found .found .given in (
       lending-refuses (a .lending .now) (a .nodes .now) (a .rules .now) (a .node) (a .mode) (length (a .out .now))
-          (refuses (a .lending .now) (c .before .before .before .inspect .ensures) (found .0 .0) (found .1)),
+          (refuses (a .lending .now) (at-inspect .inspect .ensures) (found .0 .0) (found .1)),
       refl,
     )
 
 returns-2 : tie.Need-returns-2
 returns-2 c =
-    let a = c .before .before .before .before .before .before .before .before .before .before .before .before .args in
-    let found = c .before .before .before .before .before .found2 .given in (
+    let at-checked = c .before in
+    let at-check-started = at-checked .before .before in
+    let at-found2 = at-check-started .before .before in
+    let at-inspect = at-found2 .before .before in
+    let start = at-inspect .before .before .before .before .before in
+    let a = start .args in
+    let found = at-found2 .found2 .given in (
       tables-refuse (a .lending .now) (a .nodes .now) (a .rules .now) (a .node) (a .mode) (length (a .out .now))
-          (passes (a .lending .now) (c .before .before .before .before .before .before .before .inspect .ensures) (found .0 .0) (found .1))
-          (ap numbers (sym (c .before .checked .given .1)) ∙ c .before .before .before .check-started .ensures),
+          (passes (a .lending .now) (at-inspect .inspect .ensures) (found .0 .0) (found .1))
+          (ap numbers (sym (at-checked .checked .given .1)) ∙ at-check-started .check-started .ensures),
       refl,
     )
 
 returns-3 : tie.Need-returns-3
 returns-3 c =
-    let a = c .before .before .before .before .before .before .before .before .before .before .before .before .before .before .before .args in
-    let found = c .before .before .before .before .before .before .before .before .found2 .given in (
-      c .before .before .write-named .ensures .0
+    let at-write-named = c .before .before in
+    let at-enum-told = at-write-named .before .before in
+    let at-check-started = at-enum-told .before .before in
+    let at-found2 = at-check-started .before .before in
+    let at-inspect = at-found2 .before .before in
+    let start = at-inspect .before .before .before .before .before in
+    let a = start .args in
+    let found = at-found2 .found2 .given in (
+      at-write-named .write-named .ensures .0
           ∙ then-lent (a .lending .now) (a .nodes .now) (a .rules .now) (a .node) (a .mode) (length (a .out .now))
-          (passes (a .lending .now) (c .before .before .before .before .before .before .before .before .before .before .inspect .ensures) (found .0 .0) (found .1))
-          (ap numbers (sym (c .before .before .before .before .enum-told .given .1)) ∙ c .before .before .before .before .before .before .check-started .ensures),
-      c .before .before .write-named .ensures .1,
+          (passes (a .lending .now) (at-inspect .inspect .ensures) (found .0 .0) (found .1))
+          (ap numbers (sym (at-enum-told .enum-told .given .1)) ∙ at-check-started .check-started .ensures),
+      at-write-named .write-named .ensures .1,
     )
 
 pub write-spec : {M : Type 1} → statement M

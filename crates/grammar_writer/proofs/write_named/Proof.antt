@@ -12,31 +12,55 @@ use Rattle.grammar_writer.proofs.write_named.Statement.{statement}
 use Rattle.grammar_writer.proofs.write_named.Tie as tie
 
 returns : tie.Need-returns
-returns c = (other-count (c .before .before .before .before .before .before .before .pre) (length (c .before .before .before .before .before .before .before .args .out .now)) (c .if1 .taken), refl)
+returns c =
+    let at-if1 = c in
+    let start = at-if1 .before .before .before .before .before .before .before in
+    (other-count (start .pre) (length (start .args .out .now)) (at-if1 .if1 .taken), refl)
 
 put-file-requires : tie.Need-put-file-requires
-put-file-requires c κs = (c .before .before .before .before .before .before .before .before .pre, (c .before .if1 .left, search needs))
+put-file-requires c κs =
+    let at-if1 = c .before in
+    let start = at-if1 .before .before .before .before .before .before .before in
+    (start .pre, (at-if1 .if1 .left, search needs))
 
 returns-2 : tie.Need-returns-2
-returns-2 c = (no-room (c .before .before .before .before .before .before .before .before .before .before .before .pre) (length (c .before .before .before .before .before .before .before .before .before .before .before .args .out .now)) (c .before .before .before .before .if1 .left) (rw (c .before .before .put-file .ensures .0) at (c .if2 .taken)), refl)
+returns-2 c =
+    let at-if2 = c in
+    let at-put-file = at-if2 .before .before in
+    let at-if1 = at-put-file .before .before in
+    let start = at-if1 .before .before .before .before .before .before .before in
+    (no-room (start .pre) (length (start .args .out .now)) (at-if1 .if1 .left) (rw (at-put-file .put-file .ensures .0) at (at-if2 .if2 .taken)), refl)
 
 array-share-prefix-file : tie.Need-array-share-prefix-file
-array-share-prefix-file c = omega (arith, c .before .before .put-file .ensures .0, file-short (c .before .before .before .before .before .before .before .before .before .before .before .pre) (c .before .before .before .before .if1 .left))
+array-share-prefix-file c =
+    let at-put-file = c .before .before in
+    let at-if1 = at-put-file .before .before in
+    let start = at-if1 .before .before .before .before .before .before .before in
+    omega (arith, at-put-file .put-file .ensures .0, file-short (start .pre) (at-if1 .if1 .left))
 
 slice-aggregate-copy : tie.Need-slice-aggregate-copy
 slice-aggregate-copy c =
-    let a = c .before .before .before .before .before .before .before .before .before .before .before .before .args in
-    let put = c .before .before .before .put-file .ensures in
+    let at-put-file = c .before .before .before in
+    let start = at-put-file .before .before .before .before .before .before .before .before .before in
+    let a = start .args in
+    let put = at-put-file .put-file .ensures in
     let file = writtenFile (a .lending .now) (a .nodes .now) (a .rules .now) (a .node) (a .mode) in
     sym (ap length (file-front file (replicate 18209 0) _ (put .0) (put .1)) ∙ sym (put .0))
 
 returns-3 : tie.Need-returns-3
 returns-3 c =
-    let a = c .before .before .before .before .before .before .before .before .before .before .before .before .before .before .before .before .args in
-    let put = c .before .before .before .before .before .before .before .put-file .ensures in
+    let at-copy = c .before .before in
+    let at-if2 = at-copy .before .before .before in
+    let at-put-file = at-if2 .before .before in
+    let at-if1 = at-put-file .before .before in
+    let start = at-if1 .before .before .before .before .before .before .before in
+    let a = start .args in
+    let put = at-put-file .put-file .ensures in
     let file = writtenFile (a .lending .now) (a .nodes .now) (a .rules .now) (a .node) (a .mode) in
-    let room : length file ≤ length (a .out .now) = rw (put .0) at (c .before .before .before .before .before .if2 .left) in
-    (ap given (put .0) ∙ enough (c .before .before .before .before .before .before .before .before .before .before .before .before .before .before .before .before .pre) (length (a .out .now)) (c .before .before .before .before .before .before .before .before .before .if1 .left) room, file-copied file (replicate 18209 0) _ (put .0) (put .1) (a .out .now) room (c .before .before .copy .ensures .1))
+    let room : length file ≤ length (a .out .now) = rw (put .0) at (at-if2 .if2 .left) in (
+      ap given (put .0) ∙ enough (start .pre) (length (a .out .now)) (at-if1 .if1 .left) room,
+      file-copied file (replicate 18209 0) _ (put .0) (put .1) (a .out .now) room (at-copy .copy .ensures .1),
+    )
 
 pub write-named-spec : {M : Type 1} → statement M
 write-named-spec =
