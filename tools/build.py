@@ -938,7 +938,11 @@ def field(tag, value):
 
 
 def file_of(grammar):
-    """The bytes of the grammar file."""
+    """The bytes of the grammar file.
+
+    They are put together here: saktroum_write asks for a grammar file that lends keywords and names, and a grammar in words
+    has none yet. trials/test_build.py writes what the reader reads of such a file, and asks for the same bytes.
+    """
     fields = [field(1, b"\x01")]
     fields += [field(2, spelling.encode()) for spelling in grammar.keywords]
     fields += [field(3, pair(node) + name.encode()) for name, node in grammar.rules.items()]

@@ -37,6 +37,7 @@ ENTRY = " " * 5  # before each line of a list
 ANSWER = re.compile(r"failure|success (\d+) (\d+) (\d+|inf) (clear|set)")
 BUILDS = re.compile(r"python3 tools/build\.py (?P<grammar>[^-\s]\S*) (?P<file>\S+)")
 READS = re.compile(r"\.\./target/bin/(?P<program>reader|entries) < (?P<report>\S+)")
+WRITES = re.compile(r"target/write_grammar (?P<lending>\S+) (?P<table>\S+) \S+")
 
 
 class Wrong(Exception):
@@ -250,14 +251,16 @@ def run_case(reader, report, case, written):
 
 
 def read_commands(reader, block):
-    """What the builder and the programs write stands below each call of them."""
+    """What the builder, the writer and the programs write stands below each call of them."""
     for number, line in enumerate(block.lines, block.line):
-        builds, reads = BUILDS.fullmatch(line), READS.fullmatch(line)
+        builds, writes, reads = (pattern.fullmatch(line) for pattern in (BUILDS, WRITES, READS))
         if builds:
             grammar, file = build.built((ROOT / builds["grammar"]).read_text(encoding="utf-8"))
             says = [f"{builds['file']}: {grammar.summary()}"]
             if (ROOT / builds["file"]).read_bytes() != file:
                 raise Wrong(number, f"{builds['file']} is not what {builds['grammar']} builds")
+        elif writes:
+            says = [written(reader, ROOT / writes["lending"], ROOT / writes["table"])]
         elif reads:
             says = printed(reader, reads["program"], ROOT / "examples" / reads["report"])
         else:
@@ -265,6 +268,17 @@ def read_commands(reader, block):
         below = itertools.takewhile(lambda under: under.startswith("# "), block.lines[number + 1 - block.line :])
         if list(below) != [f"# {said}" for said in says]:
             raise Wrong(number, "this writes: " + "\n".join(says))
+
+
+def written(reader, lending, table):
+    """The line that examples/write_grammar.c prints for a table in numbers, which is read back as it was written."""
+    lines = [line.split("#")[0].split() for line in table.read_text(encoding="utf-8").splitlines()]
+    rows = {word: [tuple(map(int, line[1:])) for line in lines if line[:1] == [word]] for word in ("node", "rule", "start")}
+    nodes, rules, start = rows["node"], [rule for rule, in rows["rule"]], rows["start"][0]
+    file = reader.write(lending.read_bytes(), nodes, rules, *start)
+    if reader.read(file) != (nodes, rules, *start):
+        raise Wrong(1, f"{table.name} is not read back as it was written")
+    return f"{len(nodes)} nodes, {len(rules)} rules, {len(file)} bytes"
 
 
 def printed(reader, program, path):

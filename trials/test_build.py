@@ -427,6 +427,17 @@ def children(grammar, number, spelled):
     return (spelled(grammar, a),) if kind > build.CHOICE else (a,)
 
 
+class Written(unittest.TestCase):
+    def test_same_bytes(self):
+        """The reader writes what it reads of the builder's files, with the file lending, as the same bytes; random ones too."""
+        chance = random.Random(SEED)
+        texts = [random_grammar(chance) for _ in range(GRAMMARS)]
+        texts += [path.read_text(encoding="utf-8") for path in sorted((ROOT / "examples").glob("*.grammar"))]
+        for text in texts:
+            file = build.file_of(build.grammar_of(text))
+            self.assertEqual(READER.write(file, *READER.read(file)), file, text)
+
+
 class Refusals(unittest.TestCase):
     """The first number that the builder tells, with its node, is the reader's answer to the file that would be written."""
 
