@@ -115,7 +115,7 @@ fn write_named(
     if rules.len() != named.count {
         return FileWritten::Refused(refusals::RULE_COUNT);
     }
-    let mut file = [0u8; 18209];
+    let mut file = [0u8; MOST_BYTES];
     let n = put_file(lending, s, nodes, rules, node, mode, &mut file);
     if out.len() < n {
         return FileWritten::Refused(refusals::ROOM);
