@@ -70,11 +70,11 @@ class Payloads:
     """Payloads of one sort, each stored by what it shares with the one before, the first with no bytes.
 
     In `stretch` also by one stretch whose bytes are each a copy of the one at a distance before it. It is looked for
-    at the distances given, where more than `least` bytes are new.
+    at the distances given, where more than `least` bytes are new. `all` has them in their order.
     """
 
     def __init__(self, least=0, distances=()):
-        self.before, self.least, self.distances = b"", least, distances
+        self.before, self.least, self.distances, self.all = b"", least, distances, []
 
     def front(self, payload):
         """How many bytes are those of the one before, at the start of both, and the bytes to be stored."""
@@ -82,6 +82,7 @@ class Payloads:
         size = min(len(self.before), len(payload))
         same = size - (apart(self.before[:size], payload[:size]).bit_length() + 7) // 8
         self.before = payload
+        self.all.append(payload)
         return same, payload[same:]
 
     def stretch(self, payload):

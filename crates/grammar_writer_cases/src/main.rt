@@ -184,7 +184,11 @@ fn write_again(file: &[u8], nodes: &[u16], rules: &[u16], start: u16, mode: u16,
     match answer {
         FileWritten::Bytes(n) => {
             show_one(b"again", n as u64);
-            show_either(check::same(part(out, 0, n), file), b" | same", b" | differs");
+            show_either(
+                check::same(part(out, 0, n), file),
+                b" | same",
+                b" | differs",
+            );
             show_kept(out, n);
         }
         FileWritten::Refused(number) => show_refused(number, out),
