@@ -320,9 +320,10 @@ for said, nodes, rules in (
     ("a repeat of a rule that may read nothing", [A, not_(0), rule(0), repeat(2)], [1]),
 ):
     names = named(len(rules))
-    carries(f"{said}, written", [b"k"], names, nodes, rules, len(nodes) - 1, 1)
-    carries(f"{said}, lending", [b"k"], names, [A], [0] * len(rules), 0, 1, file(nodes, 0, 0, [b"k"], list(zip(rules, names))))
-    again(f"{said}, again", file(nodes, len(nodes) - 1, 1, [b"k"], list(zip(rules, names))))
+    ill_formed = file(nodes, len(nodes) - 1, 1, [b"k"], list(zip(rules, names)))
+    writes(f"{said}, written", ill_formed, lender([b"k"], names), nodes, rules, len(nodes) - 1, 1)
+    carries(f"{said}, lending", [b"k"], names, [A], [0] * len(rules), 0, 1, ill_formed)
+    again(f"{said}, again", ill_formed)
 
 
 # --- Limits --------------------------------------------------------------------------------------
@@ -467,8 +468,9 @@ for number, words in (
     (None, (4, 0, 0, 0)), (4, (4, 1, 0, 0)), (4, (4, 0, 1, 0)), (4, (4, 2, 0, 0)), (4, (4, 0, 0, 1)), (4, (4, 256, 0, 0)),
     (None, (5, 0, 0, 0)), (4, (5, 1, 0, 0)), (4, (5, 2, 0, 0)), (4, (5, 0, 1, 0)), (4, (5, 0, 0, 1)), (4, (5, 256, 0, 0)),
     (None, (6, 0, 0, 0)), (4, (6, 1, 0, 0)), (4, (6, 2, 0, 0)), (4, (6, 0, 1, 0)), (4, (6, 0, 0, 1)), (4, (6, 256, 0, 0)),
-    (None, (7, 0, 0, 34)), (4, (7, 0, 0, 35)), (4, (7, 0, 0, 256)), (4, (7, 0, 0, 290)), (4, (7, 1, 0, 1)), (4, (7, 0, 1, 1)),
-    (None, (8, 0, 0, 34)), (4, (8, 0, 0, 35)), (4, (8, 0, 0, 256)), (4, (8, 0, 0, 290)), (4, (8, 1, 0, 1)), (4, (8, 0, 1, 1)),
+    (None, (7, 0, 0, 34)), (4, (7, 0, 0, 35)), (4, (7, 0, 0, 256)), (4, (7, 0, 0, 290)), (4, (7, 1, 0, 1)),
+    (4, (7, 0, 1, 1)), (None, (8, 0, 0, 34)), (4, (8, 0, 0, 35)), (4, (8, 0, 0, 256)), (4, (8, 0, 0, 290)),
+    (4, (8, 1, 0, 1)), (4, (8, 0, 1, 1)),
     (None, (9, 0, 0, 0)), (4, (9, 1, 0, 0)), (4, (9, 2, 0, 0)), (4, (9, 0, 1, 0)), (4, (9, 0, 0, 1)), (4, (9, 256, 0, 0)),
     (4, (10, 0, 0, 0)), (4, (255, 0, 0, 0)), (4, (256, 0, 0, 0)), (4, (265, 0, 0, 0)), (4, (65535, 0, 0, 0)),
 ):
@@ -519,16 +521,12 @@ for count in (1, 2, 3, 4):
 
 # --- Room: 6 -------------------------------------------------------------------------------------
 
-# "a lent slice too short for what is to be written": 19 bytes, then 4 + 4 + 6 + 2 * 9 + 6 = 38.
-for said, size, lends, nodes, rules, first in (
-    ("19 bytes", 19, PLAIN, [A], [], 0),
-    ("38 bytes", 38, lender([b"k"], [b"r"], [EMPTY] * 3), [A, B], [1], 1),
-):
+# "a lent slice too short for what is to be written": 4 + 9 + 6 bytes, then 4 + 4 + 6 + 2 * 9 + 6.
+for size, spellings, names, nodes, rules in ((19, [], [], [A], []), (38, [b"k"], [b"r"], [A, B], [1])):
     for lent in range(size):
-        refused(f"{said} and {lent} lent", 6, lends, nodes, rules, first, 1, lent)
+        refused(f"{size} bytes and {lent} lent", 6, lender(spellings, names, [EMPTY] * 3), nodes, rules, 0, 1, lent)
     for lent in (size, size + 1, size + 2, 64, 1000, 18209, 65536, PAYLOAD_ROOM):
-        spellings, names = ([], []) if size == 19 else ([b"k"], [b"r"])
-        carries(f"{said} and {lent} lent", spellings, names, nodes, rules, first, 1, lends, lent)
+        carries(f"{size} bytes and {lent} lent", spellings, names, nodes, rules, 0, 1, None, lent)
 # The room is the written file's, not the lending file's, whether that is longer or shorter.
 LONG_LENDER = lender([b"k"], [b"r"], [EMPTY] * 100)
 refused("38 bytes and 37 lent, the lending file of 920", 6, LONG_LENDER, [A, B], [1], 1, 1, 37)
@@ -695,9 +693,10 @@ SPLICE_RULES = [(30, b"report"), (35, b"heading"), (46, b"splice"), (51, b"arc")
 SPLICE_FILE = file(SPLICES, 30, 1, SPLICE_WORDS, SPLICE_RULES)
 again("examples/grammar.bin", SPLICE_FILE)
 # The same table written with a file that has the keywords and names alone, and with another start.
-NAMES = [name for _, name in SPLICE_RULES]
-for said, first, mode in (("", 30, 1), (", from an arc and any column", 51, 3)):
-    carries(f"examples/grammar.bin from its table{said}", SPLICE_WORDS, NAMES, SPLICES, [n for n, _ in SPLICE_RULES], first, mode)
+SPLICE_NODES, SPLICE_NAMES = zip(*SPLICE_RULES)
+for said, first, mode in (("", 30, 1), (", from an arc in any column", 51, 3)):
+    label = f"examples/grammar.bin from its table{said}"
+    carries(label, SPLICE_WORDS, SPLICE_NAMES, SPLICES, SPLICE_NODES, first, mode)
 
 # Room for a file that is written again: as many bytes as it has, one less, none.
 for said, content in (("smallest file", VERSION + TAIL), ("examples/grammar.bin", SPLICE_FILE)):
