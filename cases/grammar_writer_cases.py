@@ -21,7 +21,6 @@ from grammar_fields import EVERY_KIND, NINE, START, TAIL, VERSION
 from grammar_fields import EMPTY as EMPTY_FIELD
 from grammar_fields import field, file, keyword, largest, node, start, with_keywords, with_names
 from grammar_fields import rule as rule_field
-from grammar_fields import rules as rule_fields
 from records import PAYLOAD_ROOM, Cases, Payloads, wide
 from table_nodes import EMPTY, RELATION_COUNT
 from table_nodes import align, choice, flat, indent, not_, over, position, repeat, rule, sequence, terminal
