@@ -49,16 +49,16 @@ module _ (words names : List (List ℕ)) (nodes rules : List ℕ) (node mode : �
       omega (arith, all, keywords-short words a, rules-short rules names b, nodes-short nodes)
 
 module _ {lending nodes rules : List ℕ} {s : Shape} {node mode : ℕ} (h : Lends lending s nodes rules node mode) (e : length rules ≡ s .rules .count) where
-  abbrev Format : List ℕ
+  abbrev pub Format : List ℕ
   Format = fieldBytes formatField
 
-  abbrev Keywords : List ℕ
+  abbrev pub Keywords : List ℕ
   Keywords = bytesOf (keywordFields (spellingsFrom lending 4 (s .keywords) 0))
 
-  abbrev Rules : List ℕ
+  abbrev pub Rules : List ℕ
   Rules = bytesOf (ruleFields rules (spellingsFrom lending (s .rules .at) (length rules) 2))
 
-  abbrev Nodes : List ℕ
+  abbrev pub Nodes : List ℕ
   Nodes = bytesOf (nodeFields nodes)
 
   abbrev Start : List ℕ

@@ -130,35 +130,35 @@ module _ (f : ℕ → Field) (to : ℕ) (old : List ℕ) where
   unfolding tabulate eachWords
   put-starts = over-starts to old
 
-  -- What the next field is asked for, and what it gives, where it has a tag and a value in two parts.
-  module _
+  -- The next field, by its tag and its value in two parts: it may be put, and then it stands behind those before it.
+  pub record Next (k end : ℕ) (out : List ℕ) (t : ℕ) (head tail : List ℕ) : Type 0 where
+    pub asks : (length head + length tail < 65536) × (end + 3 + (length head + length tail) ≤ length out)
+    pub puts :
+        {m : ℕ} {next : List ℕ}
+        → m ≡ end + length (fieldBytes (field t (head ++ tail)))
+        → next ≡ over end (fieldBytes (field t (head ++ tail))) out
+        → Put (k + 1) m next
+
+  -- There is room for it, where there is room for count fields of at most b bytes.
+  pub next-field :
       (k : ℕ) {end : ℕ} {out : List ℕ}
-      (p : Put k end out)
-      (b count : ℕ)
-      (each : (i : ℕ) → i < count → length (fieldBytes (f i)) ≤ b)
-      (h : k < count)
-      (r : to + count * b ≤ length old)
-      (t : ℕ) (head tail : List ℕ)
-      (is : f k ≡ field t (head ++ tail)) where
-    room : end + length (fieldBytes (f k)) ≤ length old
-    room =
-        let ends = p .ends in
-        omega (
-          arith,
-          ends,
-          bytes-within f b k (λ i a. each i (omega arith)),
-          each k h,
-          suc-mul k b,
-          mul-le-mul-right b h,
-        )
-
-    long : length (fieldBytes (f k)) ≡ 3 + (length head + length tail)
-    long = ap (λ (x : Field). length (fieldBytes x)) is ∙ length-field t head tail
-
-    pub next-asks : b < 65536 → (length head + length tail < 65536) × (end + 3 + (length head + length tail) ≤ length out)
-    next-asks a = (omega (arith, long, each k h), omega (arith, long, room, p .same))
-
-    pub next-put : {m : ℕ} {next : List ℕ} → m ≡ end + length (fieldBytes (field t (head ++ tail))) → next ≡ over end (fieldBytes (field t (head ++ tail))) out → Put (k + 1) m next
-    next-put {m} {next} e n =
-        let more = over-more to old p (fieldBytes (f k)) {m = m} {next = next} room (rw is e) (rw is n) in
-        rw (add-one, bytes-more k f) more
+      → Put k end out
+      → (b count : ℕ)
+      → b < 65536
+      → ((i : ℕ) → length (fieldBytes (f i)) ≤ b)
+      → k < count
+      → to + count * b ≤ length old
+      → (t : ℕ) (head tail : List ℕ)
+      → f k ≡ field t (head ++ tail)
+      → Next k end out t head tail
+  next-field k {end} {out} p b count small each h r t head tail is =
+      let ends = p .ends in
+      let long = ap (λ (x : Field). length (fieldBytes x)) is ∙ length-field t head tail in
+      let room : end + length (fieldBytes (f k)) ≤ length old =
+      omega (arith, ends, bytes-within f b k (λ i a. each i), each k, suc-mul k b, mul-le-mul-right b h) in
+      record {
+        asks = (omega (arith, long, each k), omega (arith, long, room, p .same));
+        puts = λ {m} {next} e n.
+            let more = over-more to old p (fieldBytes (f k)) {m = m} {next = next} room (rw is e) (rw is n) in
+            rw (add-one, bytes-more k f) more;
+      }

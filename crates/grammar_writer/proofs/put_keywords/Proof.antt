@@ -2,20 +2,21 @@
 use borrow.Author.Needs.{needs}
 use Prim.Native.Nat.{_-_, _≤_}
 use mathlib.Core.Path.{_≡_, refl, sym, ap, _∙_}
-use mathlib.Core.List.{[]}
+use mathlib.Core.List.{[], _∷_}
 use native.Mathlib.Omega.{arith}
 use lib.ListN.{length}
 use Rattle.file_fields.specs.Offsets.{offsetOf, spellingsFrom}
 use Rattle.file_fields.proofs.Offsets.{length-spellings}
 use Rattle.file_tables.proofs.TableLaws.{offset-stepped}
 use Rattle.grammar_writer.specs.FieldBytes.{keywordField}
-use Rattle.grammar_writer.proofs.PutLaws.{Put, put-starts, next-asks, next-put}
+use Rattle.grammar_writer.proofs.PutLaws.{Put, put-starts, Next, next-field}
 use Rattle.grammar_writer.proofs.SectionLaws.{spelling-short, spelling-is, keywordOf, keyword-short}
 use Rattle.grammar_writer.proofs.put_keywords.Statement.{statement}
 use Rattle.grammar_writer.proofs.put_keywords.Tie as tie
 
 abbrev Inv-loop : tie.InvT-loop
-Inv-loop file count out₀ to at₀ end₀ k₀ out at end k = Put (keywordOf (spellingsFrom file 4 count 0)) to out₀ k end out × (at ≡ offsetOf file 4 k) × (k ≤ count)
+Inv-loop file count out₀ to at₀ end₀ k₀ out at end k =
+    Put (keywordOf (spellingsFrom file 4 count 0)) to out₀ k end out × (at ≡ offsetOf file 4 k) × (k ≤ count)
 
 abbrev μ-loop : tie.MeasureT-loop
 μ-loop file count out₀ to at₀ end₀ k₀ out at end k = count - k
@@ -27,44 +28,39 @@ loop-holds c =
     let a = start .args in
     (put-starts (keywordOf (spellingsFrom (a .file .now) 4 (a .count) 0)) (a .to) (a .out .now), refl, omega arith)
 
-put-field-requires : tie.Need-put-field-requires Inv-loop μ-loop
-put-field-requires c κs =
-    let at-spelling-at = c .before .before in
-    let at-loop-test = at-spelling-at .before in
-    let looped = at-loop-test .before in
-    let start = looped .before .before .before in
+-- The keyword that is put.
+next :
+    (c : tie.After-put-field-arg2 Inv-loop μ-loop)
+    → let spelling = c .before .before in
+    let loop = spelling .before .before .loop in
+    let a = spelling .before .before .before .before .before .args in
+    Next (keywordOf (spellingsFrom (a .file .now) 4 (a .count) 0)) (a .to) (a .out .now) (loop .k) (loop .end) (loop .out) 2 []
+    (spelling .spelling-at .result .now)
+next c =
+    let spelling = c .before .before in
+    let tested = spelling .before in
+    let loop = tested .before .loop in
+    let start = tested .before .before .before .before in
     let a = start .args in
-    let loop = looped .loop in
     let words = spellingsFrom (a .file .now) 4 (a .count) 0 in
-    let word = spelling-is (a .file .now) 4 (a .count) 0 (at-loop-test .loop-test .taken) (loop .inv .1) (at-spelling-at .spelling-at .ensures) in
-    next-asks (keywordOf words) (a .to) (a .out .now) (loop .k) (loop .inv .0) 35 (a .count)
-    (λ k h. keyword-short words (spelling-short words (start .pre .0)) k) (at-loop-test .loop-test .taken) (start .pre .1) 2 [] (at-spelling-at .spelling-at .result .now)
-    (ap keywordField (sym word)) (omega arith)
+    let test = tested .loop-test .taken in
+    let word = spelling-is (a .file .now) 4 (a .count) 0 test (loop .inv .1) (spelling .spelling-at .ensures) in
+    next-field (keywordOf words) (a .to) (a .out .now) (loop .k) (loop .inv .0) 35 (a .count) (omega arith)
+    (keyword-short words (spelling-short words (start .pre .0))) test (start .pre .1) 2 [] (spelling .spelling-at .result .now)
+    (ap keywordField (sym word))
 
 loop-again : tie.Need-loop-again Inv-loop μ-loop
 loop-again c =
     let at-next-at = c in
     let at-put-field = at-next-at .before .before .before in
-    let at-spelling-at = at-put-field .before .before .before in
-    let at-loop-test = at-spelling-at .before in
-    let looped = at-loop-test .before in
+    let looped = at-put-field .before .before .before .before .before in
     let start = looped .before .before .before in
     let a = start .args in
-    let loop = looped .loop in
-    let words = spellingsFrom (a .file .now) 4 (a .count) 0 in
-    let word = spelling-is (a .file .now) 4 (a .count) 0 (at-loop-test .loop-test .taken) (loop .inv .1) (at-spelling-at .spelling-at .ensures) in (
-      next-put (keywordOf words) (a .to) (a .out .now) (loop .k) (loop .inv .0) 35 (a .count)
-          (λ k h. keyword-short words (spelling-short words (start .pre .0)) k) (at-loop-test .loop-test .taken) (start .pre .1) 2 []
-          (at-spelling-at .spelling-at .result .now) (ap keywordField (sym word)) (at-put-field .put-field .ensures .0)
-          (at-put-field .put-field .ensures .1),
+    let loop = looped .loop in (
+      next (at-put-field .before) .puts (at-put-field .put-field .ensures .0) (at-put-field .put-field .ensures .1),
       offset-stepped (a .file .now) 4 (loop .k) (at-next-at .next-at .ensures) (loop .inv .1),
       omega arith,
     )
-
-same-length : tie.Need-same-length Inv-loop μ-loop
-same-length c =
-    let looped = c .before in
-    looped .loop .inv .0 .same
 
 returns : tie.Need-returns Inv-loop μ-loop
 returns c =
@@ -78,5 +74,5 @@ returns c =
 pub put-keywords-spec : {M : Type 1} → statement M
 put-keywords-spec =
     tie.close
-    (tie.spec Inv-loop μ-loop loop-holds (λ c κs. search needs) (λ c. search needs) put-field-requires (λ c κs. search needs) (λ c. omega arith)
-    (λ c. omega arith) loop-again same-length returns)
+    (tie.spec Inv-loop μ-loop loop-holds (λ c κs. search needs) (λ c. search needs) (λ c κs. next c .asks)
+    (λ c κs. search needs) (λ c. omega arith) (λ c. omega arith) loop-again (λ c. c .before .loop .inv .0 .same) returns)

@@ -1,12 +1,12 @@
 -- `grammar_writer::put_nodes` meets its contract: after n turns the first n nodes stand there.
 use borrow.Author.Needs.{needs}
 use Prim.Native.Nat.{_-_, _≤_}
-use mathlib.Core.Path.{_≡_, refl, _∙_}
+use mathlib.Core.Path.{_≡_, refl, sym, ap, _∙_}
+use mathlib.Core.List.{[], _∷_}
 use native.Mathlib.Omega.{arith}
 use lib.ListN.{length}
-use mathlib.Core.List.{[], _∷_}
 use Rattle.table.specs.Form.{kindOf, relationOf, nodeCount}
-use Rattle.grammar_writer.proofs.PutLaws.{Put, put-starts, next-asks, next-put}
+use Rattle.grammar_writer.proofs.PutLaws.{Put, put-starts, Next, next-field}
 use Rattle.grammar_writer.proofs.SectionLaws.{nodeOf, node-short, node-is}
 use Rattle.grammar_writer.proofs.put_nodes.Statement.{statement}
 use Rattle.grammar_writer.proofs.put_nodes.Tie as tie
@@ -20,7 +20,8 @@ abbrev μ-loop : tie.MeasureT-loop
 loop-holds : tie.Need-loop-holds Inv-loop μ-loop
 loop-holds c =
     let start = c .before .before in
-    let a = start .args in (put-starts (nodeOf (a .nodes .now)) (a .to) (a .out .now), omega arith)
+    let a = start .args in
+    (put-starts (nodeOf (a .nodes .now)) (a .to) (a .out .now), omega arith)
 
 cast-t20 : tie.Need-cast-t20 Inv-loop μ-loop
 cast-t20 c =
@@ -36,50 +37,37 @@ cast-t21 c =
     let start = looped .before .before .before in
     record { fits = start .pre .0 (looped .loop .n) (at-loop-test .loop-test .taken) .1 }
 
-put-field-requires : tie.Need-put-field-requires Inv-loop μ-loop
-put-field-requires c κs =
-    let at-low-byte2 = c .before .before .before .before in
-    let at-high-byte2 = at-low-byte2 .before in
-    let at-low-byte = at-high-byte2 .before in
-    let at-high-byte = at-low-byte .before in
-    let at-loop-test = at-high-byte .before .before .before .before in
-    let looped = at-loop-test .before in
-    let start = looped .before .before .before in
+-- The node that is put.
+next :
+    (c : tie.After-put-field-arg Inv-loop μ-loop)
+    → let low2 = c .before .before .before .before in
+    let high2 = low2 .before in
+    let low = high2 .before in
+    let high = low .before in
+    let loop = high .before .before .before .before .before .loop in
+    let a = high .before .before .before .before .before .before .before .before .args in
+    Next (nodeOf (a .nodes .now)) (a .to) (a .out .now) (loop .n) (loop .end) (loop .out) 4
+    (kindOf (a .nodes .now) (loop .n) ∷ high .high-byte .result ∷ low .low-byte .result ∷ [])
+    (high2 .high-byte2 .result ∷ low2 .low-byte2 .result ∷ relationOf (a .nodes .now) (loop .n) ∷ [])
+next c =
+    let low2 = c .before .before .before .before in
+    let high2 = low2 .before in
+    let low = high2 .before in
+    let high = low .before in
+    let tested = high .before .before .before .before in
+    let loop = tested .before .loop in
+    let start = tested .before .before .before .before in
     let a = start .args in
-    let loop = looped .loop in
     let nodes = a .nodes .now in
-    let n = loop .n in
-    let is = node-is nodes n (at-high-byte .high-byte .ensures) (at-low-byte .low-byte .ensures) (at-high-byte2 .high-byte2 .ensures) (at-low-byte2 .low-byte2 .ensures) in
-    next-asks (nodeOf nodes) (a .to) (a .out .now) n (loop .inv .0) 9 (nodeCount nodes) (λ i h. node-short nodes i)
-    (at-loop-test .loop-test .taken) (start .pre .1) 4 (kindOf nodes n ∷ at-high-byte .high-byte .result ∷ at-low-byte .low-byte .result ∷ [])
-    (at-high-byte2 .high-byte2 .result ∷ at-low-byte2 .low-byte2 .result ∷ relationOf nodes n ∷ []) is (omega arith)
+    next-field (nodeOf nodes) (a .to) (a .out .now) (loop .n) (loop .inv .0) 9 (nodeCount nodes) (omega arith) (node-short nodes)
+    (tested .loop-test .taken) (start .pre .1) 4 (kindOf nodes (loop .n) ∷ high .high-byte .result ∷ low .low-byte .result ∷ [])
+    (high2 .high-byte2 .result ∷ low2 .low-byte2 .result ∷ relationOf nodes (loop .n) ∷ [])
+    (node-is nodes (loop .n) (high .high-byte .ensures) (low .low-byte .ensures) (high2 .high-byte2 .ensures) (low2 .low-byte2 .ensures))
 
 loop-again : tie.Need-loop-again Inv-loop μ-loop
 loop-again c =
     let at-put-field = c .before .before in
-    let at-low-byte2 = at-put-field .before .before .before .before .before in
-    let at-high-byte2 = at-low-byte2 .before in
-    let at-low-byte = at-high-byte2 .before in
-    let at-high-byte = at-low-byte .before in
-    let at-loop-test = at-high-byte .before .before .before .before in
-    let looped = at-loop-test .before in
-    let start = looped .before .before .before in
-    let a = start .args in
-    let loop = looped .loop in
-    let nodes = a .nodes .now in
-    let n = loop .n in
-    let is = node-is nodes n (at-high-byte .high-byte .ensures) (at-low-byte .low-byte .ensures) (at-high-byte2 .high-byte2 .ensures) (at-low-byte2 .low-byte2 .ensures) in (
-      next-put (nodeOf nodes) (a .to) (a .out .now) n (loop .inv .0) 9 (nodeCount nodes) (λ i h. node-short nodes i)
-          (at-loop-test .loop-test .taken) (start .pre .1) 4 (kindOf nodes n ∷ at-high-byte .high-byte .result ∷ at-low-byte .low-byte .result ∷ [])
-          (at-high-byte2 .high-byte2 .result ∷ at-low-byte2 .low-byte2 .result ∷ relationOf nodes n ∷ []) is
-          (at-put-field .put-field .ensures .0) (at-put-field .put-field .ensures .1),
-      omega arith,
-    )
-
-same-length : tie.Need-same-length Inv-loop μ-loop
-same-length c =
-    let looped = c .before in
-    looped .loop .inv .0 .same
+    (next (at-put-field .before) .puts (at-put-field .put-field .ensures .0) (at-put-field .put-field .ensures .1), omega arith)
 
 returns : tie.Need-returns Inv-loop μ-loop
 returns c =
@@ -96,5 +84,5 @@ put-nodes-spec =
     (tie.spec Inv-loop μ-loop loop-holds (λ c. omega arith) (λ c. omega arith) (λ c. omega arith) (λ c. omega arith) (λ c. omega arith)
     (λ c. omega arith) (λ c. omega arith) (λ c. omega arith) (λ c. omega arith) cast-t20 (λ c κs. search needs)
     (λ c κs. search needs) (λ c κs. search needs) (λ c κs. search needs) (λ c. omega arith) (λ c. omega arith)
-    (λ c. omega arith) cast-t21 (λ c. search needs) (λ c. search needs) put-field-requires (λ c. omega arith)
-    (λ c. omega arith) loop-again same-length returns)
+    (λ c. omega arith) cast-t21 (λ c. search needs) (λ c. search needs) (λ c κs. next c .asks) (λ c. omega arith)
+    (λ c. omega arith) loop-again (λ c. c .before .loop .inv .0 .same) returns)
