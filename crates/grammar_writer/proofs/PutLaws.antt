@@ -8,12 +8,11 @@ use native.Mathlib.Omega.{arith}
 use borrow.Author.Tests.{le-ltb}
 use lib.ListN.{length, take, drop, length-append, length-drop, take-append-drop}
 use lib.Seq.{length-take-le, take-at, drop-at, drop-drop}
-use Rattle.table.specs.Words.{eachWords}
+use Rattle.table.specs.Words.{eachWords, tabulate}
 use Rattle.table.proofs.Words.{words-append}
 use Rattle.slices.specs.Copied.{placed}
 use Rattle.file_fields.specs.Fields.{Field}
 use Rattle.grammar_writer.specs.FieldBytes.{field, fieldBytes, bytesOf}
-use Rattle.grammar_writer.specs.Written.{tabulate}
 use Rattle.grammar_writer.specs.InternalWriting.{over}
 
 -- What fits is put.

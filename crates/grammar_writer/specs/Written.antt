@@ -1,10 +1,11 @@
 -- The grammar file of a table, its rules and a start, with the keywords and rule names of a file that lends them, and what
 -- the writer answers (02, Note 4; 01, "The grammar file" and "Turned-down calls").
-use Prim.Native.Nat.{ℕ, zero, suc}
+use Prim.Native.Nat.{ℕ}
 use mathlib.Core.Bool.{Bool, not}
 use mathlib.Core.List.{List, [], _∷_, _++_}
 use lib.ListN.{length, getD}
 use lib.Dec.{ltb, eqb}
+use Rattle.table.specs.Words.{tabulate}
 use Rattle.table.specs.Answer.{Answer, given, refused, refuseIf, andThen}
 use Rattle.table.specs.Form.{kindOf, aOf, bOf, relationOf, nodeCount, standsFor}
 use Rattle.table.specs.Checks.{fails3, fails4}
@@ -13,11 +14,6 @@ use Rattle.file_shape.specs.Contents.{keywords, ruleList, ruleNames, fieldsOf, 
 use Rattle.grammar_writer.specs.FieldBytes.{bytesOf, formatField, keywordField, ruleField, nodeField, startField}
 use Rattle.grammar_writer.specs.declared.FileWritten.{FileWritten}
 use Rattle.grammar_writer.specs.declared.FileWritten.the-variants.{Bytes, Refused}
-
--- What a function gives of each number below k, in their order.
-unfoldable pub tabulate : {A : Type 0} → ℕ → (ℕ → A) → List A
-tabulate zero f = []
-tabulate (suc k) f = tabulate k f ++ (f k ∷ [])
 
 -- Tag 2: each keyword.
 abbrev pub keywordFields : List (List ℕ) → List Field

@@ -24,7 +24,7 @@ use stored_cases::stored;
 use stored_cases::triple;
 ghost use mathlib.Core.Path.{_≡_};
 ghost use lib.ListN.{length, drop};
-ghost use Rattle.stored_cases.specs.Numbers.{tabulate};
+ghost use Rattle.table.specs.Words.{tabulate};
 ghost use Rattle.slices.specs.Filled.{filled as allAre};
 
 // The kinds of calls.
@@ -197,7 +197,7 @@ fn write_again(file: &[u8], nodes: &[u16], rules: &[u16], start: u16, mode: u16,
 
 // Sets every byte to a value.
 fn mark(bytes: &mut [u8], value: u8)
-    ensures { λ _. ⌜ now (bytes .exit) ≡ tabulate (λ _. value) (length (now (bytes .entry))) ⌝ }
+    ensures { λ _. ⌜ now (bytes .exit) ≡ tabulate (length (now (bytes .entry))) (λ _. value) ⌝ }
 {
     let mut i = 0;
     while i < bytes.len() {

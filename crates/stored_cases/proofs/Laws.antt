@@ -10,7 +10,9 @@ use lib.ListN.{length, take, drop, getD, set, length-append, length-drop, length
 use lib.Seq.{drop-cons, set-at, append-snoc, paste, paste-zero, paste-suc, getD-drop, drop-length}
 use lib.Dec.{leb}
 use borrow.Author.Tests.{le-leb, lt-leb}
-use Rattle.stored_cases.specs.Numbers.{pairAt, tripleAt, quadAt, tabulate}
+use Rattle.table.specs.Words.{tabulate}
+use Rattle.table.proofs.Words.{length-tabulate}
+use Rattle.stored_cases.specs.Numbers.{pairAt, tripleAt, quadAt}
 use Rattle.stored_cases.specs.Parts.{here, past, room, filledBy, repeats, repeated, storedBytes, storedEnd}
 
 take-clipped : (n : ℕ) (xs : List ℕ) → take (min n (length xs)) xs ≡ take n xs
@@ -33,14 +35,9 @@ part-clipped xs at n {from} {count} e f =
 
 -- A list that is written from the front: after n turns it is the first n values, then the rest of what it was.
 pub record Written (f : ℕ → ℕ) (before now : List ℕ) (i : ℕ) : Type 0 where
-  pub is : now ≡ tabulate f i ++ drop i before
+  pub is : now ≡ tabulate i f ++ drop i before
   pub inside : i ≤ length before
   pub long : length now ≡ length before
-
-length-tabulate : (f : ℕ → ℕ) (n : ℕ) → length (tabulate f n) ≡ n
-unfolding tabulate
-length-tabulate f zero = refl
-length-tabulate f (suc n) = length-append (tabulate f n) (f n ∷ []) ∙ rw (length-tabulate f n) (add-one n)
 
 pub written-none : (f : ℕ → ℕ) (before : List ℕ) → Written f before before 0
 unfolding tabulate
@@ -58,18 +55,18 @@ written-more {f} {before} {now} {i} w l {x} e =
     record {
       is =
           ap (λ v. set now i v) e
-          ∙ ap (λ v. set v i (f i)) (w .is ∙ ap (λ v. tabulate f i ++ v) (drop-cons before i 0 l))
-          ∙ set-at (tabulate f i) (getD before i 0) (drop (suc i) before) (f i) i (length-tabulate f i)
-          ∙ sym (append-snoc (tabulate f i) (f i) (drop (suc i) before))
+          ∙ ap (λ v. set v i (f i)) (w .is ∙ ap (λ v. tabulate i f ++ v) (drop-cons before i 0 l))
+          ∙ set-at (tabulate i f) (getD before i 0) (drop (suc i) before) (f i) i (length-tabulate i f)
+          ∙ sym (append-snoc (tabulate i f) (f i) (drop (suc i) before))
           ∙ rw add-one refl;
       inside = omega arith;
       long = length-set now i x ∙ w .long;
     }
 
-pub written-all : {f : ℕ → ℕ} {before now : List ℕ} {i : ℕ} → Written f before now i → length before ≤ i → now ≡ tabulate f (length before)
+pub written-all : {f : ℕ → ℕ} {before now : List ℕ} {i : ℕ} → Written f before now i → length before ≤ i → now ≡ tabulate (length before) f
 written-all {f} {before} {now} {i} w l =
     let e : i ≡ length before = omega (arith, w .inside) in
-    w .is ∙ rw e (ap (λ v. tabulate f (length before) ++ v) (drop-length before) ∙ append-nil (tabulate f (length before)))
+    w .is ∙ rw e (ap (λ v. tabulate (length before) f ++ v) (drop-length before) ∙ append-nil (tabulate (length before) f))
 
 -- The number of bytes that are not there is 0.
 module _ (bytes : List ℕ) (i : ℕ) (l : length bytes ≤ i) where

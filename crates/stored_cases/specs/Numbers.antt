@@ -1,7 +1,8 @@
 -- Numbers in bytes, high byte first, at an index. A byte that is not there counts as 0.
-use Prim.Native.Nat.{ℕ, zero, suc, _+_, _*_, _/_, min}
-use mathlib.Core.List.{List, [], _∷_, _++_}
+use Prim.Native.Nat.{ℕ, _+_, _*_, _/_, min}
+use mathlib.Core.List.{List}
 use lib.ListN.{length, getD}
+use Rattle.table.specs.Words.{tabulate}
 
 -- The number of two bytes.
 unfoldable pub pairAt : List ℕ → ℕ → ℕ
@@ -15,17 +16,12 @@ tripleAt bytes i = getD bytes i 0 * 65536 + pairAt bytes (i + 1)
 unfoldable pub quadAt : List ℕ → ℕ → ℕ
 quadAt bytes i = getD bytes i 0 * 16777216 + tripleAt bytes (i + 1)
 
--- The values of a function at 0, 1, .. up to before n.
-unfoldable pub tabulate : (ℕ → ℕ) → ℕ → List ℕ
-tabulate f zero = []
-tabulate f (suc n) = tabulate f n ++ (f n ∷ [])
-
 -- The first n words of two bytes, and of four.
 abbrev pub firstPairs : ℕ → List ℕ → List ℕ
-firstPairs n bytes = tabulate (λ i. pairAt bytes (i * 2)) n
+firstPairs n bytes = tabulate n (λ i. pairAt bytes (i * 2))
 
 abbrev pub firstQuads : ℕ → List ℕ → List ℕ
-firstQuads n bytes = tabulate (λ i. quadAt bytes (i * 4)) n
+firstQuads n bytes = tabulate n (λ i. quadAt bytes (i * 4))
 
 -- The words of two bytes, no more of them than n; and those of four.
 abbrev pub pairs : ℕ → List ℕ → List ℕ

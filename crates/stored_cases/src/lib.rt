@@ -13,7 +13,8 @@ ghost use mathlib.Core.Path.{_≡_};
 ghost use lib.ListN.{length, take, drop, getD};
 ghost use lib.Seq.{paste};
 ghost use Rattle.io.specs.Counts.{Counts};
-ghost use Rattle.stored_cases.specs.Numbers.{pairAt, tripleAt, quadAt, tabulate, firstPairs, firstQuads};
+ghost use Rattle.table.specs.Words.{tabulate};
+ghost use Rattle.stored_cases.specs.Numbers.{pairAt, tripleAt, quadAt, firstPairs, firstQuads};
 ghost use Rattle.stored_cases.specs.Parts.{here, past, labelEnd, room, filledBy, repeated, storedBytes, storedEnd};
 
 // At least the number of records of a file.
@@ -151,7 +152,7 @@ pub fn load_32(bytes: &[u8], words: &mut [u32])
 
 // Sets every word to a value.
 pub fn mark_16(words: &mut [u16], value: u16)
-    ensures { λ _. ⌜ now (words .exit) ≡ tabulate (λ _. value) (length (now (words .entry))) ⌝ }
+    ensures { λ _. ⌜ now (words .exit) ≡ tabulate (length (now (words .entry))) (λ _. value) ⌝ }
 {
     let mut i = 0;
     while i < words.len() {
@@ -162,7 +163,7 @@ pub fn mark_16(words: &mut [u16], value: u16)
 
 // The same for words of tokens.
 pub fn mark_32(tokens: &mut [u32], value: u32)
-    ensures { λ _. ⌜ now (tokens .exit) ≡ tabulate (λ _. value) (length (now (tokens .entry))) ⌝ }
+    ensures { λ _. ⌜ now (tokens .exit) ≡ tabulate (length (now (tokens .entry))) (λ _. value) ⌝ }
 {
     let mut i = 0;
     while i < tokens.len() {

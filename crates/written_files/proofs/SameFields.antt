@@ -9,14 +9,14 @@ use lib.ListN.{length, getD, drop, length-map, List·getD-map, List·getD-append
 use lib.Seq.{getD-append-add}
 use lib.Dec.{eqb}
 use Rattle.table.specs.Form.{nodeCount}
-use Rattle.table.specs.Words.{eachWords}
+use Rattle.table.specs.Words.{eachWords, tabulate}
 use Rattle.table.proofs.Every.{and-left, and-right}
 use Rattle.table.proofs.Words.{length-words}
 use Rattle.file_fields.specs.Fields.{Field, twoBytes, inOrder, rightLength}
 use Rattle.file_tables.specs.Tables.{ruleNode, fourWords, wordsOf}
 use Rattle.file_shape.specs.Contents.{rightValue, keywords, ruleList, ruleNames, nodeTable, startValue, startNode, startMode}
 use Rattle.grammar_writer.specs.FieldBytes.{field, formatField, ruleField, nodeField, startField}
-use Rattle.grammar_writer.specs.Written.{tabulate, keywordFields, ruleFields, nodeFields, writtenFields}
+use Rattle.grammar_writer.specs.Written.{keywordFields, ruleFields, nodeFields, writtenFields}
 use Rattle.written_files.proofs.FieldsBack.{number-two, Bytes}
 use Rattle.written_files.proofs.Tabulated.{tabulate-list, tabulate-each, Each, each-at, each-front, each-back}
 use Rattle.written_files.proofs.Tags.{AllOf, Runs, runs-of, tagged-two, tagged-three, tagged-four, tagged-five}

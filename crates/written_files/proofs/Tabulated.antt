@@ -8,15 +8,8 @@ use native.Mathlib.Nat.{eq-or-lt-of-le, le-of-suc-le-suc}
 use native.Mathlib.Omega.{arith}
 use lib.ListN.{length, getD, length-append, List·getD-append}
 use lib.Seq.{getD-at, ext-getD}
-use Rattle.grammar_writer.specs.Written.{tabulate}
 
 module _ {A : Type 0} where
-  -- There are as many as were asked for.
-  pub length-tabulate : (k : ℕ) (f : ℕ → A) → length (tabulate k f) ≡ k
-  unfolding tabulate
-  length-tabulate zero f = refl
-  length-tabulate (suc k) f = simp (length-append, length-tabulate k f) (omega arith)
-
   -- The ith is what the function gives of i.
   tabulate-at : (k : ℕ) (f : ℕ → A) (i : ℕ) (d : A) → i < k → getD (tabulate k f) i d ≡ f i
   unfolding tabulate

@@ -9,14 +9,14 @@ use borrow.Author.Tests.{le-leb}
 use lib.ListN.{length, getD, take, drop}
 use lib.Seq.{take-add, take-all}
 use Rattle.table.specs.Form.{kindOf, aOf, bOf, relationOf, nodeCount, standsFor}
-use Rattle.table.specs.Words.{eachWords}
+use Rattle.table.specs.Words.{eachWords, tabulate}
 use Rattle.table.proofs.Words.{words-append}
 use Rattle.file_fields.specs.Fields.{Field, inOrder, rightLength}
 use Rattle.file_fields.proofs.FieldLaws.{from-one}
 use Rattle.file_tables.specs.Tables.{ruleNode, fourWords, wordsOf}
 use Rattle.file_shape.specs.Contents.{rightValue, rightValues, keywords, ruleList, ruleNames, nodeTable, startValue}
 use Rattle.grammar_writer.specs.FieldBytes.{formatField, keywordField, ruleField, nodeField, startField}
-use Rattle.grammar_writer.specs.Written.{tabulate, keywordFields, ruleFields, nodeFields, writtenFields}
+use Rattle.grammar_writer.specs.Written.{keywordFields, ruleFields, nodeFields, writtenFields}
 use Rattle.written_files.proofs.FieldsBack.{two-number}
 use Rattle.written_files.proofs.Tabulated.{tabulate-same, tabulate-list, tabulate-map, Each, each-append, each-tabulate}
 use Rattle.written_files.proofs.Tags.{values-right, Runs, in-order, tagged-two, tagged-three, tagged-four, tagged-five}
