@@ -17,6 +17,7 @@ pub fn bench() -> Result<(), String> {
     );
     scans()?;
     reads()?;
+    writes()?;
     checks()?;
     runs()?;
     lists()
@@ -171,9 +172,14 @@ fn scan(name: &str, file: &[u8], report: &[u8]) -> Result<(), String> {
     )
 }
 
-fn reads() -> Result<(), String> {
+/// The largest file: 253 keywords, 128 rules and 512 nodes, each spelling of 32 bytes.
+fn largest() -> Vec<u8> {
     let names: Vec<(u16, Vec<u8>)> = spellings(128).into_iter().map(|name| (511, name)).collect();
-    let file = file(&spellings(253), &names, &upward());
+    file(&spellings(253), &names, &upward())
+}
+
+fn reads() -> Result<(), String> {
+    let file = largest();
     let (mut nodes, mut rules) = (vec![0; 2048], vec![0; 128]);
     let mut result = [0; 5];
     time(
@@ -185,6 +191,33 @@ fn reads() -> Result<(), String> {
         || match second::read(&file, 2048, 128) {
             Ok(read) => read.nodes.len() / 4,
             Err(refused) => 10_000 + usize::from(refused),
+        },
+    )
+}
+
+fn writes() -> Result<(), String> {
+    write("write the largest file", &largest())?;
+    let few = ["splice", "arc", "loss"].map(|word| word.into());
+    let small = file(&few, &[(4, b"list".to_vec())], &LIST);
+    write("write a small file", &small)
+}
+
+/// A file's own tables and start, with the file itself lending the names.
+fn write(name: &str, file: &[u8]) -> Result<(), String> {
+    let read = second::read(file, 2048, 128);
+    let read = read.map_err(|number| format!("{name}: refused {number}"))?;
+    let (nodes, rules, node, mode) = (&read.nodes, &read.rules, read.start, read.mode);
+    let (mut out, mut other) = (vec![0; 18_209], vec![0; 18_209]);
+    let mut result = [0];
+    time(
+        name,
+        || match plain::write(file, nodes, rules, node, mode, &mut out, &mut result) {
+            0 => result[0],
+            refused => 20_000 + refused as usize,
+        },
+        || match second::write(file, nodes, rules, node, mode, &mut other) {
+            Ok(count) => count,
+            Err(refused) => 20_000 + usize::from(refused),
         },
     )
 }

@@ -2,11 +2,11 @@
 
 use std::fmt::Debug;
 use trials::generate::{
-    file_input, report_input, run_input, shown_input, FileInput, ReportInput, Rng, RunInput,
-    ShownInput, Stats,
+    file_input, report_input, run_input, shown_input, write_input, FileInput, ReportInput, Rng,
+    RunInput, ShownInput, Stats, WriteInput,
 };
 use trials::ours::{self, Odd};
-use trials::second::{self, sets, Listed, Ran, Shown};
+use trials::second::{self, sets, FileRead, Listed, Ran, Shown};
 
 /// Grammars may take time that doubles with each token: inputs on which a run enters more expressions are passed over.
 const MOST_STEPS: u64 = 200_000;
@@ -44,6 +44,7 @@ fn over_files(seed: u64, files: u64) -> Result<Stats, String> {
     compare_files(seed, files, &mut stats)?;
     compare_reports(seed, files, &mut stats)?;
     compare_shown(seed, files, &mut stats)?;
+    compare_writes(seed, files, &mut stats)?;
     Ok(stats)
 }
 
@@ -106,6 +107,19 @@ fn compare_shown(seed: u64, texts: u64, stats: &mut Stats) -> Result<(), String>
         stats.note_shown(&input, &shown);
     }
     println!("seed {seed}: {texts} shown texts, no difference");
+    Ok(())
+}
+
+/// As many writes as are asked for.
+fn compare_writes(seed: u64, writes: u64, stats: &mut Stats) -> Result<(), String> {
+    let mut rng = Rng::new(seed);
+    for i in 0..writes {
+        let input = write_input(&mut rng);
+        let written =
+            write_once(&input).map_err(|what| format!("seed {seed}, write {i}: {what}"))?;
+        stats.note_write(&input, &written);
+    }
+    println!("seed {seed}: {writes} writes, no difference");
     Ok(())
 }
 
@@ -234,7 +248,7 @@ pub fn sets_once(input: &RunInput) -> Result<(), String> {
 }
 
 /// The file reader.
-fn file_once(input: &FileInput) -> Result<Result<second::FileRead, u8>, String> {
+fn file_once(input: &FileInput) -> Result<Result<FileRead, u8>, String> {
     let FileInput {
         file,
         node_room,
@@ -255,9 +269,15 @@ fn file_once(input: &FileInput) -> Result<Result<second::FileRead, u8>, String> 
 /// none.
 fn names_once(file: &[u8]) -> Result<(), String> {
     let read = second::read(file, usize::MAX, usize::MAX);
-    let (keywords, names) = read.map_or((vec![], vec![]), |_| spellings(file));
+    let names = read.map_or((vec![], vec![]), |_| spellings(file));
+    has_names(file, &names, listed)
+}
+
+/// A file has these keywords and rule names, and none behind the last one; each call checks the whole file, so of long
+/// lists only some are looked at.
+fn has_names(file: &[u8], (keywords, names): &Spellings, listed: Chosen) -> Result<(), String> {
     let bytes = || format!("file {file:?}");
-    for (k, word) in listed(&keywords) {
+    for (k, word) in listed(keywords) {
         same("a keyword", ours::keyword(file, k), word.to_vec(), bytes)?;
         if !word.is_empty() {
             // By itself the keyword is a token, whose terminal is 3 and the keyword's number.
@@ -265,7 +285,7 @@ fn names_once(file: &[u8]) -> Result<(), String> {
             same("a keyword's token", Ok(Some(3 + k as u32)), token, bytes)?;
         }
     }
-    for (r, word) in listed(&names) {
+    for (r, word) in listed(names) {
         same(
             "a rule name",
             ours::rule_name(file, r),
@@ -275,6 +295,9 @@ fn names_once(file: &[u8]) -> Result<(), String> {
     }
     Ok(())
 }
+
+/// Words of a list with their numbers, and numbers behind the last with no bytes.
+type Chosen = for<'f> fn(&[&'f [u8]]) -> Vec<(usize, &'f [u8])>;
 
 /// Of a list every word up to so many, each so-many-th, and the last.
 const LISTED: usize = 8;
@@ -287,8 +310,18 @@ fn listed<'f>(words: &[&'f [u8]]) -> Vec<(usize, &'f [u8])> {
     inside.chain(behind).collect()
 }
 
+/// The first word, the last, and the number behind it.
+fn few<'f>(words: &[&'f [u8]]) -> Vec<(usize, &'f [u8])> {
+    let all = words.iter().copied().enumerate();
+    let inside = all.filter(|(i, _)| *i == 0 || i + 1 == words.len());
+    inside.chain([(words.len(), &[][..])]).collect()
+}
+
+/// Keywords and rule names.
+type Spellings<'f> = (Vec<&'f [u8]>, Vec<&'f [u8]>);
+
 /// The keywords and rule names of a file whose fields are right: the values of tag 2, and of tag 3 behind two bytes.
-fn spellings(file: &[u8]) -> (Vec<&[u8]>, Vec<&[u8]>) {
+fn spellings(file: &[u8]) -> Spellings<'_> {
     let (mut keywords, mut names) = (Vec::new(), Vec::new());
     let mut rest = file;
     while let [tag, high, low, after @ ..] = rest {
@@ -342,4 +375,83 @@ fn shown_once(input: &ShownInput) -> Result<Shown, String> {
         second::shown(file, report, tokens, *capture),
         bytes,
     )
+}
+
+/// The writer: the written file, or a number. A file is read back, and written again.
+fn write_once(input: &WriteInput) -> Result<Result<Vec<u8>, u8>, String> {
+    let (answer, mut lent) = written_by_both(input)?;
+    let Ok(count) = answer else {
+        return Ok(answer.map(|_| lent));
+    };
+    lent.truncate(count);
+    let read = read_back(input, &lent)?;
+    written_again(input, &read, &lent)?;
+    Ok(Ok(lent))
+}
+
+/// What both writers answer, with every lent byte as it is after the call.
+fn written_by_both(input: &WriteInput) -> Result<(Result<usize, u8>, Vec<u8>), String> {
+    let WriteInput {
+        lending,
+        nodes,
+        rules,
+        node,
+        mode,
+        room,
+    } = input;
+    let mut lent = vec![ours::BYTE; *room];
+    let answer = second::write(lending, nodes, rules, *node, *mode, &mut lent);
+    let ours = ours::write(lending, nodes, rules, *node, *mode, *room);
+    same("the write", ours, (answer, lent), || format!("{input:?}"))
+}
+
+/// Both readers read from a written file what was given, with the keywords and names that were lent. If that is what they
+/// read from the lending file, the written one is the same.
+fn read_back(input: &WriteInput, file: &[u8]) -> Result<FileRead, String> {
+    let bytes = || format!("{input:?}\nfile {file:?}");
+    let names = spellings(&input.lending);
+    let given = FileRead {
+        nodes: input.nodes.clone(),
+        rules: input.rules.clone(),
+        keywords: names.0.len(),
+        start: input.node,
+        mode: input.mode,
+    };
+    let room = (given.nodes.len(), given.rules.len());
+    let read = second::read(file, room.0, room.1);
+    let read = same(
+        "reading back",
+        ours::read(file, room.0, room.1),
+        read,
+        bytes,
+    )?;
+    let read = read.map_err(|number| format!("read back: refused {number}\n{}", bytes()))?;
+    same("what is read back", Ok(&read), &given, bytes)?;
+    same("what was lent", Ok(&spellings(file)), &names, bytes)?;
+    has_names(file, &names, few)?;
+    if second::read(&input.lending, room.0, room.1) == Ok(given) {
+        let lending = &input.lending[..];
+        same("the lending file again", Ok(file), lending, bytes)?;
+    }
+    Ok(read)
+}
+
+/// What was read from a written file, written again with the same file or with the written one lending the names, gives
+/// the same bytes and needs no room behind them.
+fn written_again(input: &WriteInput, read: &FileRead, file: &[u8]) -> Result<(), String> {
+    for lending in [&input.lending[..], file] {
+        let again = WriteInput {
+            lending: lending.to_vec(),
+            nodes: read.nodes.clone(),
+            rules: read.rules.clone(),
+            node: read.start,
+            mode: read.mode,
+            room: file.len(),
+        };
+        let bytes = || format!("{again:?}\nof {input:?}");
+        let (answer, lent) = written_by_both(&again)?;
+        same("the length", Ok(answer.ok()), Some(file.len()), bytes)?;
+        same("the file again", Ok(&lent[..]), file, bytes)?;
+    }
+    Ok(())
 }

@@ -8,12 +8,14 @@ mod reports;
 mod runs;
 mod shown;
 mod stats;
+mod writes;
 
 pub use files::{file_input, FileInput};
 pub use reports::{report_input, ReportInput};
 pub use runs::{run_input, RunInput};
 pub use shown::{shown_input, ShownInput};
 pub use stats::Stats;
+pub use writes::{write_input, WriteInput};
 
 /// A splitmix64 stream.
 #[derive(Debug, Clone)]

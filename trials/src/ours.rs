@@ -1,7 +1,8 @@
 //! The proved reader, through its C interface (`include/saktroum.h`), in the words of the second reader.
 //!
 //! Before a call every lent word is set to a marker, and so are some words on either side of the slice. After it the words
-//! that the call reports are taken, and all others must still hold the marker. A list is given with all its lent words.
+//! that the call reports are taken, and all others must still hold the marker. A list is given with all its lent words, and
+//! a written file with all its lent bytes.
 
 use crate::second::{FileRead, Listed, Ran, Shown, Start, Verdict};
 
@@ -15,6 +16,19 @@ mod c {
             rules: *mut u16,
             rule_words: usize,
             result: *mut [usize; 5],
+        ) -> u32;
+        pub fn saktroum_write(
+            lending: *const u8,
+            lending_bytes: usize,
+            nodes: *const u16,
+            node_words: usize,
+            rules: *const u16,
+            rule_words: usize,
+            node: u16,
+            mode: u16,
+            out: *mut u8,
+            out_bytes: usize,
+            result: *mut [usize; 1],
         ) -> u32;
         pub fn saktroum_scan(
             file: *const u8,
@@ -117,6 +131,32 @@ pub mod plain {
                 nodes.len(),
                 rules.as_mut_ptr(),
                 rules.len(),
+                result,
+            )
+        }
+    }
+
+    pub fn write(
+        lending: &[u8],
+        nodes: &[u16],
+        rules: &[u16],
+        node: u16,
+        mode: u16,
+        out: &mut [u8],
+        result: &mut [usize; 1],
+    ) -> u32 {
+        unsafe {
+            c::saktroum_write(
+                lending.as_ptr(),
+                lending.len(),
+                nodes.as_ptr(),
+                nodes.len(),
+                rules.as_ptr(),
+                rules.len(),
+                node,
+                mode,
+                out.as_mut_ptr(),
+                out.len(),
                 result,
             )
         }
@@ -272,7 +312,7 @@ pub struct Odd(pub String);
 const WORD: u16 = 0xa5a5;
 pub const TOKEN_WORD: u32 = 0xa5a5_a5a5;
 const RESULT_WORD: usize = 0xa5a5_a5a5_a5a5_a5a5;
-const BYTE: u8 = 0xa5;
+pub const BYTE: u8 = 0xa5;
 
 /// Words on either side of a lent slice.
 const AROUND: usize = 8;
@@ -319,7 +359,7 @@ impl<T: Copy + PartialEq> Lent<T> {
 /// The number of an answer without a node.
 fn number(answer: u32) -> Result<u8, Odd> {
     match answer {
-        0..=14 => Ok(answer as u8),
+        0..=15 => Ok(answer as u8),
         _ => Err(Odd(format!("the answer is {answer}"))),
     }
 }
@@ -355,6 +395,37 @@ pub fn read(file: &[u8], node_room: usize, rule_room: usize) -> Result<Result<Fi
         start: narrow(words[3])?,
         mode: narrow(words[4])?,
     }))
+}
+
+/// The writer, lent a slice of so many bytes, which are all given as they are after the call: a refused one has left them
+/// alone. The number of bytes written, or the number of a refusal.
+pub fn write(
+    lending: &[u8],
+    nodes: &[u16],
+    rules: &[u16],
+    node: u16,
+    mode: u16,
+    room: usize,
+) -> Result<(Result<usize, u8>, Vec<u8>), Odd> {
+    let mut out = Lent::new(room, BYTE);
+    let mut result = Lent::new(1, RESULT_WORD);
+    let answer = plain::write(
+        lending,
+        nodes,
+        rules,
+        node,
+        mode,
+        out.slice(),
+        result.array(),
+    );
+    let bytes = out.reported(room, "out")?;
+    let refused = number(answer)?;
+    if refused != 0 {
+        result.reported(0, "result")?;
+        return Ok((Err(refused), bytes));
+    }
+    let count = result.reported(1, "result")?[0];
+    Ok((Ok(count), bytes))
 }
 
 /// The scanner, lent a slice of so many words.

@@ -93,7 +93,7 @@ pub(super) fn source(rng: &mut Rng) -> Source {
     }
 }
 
-fn distinct(rng: &mut Rng, count: usize, word: fn(&mut Rng) -> Vec<u8>) -> Vec<Vec<u8>> {
+pub(super) fn distinct(rng: &mut Rng, count: usize, word: fn(&mut Rng) -> Vec<u8>) -> Vec<Vec<u8>> {
     let mut words: Vec<Vec<u8>> = Vec::new();
     while words.len() < count {
         let next = word(rng);
@@ -129,7 +129,7 @@ fn keyword(rng: &mut Rng) -> Vec<u8> {
 }
 
 /// A name by its rules.
-fn name(rng: &mut Rng) -> Vec<u8> {
+pub(super) fn name(rng: &mut Rng) -> Vec<u8> {
     let length = match rng.below(20) {
         0 => 32,
         1 | 2 => rng.between(9, 32),
@@ -182,7 +182,12 @@ pub(super) fn bytes(fields: &[Field]) -> Vec<u8> {
 
 /// A file with whole fields gone wrong, mostly one.
 fn damaged_fields(rng: &mut Rng) -> Vec<u8> {
-    let mut fields = fields(&source(rng));
+    let fields = fields(&source(rng));
+    with_damage(rng, fields)
+}
+
+/// The file of fields that go wrong, mostly one.
+pub(super) fn with_damage(rng: &mut Rng, mut fields: Vec<Field>) -> Vec<u8> {
     loop {
         damage(rng, &mut fields);
         if rng.chance(75) {
@@ -261,7 +266,12 @@ fn insert(fields: &mut Vec<Field>, tag: u8, value: Vec<u8>) {
 
 /// A file with bytes gone wrong.
 fn damaged_bytes(rng: &mut Rng) -> Vec<u8> {
-    let mut file = bytes(&fields(&source(rng)));
+    let file = bytes(&fields(&source(rng)));
+    shaken(rng, file)
+}
+
+/// A file whose bytes go wrong.
+pub(super) fn shaken(rng: &mut Rng, mut file: Vec<u8>) -> Vec<u8> {
     loop {
         if file.is_empty() {
             return file;
@@ -285,7 +295,12 @@ fn damaged_bytes(rng: &mut Rng) -> Vec<u8> {
 
 /// A file at a limit or just past one.
 fn limits(rng: &mut Rng) -> Vec<u8> {
-    let mut source = source(rng);
+    let source = source(rng);
+    at_a_limit(rng, source)
+}
+
+/// The file of a grammar that is brought to a limit or just past one.
+pub(super) fn at_a_limit(rng: &mut Rng, mut source: Source) -> Vec<u8> {
     match rng.below(6) {
         // 253 or 254 keywords.
         0 => {

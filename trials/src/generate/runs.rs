@@ -40,7 +40,7 @@ pub fn run_input(rng: &mut Rng) -> RunInput {
     if rng.chance(15) {
         loop {
             match rng.below(10) {
-                0..=5 => break_table(rng, &mut input),
+                0..=5 => break_table(rng, &mut input.nodes, &mut input.rules),
                 6 | 7 => break_tokens(rng, &mut input.tokens),
                 _ => break_start(rng, &mut input),
             }
@@ -84,7 +84,7 @@ fn needed(input: &RunInput) -> Option<usize> {
 }
 
 /// A few terminals, mostly low ones.
-fn alphabet(rng: &mut Rng) -> Vec<u16> {
+pub(super) fn alphabet(rng: &mut Rng) -> Vec<u16> {
     let count = rng.between(1, 4);
     (0..count)
         .map(|_| match rng.below(10) {
@@ -275,44 +275,39 @@ fn alter(rng: &mut Rng, list: &mut Vec<[u32; 2]>, alphabet: &[u16]) {
 }
 
 /// Breaks checks 3, 4 or 5.
-fn break_table(rng: &mut Rng, input: &mut RunInput) {
+pub(super) fn break_table(rng: &mut Rng, nodes: &mut Vec<u16>, rules: &mut Vec<u16>) {
     match rng.below(13) {
         // Check 3.
         0 => {
             for _ in 0..rng.between(1, 3) {
-                input.nodes.push(0);
+                nodes.push(0);
             }
         }
         1 => {
             let cut = rng.between(1, 4);
-            input.nodes.truncate(input.nodes.len().saturating_sub(cut));
+            nodes.truncate(nodes.len().saturating_sub(cut));
         }
-        2 => input.nodes.clear(),
-        3 => input.nodes.resize(4 * *rng.pick(&[512, 513, 513]), 0),
-        4 => input.rules.resize(*rng.pick(&[128, 129, 129]), 0),
+        2 => nodes.clear(),
+        3 => nodes.resize(4 * *rng.pick(&[512, 513, 513]), 0),
+        4 => rules.resize(*rng.pick(&[128, 129, 129]), 0),
         // Check 5.
         5 | 6 => {
-            let count = input.nodes.len() / 4;
+            let count = nodes.len() / 4;
             let node = *rng.pick(&[count, count + 1, 512, 65_535]) as u16;
-            if input.rules.is_empty() || rng.chance(30) {
-                input.rules.push(node);
+            if rules.is_empty() || rng.chance(30) {
+                rules.push(node);
             } else {
-                let rule = rng.below(input.rules.len());
-                input.rules[rule] = node;
+                let rule = rng.below(rules.len());
+                rules[rule] = node;
             }
         }
         // Check 4.
         _ => {
-            let count = input.nodes.len() / 4;
+            let count = nodes.len() / 4;
             if count > 0 {
                 let number = rng.below(count);
-                let rules = input.rules.len();
-                break_node(
-                    rng,
-                    number,
-                    rules,
-                    &mut input.nodes[4 * number..4 * number + 4],
-                );
+                let node = &mut nodes[4 * number..4 * number + 4];
+                break_node(rng, number, rules.len(), node);
             }
         }
     }

@@ -1,10 +1,10 @@
 //! How often each class of answer occurs.
 
-use super::{ReportInput, RunInput, ShownInput};
+use super::{ReportInput, RunInput, ShownInput, WriteInput};
 use crate::second::kind::*;
 use crate::second::relation::{ANY, COUNT};
 use crate::second::run::{Interval, State};
-use crate::second::{read, FileRead, Listed, Ran, Shown, MOST_COLUMN};
+use crate::second::{check, read, FileRead, Listed, Ran, Shown, Verdict, MOST_COLUMN};
 use std::collections::BTreeMap;
 use std::fmt;
 
@@ -16,6 +16,8 @@ pub struct Stats {
     /// The longest list, and the most captures around one.
     most_captures: u32,
     most_around: u32,
+    /// The bytes of the longest written file.
+    most_written: usize,
 }
 
 impl Stats {
@@ -128,6 +130,53 @@ impl Stats {
         self.note("file", class);
     }
 
+    /// Notes a writer's answer: the written file, or a number.
+    pub fn note_write(&mut self, input: &WriteInput, answer: &Result<Vec<u8>, u8>) {
+        *self.totals.entry("write").or_default() += 1;
+        let class = match answer {
+            Ok(file) => {
+                self.note_written(input, file);
+                "written".to_string()
+            }
+            Err(number) => {
+                self.note_faults(input);
+                format!("refused {number}")
+            }
+        };
+        self.note("write", class);
+    }
+
+    fn note_written(&mut self, input: &WriteInput, file: &[u8]) {
+        self.most_written = self.most_written.max(file.len());
+        let verdict = check(&input.nodes, &input.rules);
+        for (holds, class) in [
+            (file == input.lending, "the lending file again"),
+            (verdict != Verdict::Passes, "not well formed"),
+            (file.len() == input.room, "room for it alone"),
+            (file.len() >= 10_000, "10,000 bytes or more"),
+        ] {
+            if holds {
+                self.note("write", format!("written, {class}"));
+            }
+        }
+    }
+
+    /// Notes which checks of a refused call fail by themselves, where several do.
+    fn note_faults(&mut self, input: &WriteInput) {
+        let faults @ [lending, tables, count, room] = faults(input);
+        let several = faults.iter().filter(|&&fault| fault).count() >= 2;
+        for (holds, class) in [
+            (several, "two faults or more"),
+            (lending && tables, "the lending file and the tables"),
+            (tables && count, "the tables and 15"),
+            (count && room, "15 and 6"),
+        ] {
+            if holds {
+                self.note("write", format!("refused, {class}"));
+            }
+        }
+    }
+
     /// Notes a scanner's answer, and what of UTF-8 the report holds.
     pub fn note_report(&mut self, input: &ReportInput, answer: &Result<Vec<u32>, u8>) {
         *self.totals.entry("report").or_default() += 1;
@@ -190,6 +239,9 @@ impl fmt::Display for Stats {
             let (most, around) = (self.most_captures, self.most_around);
             writeln!(f, "  list: {most} captures at most, {around} around one")?;
         }
+        if self.most_written > 0 {
+            writeln!(f, " write: {} bytes at most", self.most_written)?;
+        }
         Ok(())
     }
 }
@@ -218,6 +270,29 @@ fn why_14(input: &ShownInput) -> &'static str {
     } else {
         "an offset"
     }
+}
+
+/// What of a writer's call fails by itself: the lending file by 1 to 5, the tables and the
+/// start by 3 to 5, 15, and 6 for the file with the names that are lent to it. Where fewer
+/// rules are to be written, or no names are there, 6 counts for one without any.
+fn faults(input: &WriteInput) -> [bool; 4] {
+    let count = input.nodes.len() / 4;
+    let tables = matches!(check(&input.nodes, &input.rules), Verdict::Refused(_));
+    let start = usize::from(input.node) >= count || input.mode >= COUNT;
+    let lent = read(&input.lending, usize::MAX, usize::MAX).ok();
+    let rules = lent.as_ref().map(|lent| lent.rules.len());
+    let names = match &lent {
+        Some(lent) if lent.rules.len() <= input.rules.len() => {
+            input.lending.len() - 9 * lent.nodes.len() / 4
+        }
+        _ => 10,
+    };
+    [
+        lent.is_none(),
+        tables || start,
+        rules.is_some_and(|rules| rules != input.rules.len()),
+        input.room < names + 9 * count,
+    ]
 }
 
 /// Whether a number is a step's.
