@@ -1,13 +1,13 @@
 //! The two readings of the clauses on generated inputs, the scanner's two ways, both
-//! readers on lists and shown texts, and the generator's shares.
+//! readers on lists, shown texts and written files, and the generator's shares.
 
 use std::thread;
-use trials::generate::{file_input, report_input, run_input, shown_input, Rng, Stats};
+use trials::generate::{file_input, report_input, run_input, shown_input, write_input, Rng, Stats};
 use trials::ours;
 use trials::second::sets::{self, ColumnSet, SetRan};
 use trials::second::{
-    check, line_within, list, list_within, next_token, read, run_within, scan, shown, text, Handed,
-    Listed, Ran, Shown, Start, Value, Verdict,
+    check, line_within, list, list_within, next_token, read, run_within, scan, shown, text, write,
+    Handed, Listed, Ran, Shown, Start, Value, Verdict,
 };
 
 /// Runs the work with a stack for deep runs.
@@ -210,6 +210,7 @@ fn the_same_seed_gives_the_same_inputs() {
             assert_eq!(file_input(&mut one), file_input(&mut two));
             assert_eq!(report_input(&mut one), report_input(&mut two));
             assert_eq!(shown_input(&mut one), shown_input(&mut two));
+            assert_eq!(write_input(&mut one), write_input(&mut two));
         }
     });
 }
@@ -416,6 +417,136 @@ fn texts_and_numbers() {
     assert_eq!(told(NAMED, b"\0", &[0; 3], bad), refused(8));
     assert_eq!(told(NAMED, report, &[0; 3], bad), refused(11));
     assert_eq!(told(NAMED, report, &[0; 4], bad), refused(14));
+}
+
+/// The file that both writers write, or the number of both. Every byte behind the file is
+/// as before the call, and every byte if it is refused.
+fn written(
+    lending: &[u8],
+    (nodes, rules): (&[u16], &[u16]),
+    (node, mode): (u16, u16),
+    room: usize,
+) -> Result<Vec<u8>, u8> {
+    let mut bytes = vec![ours::BYTE; room];
+    let answer = write(lending, nodes, rules, node, mode, &mut bytes);
+    let both = (answer, bytes);
+    assert_eq!(
+        ours::write(lending, nodes, rules, node, mode, room).as_ref(),
+        Ok(&both),
+        "{lending:?} {nodes:?} {rules:?} {node} {mode}"
+    );
+    let (answer, bytes) = both;
+    let (file, behind) = bytes.split_at(answer.unwrap_or(0));
+    assert_eq!(behind, vec![ours::BYTE; behind.len()]);
+    answer.map(|_| file.to_vec())
+}
+
+/// Keyword `k`, rules first and second, nodes 0 and 1, start 1 in mode greater.
+const LENDING: &[u8] = b"\x01\0\x01\x01\x02\0\x01k\x03\0\x07\0\0first\x03\0\x08\0\x01second\
+    \x04\0\x06\x01\0\x03\0\0\0\x04\0\x06\x07\0\0\0\0\x22\x05\0\x03\0\x01\x01";
+
+#[test]
+fn writes_with_every_room() {
+    // Its own tables and start.
+    let own: [u16; 8] = [1, 3, 0, 0, 7, 0, 0, 34];
+    // Three nodes, the last one a choice, and another start.
+    let other = [2, 1, 0, 0, 1, 255, 0, 0, 4, 1, 0, 0];
+    let file: &[u8] = b"\x01\0\x01\x01\x02\0\x01k\x03\0\x07\0\x02first\x03\0\x08\0\x01second\
+        \x04\0\x06\x02\0\x01\0\0\0\x04\0\x06\x01\0\xff\0\0\0\x04\0\x06\x04\0\x01\0\0\0\
+        \x05\0\x03\0\x02\x22";
+    for room in 0..file.len() + 20 {
+        let fits = |file: &[u8]| (room >= file.len()).then(|| file.to_vec()).ok_or(6);
+        let again = written(LENDING, (&own, &[0, 1]), (1, 1), room);
+        assert_eq!(again, fits(LENDING), "{room}");
+        let made = written(LENDING, (&other, &[2, 1]), (2, 34), room);
+        assert_eq!(made, fits(file), "{room}");
+    }
+}
+
+/// The first 256 nodes are empty, so the last one's number and child have both bytes set.
+#[test]
+fn both_bytes_of_a_number() {
+    let mut nodes = vec![0; 4 * 258];
+    nodes.extend([6, 257, 0, 0]);
+    let file = written(LENDING, (&nodes, &[258, 257]), (258, 0), 18_209).unwrap();
+    assert_eq!(file[8..13], [3, 0, 7, 1, 2]);
+    assert_eq!(file[18..23], [3, 0, 8, 1, 1]);
+    let end = [4, 0, 6, 6, 1, 1, 0, 0, 0, 5, 0, 3, 1, 2, 0];
+    assert!(file.ends_with(&end));
+    assert_eq!(read(&file, 2_048, 128).unwrap().nodes, nodes);
+}
+
+/// Each number, before those that come after it: what is wrong is put right one by one.
+#[test]
+fn refused_writes_write_nothing() {
+    let number = |lending: &[u8], tables: (&[u16], &[u16]), start: (u16, u16)| {
+        let none = written(lending, tables, start, 0).unwrap_err();
+        if none != 6 {
+            assert_eq!(written(lending, tables, start, 100), Err(none));
+        }
+        none
+    };
+    let with = |at: usize, byte: u8| {
+        let mut file = LENDING.to_vec();
+        file[at] = byte;
+        file
+    };
+    let length = LENDING.len();
+    let wrong: (&[u16], &[u16]) = (&[10; 3], &[9; 129]);
+    assert_eq!(number(b"", wrong, (9, 35)), 1);
+    assert_eq!(number(&LENDING[..length - 1], wrong, (9, 35)), 1);
+    assert_eq!(number(&with(7, b' '), wrong, (9, 35)), 2);
+    let no_node = [&LENDING[..length - 24], &LENDING[length - 6..]].concat();
+    assert_eq!(number(&no_node, (&[10; 4], &[9]), (9, 35)), 3);
+    assert_eq!(number(&with(length - 22, 5), wrong, (9, 35)), 1);
+    assert_eq!(number(&with(length - 21, 10), wrong, (9, 35)), 4);
+    assert_eq!(number(&with(12, 2), wrong, (9, 35)), 5);
+    assert_eq!(number(&with(length - 2, 2), wrong, (9, 35)), 5);
+    assert_eq!(number(&with(length - 1, 35), wrong, (9, 35)), 5);
+    let whole = |tables: (&[u16], &[u16]), start| number(LENDING, tables, start);
+    assert_eq!(whole((&[10; 3], &[9]), (9, 35)), 3);
+    assert_eq!(whole((&[10; 4], &[9; 129]), (9, 35)), 3);
+    assert_eq!(whole((&[10; 4], &[9]), (9, 35)), 4);
+    assert_eq!(whole((&[0; 4], &[9]), (0, 0)), 5);
+    assert_eq!(whole((&[0; 4], &[0]), (1, 0)), 5);
+    assert_eq!(whole((&[0; 4], &[0]), (0, 35)), 5);
+    assert_eq!(whole((&[0; 4], &[0]), (0, 0)), 15);
+    assert_eq!(whole((&[0; 4], &[0; 3]), (0, 0)), 15);
+    assert_eq!(whole((&[0; 4], &[]), (0, 0)), 15);
+    assert_eq!(whole((&[0; 4], &[0; 2]), (0, 0)), 6);
+    // Not well formed, which no check of the writer asks for.
+    assert_eq!(whole((&[2, 0, 0, 0], &[0; 2]), (0, 0)), 6);
+    assert!(written(LENDING, (&[2, 0, 0, 0], &[0; 2]), (0, 0), 100).is_ok());
+}
+
+#[test]
+fn writes_of_every_answer() {
+    let mut rng = Rng::new(9);
+    let mut stats = Stats::default();
+    for _ in 0..5_000 {
+        let input = write_input(&mut rng);
+        let tables = (&input.nodes[..], &input.rules[..]);
+        let file = written(&input.lending, tables, (input.node, input.mode), input.room);
+        stats.note_write(&input, &file);
+    }
+    println!("{stats}");
+    assert!(stats.share("write", "written") > 50.0);
+    for number in [1, 2, 3, 4, 5, 6, 15] {
+        let class = format!("refused {number}");
+        assert!(stats.share("write", &class) > 1.5, "{number}");
+    }
+    for (class, least) in [
+        ("written, the lending file again", 10.0),
+        ("written, not well formed", 5.0),
+        ("written, room for it alone", 15.0),
+        ("written, 10,000 bytes or more", 0.5),
+        ("refused, two faults or more", 8.0),
+        ("refused, the lending file and the tables", 1.5),
+        ("refused, the tables and 15", 2.0),
+        ("refused, 15 and 6", 1.0),
+    ] {
+        assert!(stats.share("write", class) > least, "{class}");
+    }
 }
 
 #[test]

@@ -1,6 +1,6 @@
 //! The limits, from both sides.
 
-use trials::second::{check, read, run, scan, sets, Ran, Start, Verdict};
+use trials::second::{check, read, run, scan, sets, write, Ran, Start, Verdict};
 
 fn field(tag: u8, value: &[u8]) -> Vec<u8> {
     let length = (value.len() as u16).to_be_bytes();
@@ -306,6 +306,58 @@ fn relations_in_a_run() {
         assert_eq!(ran(bad, 34), 4);
         assert_eq!(ran(34, bad), 12);
         assert_eq!(ran(bad, bad), 4);
+    }
+}
+
+/// A file with so many keywords, and rules at node 0, all of 32 bytes.
+fn long_words(keywords: usize, rules: usize) -> Vec<u8> {
+    let word = |head: char, i: usize| format!("{head:x<29}{i:03}").into_bytes();
+    let rule = |i| field(3, &[vec![0, 0], word('r', i)].concat());
+    let keywords = (0..keywords).map(|i| field(2, &word('k', i)));
+    let fields: Vec<_> = keywords.chain((0..rules).map(rule)).collect();
+    file(&fields, 1)
+}
+
+/// The longest file has 18,209 bytes, the shortest 19.
+#[test]
+fn lengths_of_written_files() {
+    let longest = long_words(253, 128);
+    let length = |room: usize| {
+        let (nodes, rules) = ([0; 2_048], [511; 128]);
+        write(&longest, &nodes, &rules, 511, 34, &mut vec![0; room])
+    };
+    assert_eq!(length(18_208), Err(6));
+    assert_eq!(length(18_209), Ok(18_209));
+    assert_eq!(length(65_536), Ok(18_209));
+    let shortest = |room: usize| write(&file(&[], 512), &[0; 4], &[], 0, 0, &mut vec![0; room]);
+    assert_eq!(shortest(18), Err(6));
+    assert_eq!(shortest(19), Ok(19));
+}
+
+/// "then the new one, then 6", and 5 of the start's limits.
+#[test]
+fn writer_checks() {
+    let lending = long_words(2, 64);
+    let number = |rules: usize, node: u16, mode: u16| {
+        let rules = vec![0; rules];
+        let in_room = |room| write(&lending, &[0; 12], &rules, node, mode, &mut vec![0; room]);
+        let short = in_room(0).unwrap_err();
+        assert_eq!(
+            in_room(18_209).err(),
+            Some(short).filter(|&short| short != 6)
+        );
+        short
+    };
+    for (rules, expected) in [(64, 6), (63, 15), (65, 15), (0, 15), (128, 15), (129, 3)] {
+        assert_eq!(number(rules, 2, 34), expected);
+    }
+    for node in [3, 4, 256, 512, 65_535] {
+        assert_eq!(number(64, node, 0), 5);
+        assert_eq!(number(63, node, 0), 5);
+    }
+    for mode in [35, 36, 255, 256, 257, 65_535] {
+        assert_eq!(number(64, 0, mode), 5);
+        assert_eq!(number(63, 0, mode), 5);
     }
 }
 
