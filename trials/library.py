@@ -11,6 +11,7 @@ import pathlib
 from ctypes import byref, c_bool, c_size_t, c_uint8, c_uint16, c_uint32
 
 NODE_WORDS, RULE_WORDS, TOKEN_WORDS, LINE_BYTES, NAME_BYTES = 2048, 128, 16384, 64, 32
+FILE_BYTES = 18209  # of a written file
 CAPTURE_ROOM = 13  # the number of a list that needs more words
 
 
@@ -52,7 +53,7 @@ def ran_line(ran):
 class Reader:
     def __init__(self, path):
         self.library = ctypes.CDLL(str(pathlib.Path(path).resolve()))
-        for part in ("read", "check", "scan", "run", "list", "shown"):
+        for part in ("read", "write", "check", "scan", "run", "list", "shown"):
             getattr(self.library, f"saktroum_{part}").restype = c_uint32
         for part in ("line", "rule_name"):
             getattr(self.library, f"saktroum_{part}").restype = c_size_t
@@ -67,6 +68,13 @@ class Reader:
     def table(self, nodes, rules):
         words = [word for node in nodes for word in node]
         return *slice_of(words, c_uint16), *slice_of(rules, c_uint16)
+
+    def write(self, lending, nodes, rules, node, mode):
+        """The grammar file of a table, its rules and a start, with the keywords and rule names of a lending file."""
+        out, count = (c_uint8 * FILE_BYTES)(), (c_size_t * 1)()
+        given = (*slice_of(lending, c_uint8), *self.table(nodes, rules), c_uint16(node), c_uint16(mode))
+        passed(self.library.saktroum_write(*given, out, c_size_t(FILE_BYTES), byref(count)))
+        return bytes(out[: count[0]])
 
     def token_words(self, tokens):
         return slice_of([word for token in tokens for word in token], c_uint32)

@@ -170,6 +170,18 @@ class Told(unittest.TestCase):
                 READER.shown(*given, capture)
             self.assertEqual(refused.exception.number, 14)
 
+    def test_written(self):
+        """A grammar's own tables and start give its file again, another start only that, and a rule too many is refused."""
+        (grammar,), _ = handbook.read_handbook(READER, LISTED)
+        nodes, rules, node, mode = READER.read(grammar.file)
+        self.assertEqual(READER.write(grammar.file, nodes, rules, node, mode), grammar.file)
+        other = READER.write(grammar.file, nodes, rules, 0, 34)
+        self.assertEqual(other, grammar.file[:-3] + b"\0\0\x22")
+        self.assertEqual(READER.read(other), (nodes, rules, 0, 34))
+        with self.assertRaises(library.Refused) as refused:
+            READER.write(grammar.file, nodes, [*rules, 0], node, mode)
+        self.assertEqual(refused.exception.number, 15)
+
     def test_commands(self):
         """What the programs print on the examples: one line, the entries before it, and a failure alone."""
         listed = handbook.printed(READER, "entries", handbook.ROOT / "examples" / "report.txt")
