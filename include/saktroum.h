@@ -14,7 +14,7 @@
  * - saktroum_run, saktroum_list and saktroum_line call themselves as deep as grammar and tokens make them, and no proof
  *   speaks of the stack: where it is too small, the system ends the program. By measurement 1 GiB is enough for every
  *   grammar and 4,096 tokens, and the usual 8 MiB are not (docs/BENCHMARKS.md). saktroum_stack.h has a function that runs
- *   the caller's work on a thread with 1 GiB. The other calls do not nest and need little.
+ *   the caller's work on a thread with 1 GiB. The other calls do not nest; saktroum_write takes some 30 KB, the others less.
  *
  * The answer of the first seven is 0 if the call passed every check, or else the number of the first check it failed, for 7
  * with the node: 7 + 65,536 * node. saktroum_number and saktroum_node take it apart; enum saktroum_refusal has a name for
@@ -107,9 +107,10 @@ uint32_t saktroum_read(const uint8_t *file, size_t file_bytes,
 
 /* Writes the grammar file of a table and its rules with a start, its node and mode, to `out`; the keywords and the rule
  * names are those of a grammar file that lends them, rule for rule. The checks: the lending file by 1 to 5, the table, the
- * rules and the start by 3 to 5, then 15, then 6. After 3 to 5 saktroum_read, or saktroum_check, on each tells whose it is.
- * A table that is not well formed is written too; saktroum_check says so. result: the number of bytes of the file. Reading
- * it gives the same table, rules and start. */
+ * rules and the start by 3 to 5, then 15, then 6. After 3 to 5, saktroum_read on the lending file answers the same
+ * number if it is the file's, and 0 if it is the table's, the rules' or the start's. A table that is not well formed is
+ * written too: ask saktroum_check. result: the number of bytes of the file. Reading it gives the same table, rules and
+ * start. */
 uint32_t saktroum_write(const uint8_t *lending, size_t lending_bytes,
                         const uint16_t *nodes, size_t node_words,
                         const uint16_t *rules, size_t rule_words,

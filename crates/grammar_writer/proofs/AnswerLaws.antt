@@ -1,9 +1,8 @@
 -- What the writer answers, check by check, and what the lent bytes hold afterwards.
 use Prim.Native.Nat.{ℕ, _+_, _≤_, _<_}
-use mathlib.Core.Path.{_≡_, refl, sym, ap, _∙_}
+use mathlib.Core.Path.{_≡_, refl, ap, _∙_}
 use mathlib.Core.Bool.{Bool, true, false}
 use mathlib.Core.List.{List, _++_}
-use native.Mathlib.Nat.{zero-add}
 use native.Mathlib.Omega.{arith}
 use borrow.Author.Tests.{eq-eqb, ne-eqb, le-ltb, lt-ltb}
 use lib.ListN.{length, take, drop}
@@ -11,12 +10,12 @@ use lib.Seq.{take-at}
 use Rattle.table.specs.Answer.{Answer, given, refused, refuseIf}
 use Rattle.table.specs.Checks.{fails3, fails4}
 use Rattle.table.proofs.AnswerLaws.{first-refuses, first-passes}
-use Rattle.slices.specs.Copied.{copied}
+use Rattle.slices.specs.Copied.{copied, over}
 use Rattle.file_shape.specs.Contents.{Contents, fails5With, fileAnswer}
 use Rattle.file_shape.specs.declared.Shape.{Shape}
 use Rattle.file_shape.proofs.PartLaws.{rule-count}
 use Rattle.grammar_writer.specs.Written.{writtenFile, fails15, writeAnswer}
-use Rattle.grammar_writer.specs.InternalWriting.{over, startedAnswer, lentAnswer, Lends}
+use Rattle.grammar_writer.specs.InternalWriting.{startedAnswer, lentAnswer, Lends}
 
 -- Three checks in a row, with nothing behind them or something more.
 three-refuse : (a b c : Bool) (n : ℕ) (next : Answer ℕ) → _≡_ {A = Answer Unit} (refused n) (refuseIf a 3 (refuseIf b 4 (refuseIf c 5 (given tt))))

@@ -1,5 +1,5 @@
 -- The written file, section by section: tag 1, the keywords, the rules, the nodes, the start.
-use Prim.Native.Nat.{ℕ, _+_, _*_, _/_, _%_, _≤_, _<_}
+use Prim.Native.Nat.{ℕ, _+_, _*_, _/_, _%_, _≤_}
 use mathlib.Core.Path.{_≡_, refl, sym, ap, ap₂, _∙_}
 use mathlib.Core.List.{List, [], _∷_, _++_, append-assoc, append-nil}
 use native.Mathlib.Omega.{arith}
@@ -14,9 +14,10 @@ use Rattle.file_fields.proofs.Offsets.{length-spellings}
 use Rattle.file_shape.specs.Contents.{mostKeywords, keywords, ruleNames, fieldsOf}
 use Rattle.file_shape.specs.declared.Shape.{Shape}
 use Rattle.file_shape.proofs.PartLaws.{keywords-are, names-are, keyword-count}
+use Rattle.slices.specs.Copied.{over}
 use Rattle.grammar_writer.specs.FieldBytes.{field, fieldBytes, bytesOf, formatField, startField}
 use Rattle.grammar_writer.specs.Written.{keywordFields, ruleFields, nodeFields, writtenFields, writtenFile}
-use Rattle.grammar_writer.specs.InternalWriting.{over, Lends}
+use Rattle.grammar_writer.specs.InternalWriting.{Lends}
 use Rattle.grammar_writer.proofs.PutLaws.{Over, over-starts, over-more}
 use Rattle.grammar_writer.proofs.SectionLaws.{spelling-short, keywords-short, rules-short, nodes-short}
 use Rattle.grammar_writer.proofs.LendLaws.{right-names, keywords-right, names-right, few-keywords, few-nodes}

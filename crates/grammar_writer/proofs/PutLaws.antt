@@ -10,10 +10,9 @@ use lib.ListN.{length, take, drop, length-append, length-drop, take-append-drop}
 use lib.Seq.{length-take-le, take-at, drop-at, drop-drop}
 use Rattle.table.specs.Words.{eachWords, tabulate}
 use Rattle.table.proofs.Words.{words-append}
-use Rattle.slices.specs.Copied.{placed}
+use Rattle.slices.specs.Copied.{over, placed}
 use Rattle.file_fields.specs.Fields.{Field}
 use Rattle.grammar_writer.specs.FieldBytes.{field, fieldBytes, bytesOf}
-use Rattle.grammar_writer.specs.InternalWriting.{over}
 
 -- What fits is put.
 pub put-fits : (at : ℕ) (bytes before : List ℕ) → at + length bytes ≤ length before → placed at bytes before ≡ over at bytes before

@@ -1,21 +1,16 @@
 -- What the private functions that write a file ask of one another. No public promise rests on this file.
-use Prim.Native.Nat.{ℕ, _+_, _<_}
+use Prim.Native.Nat.{ℕ, _<_}
 use mathlib.Core.Path.{_≡_}
-use mathlib.Core.Bool.{Bool, false}
-use mathlib.Core.List.{List, _++_}
-use lib.ListN.{length, take, drop}
+use mathlib.Core.List.{List}
+use lib.ListN.{length}
 use lib.Dec.{ltb}
 use Rattle.table.specs.Answer.{Answer, given, refuseIf}
 use Rattle.table.specs.Form.{kindOf, relationOf, nodeCount}
 use Rattle.table.specs.Checks.{fails3, fails4}
-use Rattle.file_shape.specs.Contents.{Contents, contents, fieldsOf, fails5With, fileAnswer}
+use Rattle.file_shape.specs.Contents.{contents, fieldsOf, fails5With, fileAnswer}
 use Rattle.file_shape.specs.Shape.{Parts}
 use Rattle.file_shape.specs.declared.Shape.{Shape}
 use Rattle.grammar_writer.specs.Written.{writtenFile, fails15}
-
--- Bytes written over a list from an index on.
-abbrev pub over : ℕ → List ℕ → List ℕ → List ℕ
-over at bytes before = take at before ++ bytes ++ drop (at + length bytes) before
 
 -- Kinds and relations fit a byte.
 abbrev pub ByteWords : List ℕ → Type 0

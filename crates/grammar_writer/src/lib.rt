@@ -13,11 +13,11 @@ ghost use Rattle.spellings.specs.Spellings.{rightSpellings};
 ghost use Rattle.file_shape.specs.Shape.{Parts};
 ghost use Rattle.grammar_writer.specs.FieldBytes.{field, fieldBytes, bytesOf};
 ghost use Rattle.grammar_writer.specs.Written.{keywordFields, ruleFields, nodeFields, writtenFile, writeAnswer, numbers};
-ghost use Rattle.grammar_writer.specs.InternalWriting.{over, ByteWords, Lends, startedAnswer, lentAnswer};
+ghost use Rattle.grammar_writer.specs.InternalWriting.{ByteWords, Lends, startedAnswer, lentAnswer};
+ghost use Rattle.slices.specs.Copied.{over};
 use file_fields::next_at;
 use file_fields::spelling_at;
 use file_fields::tags;
-use file_fields::value_at;
 use file_shape::FIRST_KEYWORD;
 use file_shape::Inspected;
 use file_shape::Shape;
@@ -124,7 +124,7 @@ fn write_named(
     FileWritten::Bytes(n)
 }
 
-// Puts the file into bytes that do for every one, and says where it ends.
+// Puts the file into a slice with room for the longest one, and says where it ends.
 fn put_file(
     lending: &[u8],
     s: Shape,

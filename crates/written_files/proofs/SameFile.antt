@@ -100,7 +100,8 @@ module _ (file : List ℕ) (bytes : areBytes file ≡ true) (c : Contents) (read
     abbrev answer : Answer Contents
     answer = readAnswer file (length n₀) (length r₀)
 
-    reads : answer ≡ given c
+    -- The read answers what the check of the file did.
+    pub reads : answer ≡ given c
     unfolding readAnswer fails6
     reads = rw (read, le-ltb (length n₀) (length nodes) n-room, le-ltb (length r₀) (length rules) r-room) (ap given told)
 
@@ -125,3 +126,16 @@ module _ (file : List ℕ) (bytes : areBytes file ≡ true) (c : Contents) (read
     -- So a read and a write give the file back.
     pub read-then-written : writtenFile file (take (c .nodes * 4) (afterwards answer nodes n₀)) (take (c .rules) (afterwards answer rules r₀)) (c .start) (c .mode) ≡ file
     read-then-written = ap₂ (λ (t l : List ℕ). writtenFile file t l (c .start) (c .mode)) nodes-filled rules-filled ∙ same-file
+
+    -- A write of the words that the read filled answers the length of the file, and leaves the file in the lent bytes and what
+    -- was behind it.
+    pub read-then-writes :
+        (out : List ℕ)
+        → length file ≤ length out
+        → let n = take (c .nodes * 4) (afterwards answer nodes n₀) in
+        let r = take (c .rules) (afterwards answer rules r₀) in
+        let wrote = writeAnswer file n r (c .start) (c .mode) (length out) in
+        (wrote ≡ given (length file)) × (afterwards wrote (writtenFile file n r (c .start) (c .mode)) out ≡ file ++ drop (length file) out)
+    read-then-writes out h =
+        let told = ap₂ (λ (t l : List ℕ). writeAnswer file t l (c .start) (c .mode) (length out)) nodes-filled rules-filled ∙ writes-back (length out) h in
+        (told, ap₂ (λ (a : Answer ℕ) (f : List ℕ). afterwards a f out) told read-then-written)

@@ -6,8 +6,10 @@ use mathlib.Core.List.{List, [], _∷_, _++_, map, map-append}
 use mathlib.Core.Logic.{⊎-elim}
 use native.Mathlib.Nat.{eq-or-lt-of-le, le-of-suc-le-suc}
 use native.Mathlib.Omega.{arith}
-use lib.ListN.{length, getD, length-append, List·getD-append}
+use lib.ListN.{length, getD, List·getD-append}
 use lib.Seq.{getD-at, ext-getD}
+use Rattle.table.specs.Words.{tabulate}
+use Rattle.table.proofs.Words.{length-tabulate}
 
 module _ {A : Type 0} where
   -- The ith is what the function gives of i.

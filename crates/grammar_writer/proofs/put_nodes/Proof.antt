@@ -1,10 +1,9 @@
 -- `grammar_writer::put_nodes` meets its contract: after n turns the first n nodes stand there.
 use borrow.Author.Needs.{needs}
 use Prim.Native.Nat.{_-_, _≤_}
-use mathlib.Core.Path.{_≡_, refl, sym, ap, _∙_}
+use mathlib.Core.Path.{_≡_, refl, _∙_}
 use mathlib.Core.List.{[], _∷_}
 use native.Mathlib.Omega.{arith}
-use lib.ListN.{length}
 use Rattle.table.specs.Form.{kindOf, relationOf, nodeCount}
 use Rattle.grammar_writer.proofs.PutLaws.{Put, put-starts, Next, next-field}
 use Rattle.grammar_writer.proofs.SectionLaws.{nodeOf, node-short, node-is}

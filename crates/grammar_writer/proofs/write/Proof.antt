@@ -1,6 +1,6 @@
 -- `grammar_writer::write` meets its contract.
 use borrow.Author.Needs.{needs}
-use mathlib.Core.Path.{_≡_, refl, sym, ap, _∙_}
+use mathlib.Core.Path.{refl, sym, ap, _∙_}
 use lib.ListN.{length}
 use Rattle.table.specs.Checks.{numbers}
 use Rattle.grammar_file.proofs.ReadLaws.{refuses, parts, passes}
