@@ -273,11 +273,11 @@ fn names_once(file: &[u8]) -> Result<(), String> {
     has_names(file, &names, listed)
 }
 
-/// A file has these keywords and rule names, and none behind the last one; each call checks the whole file, so of long
-/// lists only some are looked at.
-fn has_names(file: &[u8], (keywords, names): &Spellings, listed: Chosen) -> Result<(), String> {
+/// A file has these keywords and rule names, those that are chosen, and none behind the last one. Not all are: each call
+/// checks the whole file.
+fn has_names(file: &[u8], (keywords, names): &Spellings, chosen: Chosen) -> Result<(), String> {
     let bytes = || format!("file {file:?}");
-    for (k, word) in listed(keywords) {
+    for (k, word) in chosen(keywords) {
         same("a keyword", ours::keyword(file, k), word.to_vec(), bytes)?;
         if !word.is_empty() {
             // By itself the keyword is a token, whose terminal is 3 and the keyword's number.
@@ -285,7 +285,7 @@ fn has_names(file: &[u8], (keywords, names): &Spellings, listed: Chosen) -> Resu
             same("a keyword's token", Ok(Some(3 + k as u32)), token, bytes)?;
         }
     }
-    for (r, word) in listed(names) {
+    for (r, word) in chosen(names) {
         same(
             "a rule name",
             ours::rule_name(file, r),
