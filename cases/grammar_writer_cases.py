@@ -14,6 +14,7 @@ import entries_long_list
 import faults
 import grammar_file_cases
 import line_cases
+import published
 import reader_long_line
 import scanner_cases
 import shown_text_cases
@@ -670,6 +671,12 @@ for said, cases, payloads, kinds in (
         if not refusal(answer) and content not in SEEN:
             SEEN.add(content)
             again(f"{said} case again, {label}", content)
+
+# So are those that were made from published papers, all of which are read.
+for label, content in published.FILES:
+    if content not in SEEN:
+        SEEN.add(content)
+        again(f"published again, {label}", content)
 
 # The grammar files of the stored runs under trials/program.
 again("trials/program/letters", entries_letters.FILES["grammar.bin"])

@@ -16,6 +16,7 @@ from table_nodes import ANY, AT_LEAST, EQUAL, GREATER, flat
 
 CASES = Cases("published")
 ROWS = []
+FILES = []  # the label and the grammar file of each report
 
 # ---- Records and lines ----
 
@@ -38,6 +39,7 @@ def report(label, source, shows, expected, keywords, start, text, rules="", mode
     table = Table(rules, written(start, terminals), once=True)
     pairs = [(number, name.encode()) for name, number in zip(rules, table.rules)]
     file = grammar_fields.file(table.nodes, table.start, mode, keywords.encode().split(), pairs)
+    FILES.append((label, file))
     record(label, source, shows, expected, "l", (file, text.encode(), b""))
 
 
