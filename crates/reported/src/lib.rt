@@ -48,8 +48,8 @@ pub fn report_write(x: FileWritten, result: &mut [usize; 1]) -> u32
 {
     match x {
         FileWritten::Refused(n) => n as u32,
-        FileWritten::Bytes(count) => {
-            *result = [count];
+        FileWritten::Bytes(bytes) => {
+            *result = [bytes];
             0
         }
     }
