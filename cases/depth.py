@@ -14,11 +14,11 @@ TOKENS = 4096
 LIST = [terminal(0), rule(0), sequence(0, 1), EMPTY, choice(2, 3)]
 
 
-def shape(nodes, rules=(), mode=AT_LEAST, tokens=TOKENS, listing=False):
+def shape(nodes, rules=(), mode=AT_LEAST, tokens=TOKENS, listing=False, by_2014=False):
     """The file `shape`. The layout is that of the program's first comment. The start is the last node, and so is rule 0;
     these are the other rules."""
     words, last = flat(nodes), len(nodes) - 1
-    return wide(2, len(words), 1 + len(rules), tokens, last, mode, listing, *words, last, *rules)
+    return wide(2, len(words), 1 + len(rules), tokens, last, mode, listing, by_2014, *words, last, *rules)
 
 
 # "c. a, mode at least, a0: 0 to 0." Each token is an a at column 0, and the interval stays. Behind the last one a fails,

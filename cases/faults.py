@@ -1,5 +1,6 @@
 """Inputs with chosen faults, one of each number, for "Checks run in rising number": the answer is the lowest number
-chosen. In the late ones the faults of lower numbers mostly stand later in the input, in the early ones earlier."""
+chosen, or the first where the numbers stand in another order. In the late ones the faults of lower numbers mostly stand
+later in the input, in the early ones earlier."""
 
 import itertools
 
@@ -13,6 +14,11 @@ def choices(*numbers):
     """Every choice from these numbers, none and all among them."""
     for taken in itertools.product((False, True), repeat=len(numbers)):
         yield tuple(number for number, there in zip(numbers, taken) if there)
+
+
+def few(*numbers):
+    """Of these choices none, each number by itself, every two, and all."""
+    return [chosen for chosen in choices(*numbers) if len(chosen) in (0, 1, 2, len(numbers))]
 
 
 def places(items, extra):

@@ -8,6 +8,8 @@ words of document 01 or 02 or names the clause of document 001 that decide it.
 Expressions are written as README.md says: a to z are terminals 1 to 26. A token is a letter and a column. An
 interval is its two ends, and an answer the tokens read, the interval and the flag. A capture is the name of its rule,
 its first token, the token after its last and the number of captures around it.
+
+A run is by the reading of 2017 unless said; a label that tells the reading ends so, or begins so in a family of faults.
 """
 
 import faults
@@ -30,6 +32,9 @@ SAME = "0 0 inf clear"
 
 A, B = terminal(1), terminal(2)
 KIND_10 = (10, 0, 0, 0)
+
+# The kinds of a run and of a run that lists, by reading. Where none is told it is that of 2017.
+RUN, LISTING = {"": "r", "2017": "r", "2014": "R"}, {"": "l", "2017": "l", "2014": "L"}
 
 
 # --- Records and lines ---------------------------------------------------------------------------
@@ -59,9 +64,14 @@ def success(answer, place):
     return f"success {read} {lower} {upper} {flag} {place + int(read)}"
 
 
+def ended(answer, place):
+    """What an unrefused run prints."""
+    return answer if answer == "failure" else success(answer, place)
+
+
 def refused(label, number, nodes, rules=(), tokens=(), **start):
     """ "The answer is the number" """
-    assert number in (3, 4, 5, 11, 12)
+    assert number in (3, 4, 5, 11, 12, 16)
     record(label, nodes, rules, tokens, f"refused {number}", **start)
 
 
@@ -72,8 +82,7 @@ def bad(label, ill, nodes, rules=(), tokens=(), **start):
 
 def runs(label, answer, nodes, rules=(), tokens=(), **start):
     """A run of nodes given as such, from node 0 and place 0 in mode at least unless said."""
-    line = answer if answer == "failure" else success(answer, start.get("place", 0))
-    record(label, nodes, rules, tokens, line, **start)
+    record(label, nodes, rules, tokens, ended(answer, start.get("place", 0)), **start)
 
 
 def same(label, nodes, rules=(), tokens=(), **start):
@@ -81,9 +90,9 @@ def same(label, nodes, rules=(), tokens=(), **start):
     runs(label, SAME, nodes, rules, tokens, **start)
 
 
-def told(expression, mode, tokens, rules="", start="0 inf", flag="clear", place=0, name=""):
+def told(expression, mode, tokens, rules="", start="0 inf", flag="clear", place=0, name="", by=""):
     """The label of a run of an expression, and the call as `record` takes it. Without a name, or behind the name of a
-    case, the label tells all."""
+    case, the label tells all. It ends in the reading if that is said."""
     table = Table(written_rules(rules), written(expression))
     lower, upper = start.split()
     label = name
@@ -94,6 +103,7 @@ def told(expression, mode, tokens, rules="", start="0 inf", flag="clear", place=
         label += f", from {lower} to {upper}" if start != "0 inf" else ""
         label += ", flag set" if flag == "set" else ""
         label += f", place {place}" if place else ""
+    label += f", by {by}" if by else ""
     return label, {
         "nodes": table.nodes, "rules": table.rules, "tokens": tokens, "mode": relation_number(mode),
         "node": table.start, "place": place, "lower": int(lower), "upper": None if upper == "inf" else int(upper),
@@ -101,28 +111,46 @@ def told(expression, mode, tokens, rules="", start="0 inf", flag="clear", place=
     }
 
 
-def given(expression, mode, tokens, answer, rules="", start="0 inf", flag="clear", place=0, name=""):
+def given(expression, mode, tokens, answer, rules="", start="0 inf", flag="clear", place=0, name="", by=""):
     """A run of an expression."""
-    label, call = told(expression, mode, tokens, rules, start, flag, place, name)
-    record(label, line=answer if answer == "failure" else success(answer, place), **call)
+    label, call = told(expression, mode, tokens, rules, start, flag, place, name, by)
+    record(label, line=ended(answer, place), kind=RUN[by], **call)
 
 
-def row(expression, mode, start, answers, flag="clear", first=0):
+def both(expression, tokens, by_2017, by_2014, **more):
+    """Runs of an expression by each reading, with their answers, in mode equal: 2014 has no other."""
+    given(expression, "equal", tokens, by_2017, by="2017", **more)
+    given(expression, "equal", tokens, by_2014, by="2014", **more)
+
+
+def alike(expression, tokens, answer, **more):
+    """The same where both readings have one answer."""
+    both(expression, tokens, answer, answer, **more)
+
+
+def row(expression, mode, start, answers, flag="clear", first=0, by=""):
     """Runs over one token a, at column `first` and on. An answer is the interval of success, or -."""
     for column, cell in enumerate(answers.split(), first):
         answer = "failure" if cell == "-" else f"1 {cell.replace('-', ' ')} clear"
-        given(expression, mode, f"a{column}", answer, start=start, flag=flag)
+        given(expression, mode, f"a{column}", answer, start=start, flag=flag, by=by)
 
 
-def lists(expression, mode, tokens, answer, captures, rules="", lents=None, **more):
+def lists(expression, mode, tokens, answer, captures, rules="", lents=None, by="", **more):
     """Runs of an expression that list these captures: `X 0 1 0, Y 1 2 0`."""
-    label, call = told(expression, mode, tokens, rules, **more)
+    label, call = told(expression, mode, tokens, rules, by=by, **more)
     names = list(written_rules(rules))
     parts = [part.split() for part in captures.split(", ") if part]
-    listed(label, answer, [(names.index(name), *map(int, numbers)) for name, *numbers in parts], lents, **call)
+    captures = [(names.index(name), *map(int, numbers)) for name, *numbers in parts]
+    listed(label, answer, captures, lents, kind=LISTING[by], **call)
 
 
-def listed(label, answer, captures, lents=None, place=0, **call):
+def both_list(expression, tokens, by_2017, by_2014, **more):
+    """Runs that list by each reading, in mode equal, the answer and the captures of each given."""
+    lists(expression, "equal", tokens, *by_2017, by="2017", **more)
+    lists(expression, "equal", tokens, *by_2014, by="2014", **more)
+
+
+def listed(label, answer, captures, lents=None, place=0, kind="l", **call):
     """Runs that list these captures, their rules by number, one for each number of words lent: unless said just enough
     of them, one less and six more.
 
@@ -133,14 +161,14 @@ def listed(label, answer, captures, lents=None, place=0, **call):
         if lent >= need:
             head = answer if answer == "failure" else f"{success(answer, place)} | captures {len(captures)}"
             line = "".join([head, *(spaced(" |", capture) for capture in captures), f" | {lent - need} zeros"])
-            record(f"list, {label}, {lent} words", line=line, kind="l", lent=lent, place=place, **call)
+            record(f"list, {label}, {lent} words", line=line, kind=kind, lent=lent, place=place, **call)
         elif lent >= 0:
-            unlisted(f"{label}, {lent} words", "refused 13", lent, place=place, **call)
+            unlisted(f"{label}, {lent} words", "refused 13", lent, place=place, kind=kind, **call)
 
 
-def unlisted(label, answer, lent, **call):
+def unlisted(label, answer, lent, kind="l", **call):
     """A run that lists and is refused. "Nothing is written." """
-    record(f"list, {label}", line=f"{answer} | {lent} kept", kind="l", lent=lent, **call)
+    record(f"list, {label}", line=f"{answer} | {lent} kept", kind=kind, lent=lent, **call)
 
 
 def by_mode(*rows):
@@ -345,12 +373,12 @@ for mode in (35, 36, 255, 256, 257, 258, 259, 290, 32768, 65535):
 # the second early. With none, a at 5 in mode at least leaves 0 to 5, and so does a*.
 
 
-def ordered(said, chosen, ill, table, tokens, **start):
-    """A call with the faults chosen: success if there are none, else refused by the lowest; for 7 the node is
-    `ill`."""
+def ordered(said, chosen, ill, table, tokens, answer="1 0 5 clear", **start):
+    """A call with the faults chosen: success with the answer if there are none, else refused by the first; for 7 the
+    node is `ill`."""
     label = faults.label(said, chosen)
     if not chosen:
-        runs(label, "1 0 5 clear", *table, tokens, **start)
+        runs(label, answer, *table, tokens, **start)
     elif chosen[0] == 7:
         bad(label, ill, *table, tokens, **start)
     else:
@@ -1596,13 +1624,13 @@ listed("14 doubled rules in two nots", SAME, [], (0, 4, 16500), node=last + 5, *
 # none, rule 0 reads a5: one capture, which takes four words; 13 is to lend three.
 
 
-def ordered_list(said, chosen, ill, table, tokens, **start):
+def ordered_list(said, chosen, ill, table, tokens, answer="1 0 5 clear", **start):
     label, lent = faults.label(said, chosen), 3 if 13 in chosen else 4
     call = {"nodes": table[0], "rules": table[1], "tokens": tokens, **start}
     if chosen:
         unlisted(label, f"refused 7 {ill}" if chosen[0] == 7 else f"refused {chosen[0]}", lent, **call)
     else:
-        listed(label, "1 0 5 clear", [(0, 0, 1, 0)], (lent,), **call)
+        listed(label, answer, [(0, 0, 1, 0)], (lent,), **call)
 
 
 for chosen in faults.choices(3, 4, 5, 7, 11, 12, 13):
@@ -1622,6 +1650,296 @@ for lent in (0, 1, 4, 7, 16500):
         (12, "interval 5 to 4", {"nodes": [EMPTY], "rules": [], "lower": 5, "upper": 4}),
     ):
         unlisted(f"{said}, {lent} words", f"refused {number}", lent, **{"tokens": (), **call})
+
+
+# --- The reading of 2014 (02, Note 5) ------------------------------------------------------------
+
+# "Align of empty, then a under greater, mode equal, a at column 0, succeeds with 0 to 0 under 2014 and fails under 2017."
+both("(align empty) indent greater a", "a0", "failure", "1 0 0 clear", name="case of Note 5")
+
+# "an align hands on the flag as its child left it" (001, section 2.4 (2): "the alignment flag is never changed at the
+# end of parsing of an expression of the form |p|"). At the end of the run; a flag set before stays by both.
+STILL = (
+    "align empty", "align b*", "align !b", "align (b / empty)", "align (indent greater empty)", "align (align empty)",
+    "align (empty empty)",
+)
+for still in STILL:
+    both(still, "a3", "0 3 6 clear", "0 3 6 set", start="3 6")
+    # Then an indent: by 2017 inside is 4 on, and a3 is not there; by 2014 "under a set flag an indent passes the
+    # interval through unchanged both ways", and a3 lies in 3 to 6.
+    both(f"({still}) indent greater a", "a3", "failure", "1 3 3 clear", start="3 6")
+alike("align empty", "a3", "0 3 6 set", start="3 6", flag="set")
+# By 2017 a5 leaves 5 to 5 inside and 3 to 4 outside; by 2014 5 to 5. a7 is right of 3 to 6.
+both("(align empty) indent greater a", "a5", "1 3 4 clear", "1 5 5 clear", start="3 6")
+both("(align empty) indent greater a", "a7", "1 3 6 clear", "failure", start="3 6")
+# Then a token: in mode equal a terminal asks the same with the flag and without it. It clears the flag, so that the
+# indent behind it counts: 5 on.
+alike("(align empty) a", "a5", "1 5 5 clear", start="3 6")
+alike("(align empty) a", "a7", "failure", start="3 6")
+alike("(align empty) a indent greater b", "a4 b5", "2 4 4 clear", start="3 6")
+alike("(align empty) a indent greater b", "a4 b4", "failure", start="3 6")
+# After an align that read something the flag is clear by both.
+alike("(align a) indent greater b", "a4 b5", "2 4 4 clear", start="3 6")
+alike("(align a) indent greater b", "a4 b4", "failure", start="3 6")
+alike("(align a) indent greater b", "a4 b5", "2 4 4 clear", start="3 6", flag="set")
+# "as its child left it": a clears the flag and an align of empty behind it sets it again, through an outer align too.
+both("a align empty", "a4", "1 4 4 clear", "1 4 4 set", start="3 6", flag="set")
+both("align (a align empty)", "a4", "1 4 4 clear", "1 4 4 set", start="3 6")
+both("(align (a align empty)) indent greater b", "a4 b4", "failure", "2 4 4 clear", start="3 6")
+both("(align (a align empty)) indent greater b", "a4 b5", "2 4 4 clear", "failure", start="3 6")
+
+# Rounds. The flag is set anew in each. By 2014 a3 leaves 3 to 3 and is read again; a5 leaves 5 to 5, where a4 is not.
+# By 2017 a5 leaves 3 to 4 outside, again, and a4 3 to 3.
+AGAIN = "((align empty) indent greater a)*"
+both(AGAIN, "a3 a3", "0 3 6 clear", "2 3 3 clear", start="3 6")
+both(AGAIN, "a5 a5 a4", "3 3 3 clear", "2 5 5 clear", start="3 6")
+# From round to round: by both the first leaves 3 to 3 outside. By 2014 the flag is then set, and the next a must lie at
+# 3; by 2017 right of 3.
+ONWARD = "((indent greater a) align empty)*"
+both(ONWARD, "a4 a4 a5", "3 3 3 clear", "1 3 3 set", start="3 6")
+both(ONWARD, "a4 a3 a3", "1 3 3 clear", "3 3 3 set", start="3 6")
+# "Not and failure hand the old state on": the flag of a failed round, of a failed alternative and of a not is gone.
+for gone in ("((align empty) b)*", "((align empty) b / empty)", "!!(align empty)", "!(align b)", "!((align empty) b)"):
+    alike(f"{gone} indent greater a", "a3", "failure", start="3 6")
+alike("((align empty) b)* indent greater a", "a4", "1 3 3 clear", start="3 6")
+alike("(align empty) b / indent greater a", "a4", "1 3 3 clear", start="3 6")
+# It stays through a repeat without a round, a not, a rule and a second align, and holds in both alternatives.
+for kept in ("b*", "!b", "X", "(align empty)", "(indent greater empty)"):
+    both(f"(align empty) {kept} indent greater a", "a3", "failure", "1 3 3 clear", rules="X = empty", start="3 6")
+both("(align empty / b) indent greater a", "a3", "failure", "1 3 3 clear", start="3 6")
+both("(align empty) (indent greater b / indent greater a)", "a3", "failure", "1 3 3 clear", start="3 6")
+# "Not succeeds exactly if its child fails": at a3 the indent's child fails by 2017 only, at a7 by 2014 only.
+both("(align empty) !(indent greater a) a", "a3", "1 3 3 clear", "failure", start="3 6")
+both("!((align empty) indent greater a)", "a3", "0 3 6 clear", "failure", start="3 6")
+both("!((align empty) indent greater a)", "a7", "failure", "0 3 6 clear", start="3 6")
+# "A rule is its node."
+both("X", "a3", "0 3 6 clear", "0 3 6 set", rules="X = align empty", start="3 6")
+both("X Y", "a3", "failure", "1 3 3 clear", rules="X = align empty; Y = indent greater a", start="3 6")
+both("(align X) Y", "a3", "failure", "1 3 3 clear", rules="X = empty; Y = indent greater a", start="3 6")
+AGAIN_RULE = "X = (align empty) (indent greater a) X / empty"
+both("X", "a3 a3", "0 3 6 clear", "2 3 3 clear", rules=AGAIN_RULE, start="3 6")
+
+# "under a set flag an indent passes the interval through unchanged both ways": whatever the relation, a must lie in 3 to
+# 4 and leaves its column. (By 2017 the rows stand under "Indent".)
+for relation in (*MODES, "+1", "+31"):
+    row(f"indent {relation} a", "equal", "3 4", "- 3-3 4-4 -", flag="set", first=2, by="2014")
+both("align (indent any a)", "a2", "1 5 5 clear", "failure", start="5 5")
+both("align (indent at-least a)", "a6", "1 5 5 clear", "failure", start="5 5")
+# Steps: by 2017 a lies so many columns right of 3, by 2014 at 3.
+for amount in (1, 2, 31):
+    both(f"indent +{amount} a", "a3", "failure", "1 3 3 clear", start="3 3", flag="set")
+    both(f"indent +{amount} a", f"a{3 + amount}", "1 3 3 clear", "failure", start="3 3", flag="set")
+# Nested: none of them counts. By 2017 greater twice is 5 on inside: a5 leaves 4 to 4, then 3 to 3; a7 4 to 6, then 3 to
+# 5. At least and then +2: a6 leaves 4 to 4, then 3 to 4. Any and then greater: 1 on, and a1 leaves 3 to 6.
+both("indent greater (indent greater a)", "a3", "failure", "1 3 3 clear", start="3 6", flag="set")
+both("indent greater (indent greater a)", "a5", "1 3 3 clear", "1 5 5 clear", start="3 6", flag="set")
+both("indent greater (indent greater a)", "a7", "1 3 5 clear", "failure", start="3 6", flag="set")
+both("indent at-least (indent +2 a)", "a6", "1 3 4 clear", "1 6 6 clear", start="3 6", flag="set")
+both("indent any (indent greater a)", "a1", "1 3 6 clear", "failure", start="3 6", flag="set")
+# A child that reads nothing: by 2014 it is asked in 3 to 6, by 2017 in 4 on. The flag is "as it left it".
+alike("indent greater empty", "a3", "0 3 6 set", start="3 6", flag="set")
+both("indent greater !a", "a3", "0 3 6 set", "failure", start="3 6", flag="set")
+both("indent greater !a", "a7", "failure", "0 3 6 set", start="3 6", flag="set")
+both("indent greater a*", "a3", "0 3 6 set", "1 3 3 clear", start="3 6", flag="set")
+both("indent greater (a / empty)", "a7", "1 3 6 clear", "0 3 6 set", start="3 6", flag="set")
+
+# "Distributivity of indentation and alignment fails in the semantics of [3]" (001, section 2.4 (3)). Case i of 01, and
+# its indent outside: there the flag is clear on the way in, inside is 2 on, and outside 1 to 1.
+both("align (indent greater a)", "a4", "1 1 1 clear", "failure", start="1 1", name="case i")
+both("align (indent greater a)", "a1", "failure", "1 1 1 clear", start="1 1")
+alike("indent greater (align a)", "a4", "1 1 1 clear", start="1 1")
+alike("indent greater (align a)", "a1", "failure", start="1 1")
+# The outer indent counts, 1 on, and by 2014 the inner one does not: a5 leaves 0 to 4, by 2017 1 to 4 and then 0 to 3.
+both("indent greater (align (indent greater a))", "a5", "1 0 3 clear", "1 0 4 clear")
+both("indent greater (align (indent greater a))", "a1", "failure", "1 0 0 clear")
+both("align (indent greater (align (indent greater a)))", "a3", "failure", "1 3 3 clear", start="3 6")
+
+# The flag on the way in decides. Set on the way in and cleared by the child: nothing is narrowed on the way out, for "the
+# indentations cancelled because of an alignment do not apply even to the subsequent non-aligned tokens" (001, section
+# 2.4 (3)). By 2017 a5 b5 leaves 3 to 4.
+both("align (indent greater (a b))", "a5 b5", "2 3 4 clear", "2 5 5 clear", start="3 6")
+both("align (indent greater (a b))", "a3 b3", "failure", "2 3 3 clear", start="3 6")
+# The inner indent is met with a clear flag: right of a4 by both. Outside it is 4 to 4; then by 2017 3 to 3.
+both("indent greater (a indent greater b)", "a4 b5", "2 3 3 clear", "2 4 4 clear", start="3 6", flag="set")
+alike("indent greater (a indent greater b)", "a4 b4", "failure", start="3 6", flag="set")
+# What follows, from 3 to 4 by 2017 and from 5 to 5 by 2014: b in it, or right of it.
+both("(indent greater a) b", "a5 b5", "failure", "2 5 5 clear", start="3 6", flag="set")
+both("(indent greater a) b", "a5 b4", "2 4 4 clear", "failure", start="3 6", flag="set")
+both("(indent greater a) indent greater b", "a5 b6", "2 3 4 clear", "2 5 5 clear", start="3 6", flag="set")
+both("(indent greater a) indent greater b", "a5 b4", "2 3 3 clear", "failure", start="3 6", flag="set")
+# Clear on the way in and, by 2014, set by the child: the interval is met with the outer set all the same, and the flag
+# is "as it left it".
+for relation in ("greater", "any", "+2"):
+    both(f"indent {relation} (align empty)", "a3", "0 3 6 clear", "0 3 6 set", start="3 6")
+both("(indent greater (align empty)) indent greater a", "a3", "failure", "1 3 3 clear", start="3 6")
+# Inside is 4 on: a4 leaves 3 to 3 outside, a3 is not there. With a second indent, by 2017 5 on; by 2014 it is passed
+# through: a6 leaves 6 to 6, outside 3 to 5; by 2017 4 to 5 and then 3 to 4.
+alike("indent greater ((align empty) a)", "a4", "1 3 3 clear", start="3 6")
+alike("indent greater ((align empty) a)", "a3", "failure", start="3 6")
+both("indent greater ((align empty) indent greater a)", "a4", "failure", "1 3 3 clear", start="3 6")
+both("indent greater ((align empty) indent greater a)", "a6", "1 3 4 clear", "1 3 5 clear", start="3 6")
+# The child ends with the flag set and something read: a5 leaves 5 to 5, outside 3 to 4.
+both("indent greater (a align empty)", "a5", "1 3 4 clear", "1 3 4 set", start="3 6")
+
+# Starts: a place, the ends of the columns, without end.
+both("indent greater a", "a9 a3", "failure", "1 3 3 clear", start="3 6", flag="set", place=1)
+both("align empty", "a9 a3", "0 0 inf clear", "0 0 inf set", place=2)
+both("indent greater a", "a65535", "failure", "1 65535 65535 clear", start="65535 65535", flag="set")
+both("indent +31 a", "a65535", "failure", "1 65535 65535 clear", start="65535 inf", flag="set")
+both("align empty", "a0", "0 65535 inf clear", "0 65535 inf set", start="65535 inf")
+# Inside is 65536 on. By 2017 any brings it back to 0 on; by 2014 it is passed through, and no token lies there.
+both("indent greater ((align empty) indent any a)", "a65535", "1 65535 inf clear", "failure", start="65535 inf")
+alike("indent greater (indent any a)", "a7", "1 65535 inf clear", start="65535 inf")
+
+# "all else is as before": without an indent under a set flag and an align that reads nothing the readings agree. Cases e,
+# f and g of 01, those of 001 behind Theorem 2.3, the recursions above.
+for flag in ("clear", "set"):
+    alike("empty", "", f"0 0 inf {flag}", flag=flag, name=f"case e, empty, flag {flag}")
+    alike("a", "a5", "1 5 5 clear", start="3 6", flag=flag)
+alike("a (indent greater b / empty)", "a1 b2", "2 1 1 clear", name="case f")
+alike("a (indent greater b / empty)", "a3 b2", "1 3 3 clear", name="case f")
+alike("a indent any b", "a3 b0", "2 3 3 clear", name="case g")
+alike("indent greater (a b)", "a1 b2", "failure", name="case of 001")
+alike("(indent greater a) (indent greater b)", "a1 b2", "2 0 0 clear", name="case of 001")
+alike("X", "a0 a1 a2", "3 0 0 clear", rules=DEEPER)
+alike("X", "a2 a4 b4 b2", "4 2 2 clear", rules=NESTED)
+alike("X", "a0 a2 a2 a4 a1", "4 0 0 clear", rules=OUTLINE)
+alike("X", "a0 a2 a4 a2 a0", "5 0 0 clear", rules=LEVELS)
+alike("D", "d0 a2 a2 d2 a4 a4 a2", "7 0 0 clear", rules=BLOCK)
+# 000, section 4.2: "if we have p^> with I = {1, 2}, then J = {2, 3, 4, ...}".
+alike("indent greater a", "a2", "1 1 1 clear", start="1 2", name="case of 000, section 4.2")
+# 000, section 4.3: every terminal under greater, the blocks `(|alts|*)^>`. From 1 to 1 inside is 2 on. By 2014 the first
+# a of a clause takes its column, and the others lie right of it: a5 a10, then a4 is not at 5. By 2017 a5 leaves 2 to 4,
+# a10 too, and a4 2 to 3.
+CLAUSES = "Y = (indent greater a)+"
+both("indent greater (align Y)*", "a5 a10 a4", "3 1 1 clear", "2 1 1 clear", rules=CLAUSES, start="1 1")
+
+# The largest table: 511 aligns over empty; 511 indents by greater, or by 31, with the flag set.
+for by, flag in (("2017", "clear"), ("2014", "set")):
+    runs(f"511 aligns over empty, by {by}", f"0 0 inf {flag}", over([EMPTY], align), node=511, mode=0, kind=RUN[by])
+for by, answer in (("2017", "failure"), ("2014", "1 4 4 clear")):
+    for said, nodes in (("greater", DEEP), ("+31", STEEP)):
+        runs(f"511 indents by {said} over a, flag set, a4, by {by}", answer, nodes, tokens="a4", node=511, mode=0,
+             flag=True, kind=RUN[by])
+# The most tokens. By 2017 each a7 leaves 0 to 6 outside; by 2014 7 to 7, or the flag set with 0 to 6.
+both(AGAIN, MOST, "4096 0 6 clear", "4096 7 7 clear", name=f"{AGAIN}, 4096 a")
+both(ONWARD, MOST, "4096 0 6 clear", "1 0 6 set", name=f"{ONWARD}, 4096 a")
+both("X", MOST, "4096 0 6 clear", "4096 7 7 clear", rules=AGAIN_RULE, name=f"{AGAIN_RULE}, 4096 a")
+
+# Lists: the readings read other rules, or the same ones. By 2014 a clause is captured for each a at 5, by 2017 one for
+# all.
+both_list("indent greater (align Y)*", "a5 a10 a5 a7", ("4 1 1 clear", "Y 0 4 0"), ("4 1 1 clear", "Y 0 2 0, Y 2 4 0"),
+          rules=CLAUSES, start="1 1")
+both_list("(align empty) (indent greater X / Y)", "a3", ("1 3 3 clear", "Y 0 1 0"), ("1 3 3 clear", "X 0 1 0"),
+          rules="X = a; Y = a", start="3 6")
+both_list("X indent greater Y", "a3", ("failure", ""), ("1 3 3 clear", "X 0 0 0, Y 0 1 0"), rules="X = align empty; Y = a",
+          start="3 6")
+both_list("(align empty) !(indent greater X) Y", "a3", ("1 3 3 clear", "Y 0 1 0"), ("failure", ""), rules="X = a; Y = a",
+          start="3 6")
+both_list("((align empty) indent greater X)*", "a5 a5 a4", ("3 3 3 clear", "X 0 1 0, X 1 2 0, X 2 3 0"),
+          ("2 5 5 clear", "X 0 1 0, X 1 2 0"), rules="X = a", start="3 6")
+both_list("X", "a9 a3", ("1 3 3 clear", "X 1 2 0, Y 1 1 1, Z 1 2 1"), ("1 3 3 clear", "X 1 2 0, Y 1 1 1, Z 1 2 1, W 1 2 2"),
+          rules="X = (align Y) Z; Y = b*; Z = indent greater W / a; W = a", start="3 6", place=1)
+both_list("X", "a0 a1 a2", *[("3 0 0 clear", "X 0 3 0, X 1 3 1, X 2 3 2, X 3 3 3")] * 2, rules=DEEPER)
+lists("X", "equal", "a7 " * 100, "100 7 7 clear", ", ".join(f"X {k} 100 {k}" for k in range(101)), rules=AGAIN_RULE,
+      name=f"{AGAIN_RULE}, 100 a", lents=(0, 403, 404, 500), by="2014")
+
+
+# --- Number 16 (02, Note 5) ----------------------------------------------------------------------
+
+
+def only_2017(label, answer, nodes, rules=(), tokens="a5", **start):
+    """By 2017 a run, by 2014 refused: "16, under 2014 a position node anywhere in the table or a mode other than 0"."""
+    start = {"mode": 0, **start}
+    runs(f"{label}, by 2017", answer, nodes, rules, tokens, **start)
+    refused(f"{label}, by 2014", 16, nodes, rules, tokens, kind="R", **start)
+
+
+def either(label, answer, nodes, rules=(), tokens="a5", **start):
+    """The same run by each reading, in mode equal."""
+    for by in ("2017", "2014"):
+        runs(f"{label}, by {by}", answer, nodes, rules, tokens, mode=0, kind=RUN[by], **start)
+
+
+# "anywhere in the table". Position greater over a leaves 0 to 4; a by itself 5 to 5.
+POSITION = [A, position(0)]
+only_2017("a position as the start node", "1 0 4 clear", POSITION, node=1)
+only_2017("a position below the start node", "1 5 5 clear", [*POSITION, align(1)], node=2)
+only_2017("a position that is not reached", "1 5 5 clear", POSITION)
+only_2017("a position in the alternative not tried", "1 5 5 clear", [*POSITION, choice(0, 1)], node=2)
+only_2017("a position in a rule", "1 0 4 clear", [*POSITION, rule(0)], [1], node=2)
+only_2017("a position in a rule not used", "1 5 5 clear", POSITION, [1])
+only_2017("a position in a rule not used, flag set", "1 5 5 clear", POSITION, [0, 1, 0], flag=True)
+only_2017("a position where the run fails", "failure", POSITION, tokens="b5")
+only_2017("a position without a token", "failure", POSITION, tokens="")
+only_2017("a position where nothing is read", SAME, [EMPTY, position(0)])
+only_2017("511 positions", "1 0 4 clear", over([A], position), node=511)
+for number in (1, 511):
+    nodes = [A] + [EMPTY] * 511
+    nodes[number] = position(0)
+    only_2017(f"node {number} of 512 a position", "1 5 5 clear", nodes)
+for relation in (0, 3, 34):
+    only_2017(f"a position by {relation} that is not reached", "1 5 5 clear", [A, position(0, relation)])
+# Other nodes pass, and so does an 8, the kind of a position, in another word: a terminal, a rule, a child, a relation.
+either("an indent in a position's place", "1 5 5 clear", [A, indent(0)])
+EIGHT = [terminal(8)] * 9
+either("8 in every other word", "1 5 5 clear", [*EIGHT, rule(8), sequence(8, 8), indent(8, 8), repeat(8)], [8] * 9,
+       [8, 5, 8, 8], node=8)
+# "a mode other than 0": 1 to 34, whatever the run does. From 35 on the mode is 12.
+either("mode 0", "1 5 5 clear", [A])
+for mode, answer in ((1, "1 0 4 clear"), (2, "1 0 5 clear"), (3, "1 0 inf clear"), (4, "1 4 4 clear"), (34, "failure")):
+    only_2017(f"mode {mode}, a5", answer, [A], mode=mode)
+for mode in (1, 34):
+    only_2017(f"mode {mode}, flag set, a5", "1 5 5 clear", [A], mode=mode, flag=True)
+    only_2017(f"mode {mode}, empty", SAME, [EMPTY], mode=mode)
+for mode in (35, 65535):
+    for said, nodes in (("a", [A]), ("with a position", POSITION)):
+        refused(f"mode {mode}, {said}, by 2014", 12, nodes, tokens="a5", mode=mode, kind="R")
+
+# "after 12 and before 13": each number before 16, with a position and with a mode, in a run and in a list.
+for number, said, call in (
+    (3, "513 nodes", {"nodes": [A, position(0)] + [EMPTY] * 511}),
+    (4, "kind 10", {"nodes": [A, position(0), KIND_10]}),
+    (5, "a bad rule node", {"nodes": [A, position(0)], "rules": [2]}),
+    ("7 2", "a repeat of empty", {"nodes": [A, EMPTY, repeat(1), position(0)]}),
+    (11, "3 token words", {"nodes": [A, position(0)], "tokens": [0] * 3}),
+    (12, "interval 5 to 4", {"nodes": [A, position(0)], "lower": 5, "upper": 4}),
+    (12, "start node 2 of 2", {"nodes": [A, position(0)], "node": 2}),
+    (12, "place 2 of 1 token", {"nodes": [A, position(0)], "place": 2}),
+):
+    call = {"rules": (), "tokens": "a5", "mode": 1, **call}
+    label = f"{said}, a position and mode 1"
+    record(f"{label}, by 2014", line=f"refused {number}", kind="R", **call)
+    unlisted(f"{label}, 4 words, by 2014", f"refused {number}", 4, kind="L", **call)
+# 16 before 13: rule 0 is a, one capture, which takes four words; "Nothing is written."
+for said, call, listing in (
+    ("a position", {"nodes": [A, rule(0), position(0)], "mode": 0}, "1 5 5 clear"),
+    ("mode 1", {"nodes": [A, rule(0)], "mode": 1}, "1 0 4 clear"),
+):
+    call = {"rules": [0], "tokens": "a5", "node": 1, **call}
+    listed(f"16 and 13, {said}, by 2017", listing, [(0, 0, 1, 0)], (3, 4), **call)
+    for lent in (0, 3, 4, 16500):
+        unlisted(f"16 and 13, {said}, by 2014, {lent} words", "refused 16", lent, kind="L", **call)
+
+# Families: none, each fault, every two and all, in the order of 2014, 16 before 13. In the late ones 16 is a position at
+# the end of the table, in the early ones a mode. With none a at 5 in mode equal leaves 5 to 5. The lists are those with
+# 16, that with 13 alone and that with none.
+FIVE = {"answer": "1 5 5 clear"}
+for chosen in faults.few(3, 4, 5, 7, 11, 12, 16):
+    tokens = token_words("a5") + ([1, 1, 1] if 11 in chosen else [])
+    table = faults.late_table(chosen, position(1) if 16 in chosen else indent(1))
+    ordered("by 2014, late", chosen, 0, table, tokens, kind="R", mode=35 if 12 in chosen else 0, **FIVE)
+    tokens = [1, 5, 0, 0, 256 if 11 in chosen else 2, 0, 0, 0]
+    ordered("by 2014, early", chosen, 2, faults.early_table(chosen, 1), tokens, kind="R", node=3 if 12 in chosen else 2,
+            mode=1 if 16 in chosen else 0, **FIVE)
+for chosen in faults.few(3, 4, 5, 7, 11, 12, 16, 13):
+    if 16 in chosen or chosen in ((), (13,)):
+        tokens = token_words("a5") + ([1, 1, 1] if 11 in chosen else [])
+        table = faults.late_table(chosen, rule(0), position(1) if 16 in chosen else indent(1))
+        ordered_list("by 2014, late", chosen, 0, table, tokens, kind="L", node=2, mode=35 if 12 in chosen else 0, **FIVE)
+        tokens = [1, 5, 0, 0, 256 if 11 in chosen else 2, 0, 0, 0]
+        ordered_list("by 2014, early", chosen, 2, faults.early_table(chosen, 1, rule(0)), tokens, kind="L",
+                     node=4 if 12 in chosen else 3, mode=1 if 16 in chosen else 0, **FIVE)
 
 
 if __name__ == "__main__":

@@ -7,6 +7,9 @@ the comment above a run gives the steps. "l..h" is an interval, "l.." has no upp
 "flag: i..i" is a terminal under a set flag; "in" and "out" are an indent's way in and way out.
 
 Runs are written as README.md says; the laws of 001 and the comments keep to the papers' signs.
+
+`run_2014` makes a run by the reading of 000 (02, Note 5). In its steps "passed" is an indent under a set flag, which
+changes nothing.
 """
 
 import grammar_fields
@@ -22,14 +25,19 @@ FILES = []  # the label and the grammar file of each report
 
 
 def run(label, source, shows, expected, start, tokens="", rules="", names="a b c d e",
-        low=0, high=None, flag=0, mode=EQUAL, place=0):
+        low=0, high=None, flag=0, mode=EQUAL, place=0, kind="r"):
     """A run of a table, whose terminals are the names, from 0 on. Tokens are a name and a column: `a2 b3`."""
     terminals = numbered(names.split())
     table = Table(written_rules(rules, terminals), written(start, terminals), once=True)
     words = [w for k, (name, column) in enumerate(named_columns(tokens)) for w in (terminals[name], column, k, 1)]
     parts = wide(2, *flat(table.nodes)), wide(2, *table.rules), wide(4, *words)
-    record(label, source, shows, expected, "r", parts,
+    record(label, source, shows, expected, kind, parts,
            node=table.start, place=place, lower=low, upper=high, flag=flag, mode=mode)
+
+
+def run_2014(label, *row, **more):
+    """The same by the reading of 2014: in mode equal and without positions, which it does not have (16)."""
+    run(f"{label} by 2014", *row, kind="R", **more)
 
 
 def report(label, source, shows, expected, keywords, start, text, rules="", mode=GREATER):
@@ -68,6 +76,9 @@ def page():
         "`position R p` and `|p|` is `align p`; for R, `=` is `equal`, `>` is `greater`, `>=` is `at-least`, and `any` is "
         "the same. The other runs are in the notation of the handbook, with letters for keywords.",
         "",
+        "A run whose label ends in `by 2014` is by the reading of 000, in mode equal and without positions: where 000 gives "
+        "a terminal a relation, an indent stands at it. All others are by the reading of 001.",
+        "",
         "| label | source | what it shows | expected |",
         "|---|---|---|---|",
         *[f"| {row} |" for row in rows],
@@ -98,7 +109,13 @@ NOTES = [
     "000 figures 4, 7 and 8 and the productions of suite and block are lost; the prose gives them. alts "
     "here has at least one alternative, else its repeat is refused.",
     "000 sections 3.1 and 3.2: > at each terminal became mode greater, since under 001 an indent at an "
-    "aligned terminal moves its baseline. `000 4.3 indented terminals by 001` keeps the 2014 form.",
+    "aligned terminal moves its baseline. The runs by 2014 and the two `.. indented terminals by 001` keep the 2014 form.",
+    "000 sections 2.1 and 5.1, by 2014: mode any became an indent by any at each terminal.",
+    "000 sections 3.1 and 3.2, by 2014: the line that the program prints is by 001, so the report texts are token lists "
+    "there, with the columns of the texts. The list over lines stands one column further right, since under greater no "
+    "token could stand at column 0.",
+    "001 section 2.4: the runs with a position have no 2014 form. Those in another mode than equal got an indent at the "
+    "token, or mode equal.",
     "000 section 3.2, 002 and 003: inside brackets and braces the mode is at-least (or any), since in mode "
     "greater no token could stand at column 0.",
     "All report texts: each line ends in a token; the grammars read it in mode any, and where the paper's "
@@ -683,6 +700,49 @@ run("001 2.4 position over an aligned block", "001 section 2.4 (3)", "align over
 run("001 2.4 position after the aligned token", "001 section 2.4 (3)", "position holds for the next token", "failure",
     "position greater (align (a b))", "a5 b5")
 
+# The last two differences, by both readings: the mode is equal, and a stands under greater by an indent.
+STAYS = "(align (b / empty)) indent greater a"
+# The flag is clear again: in 1.., a5 5..5, out N with 0..4 = 0..4.
+run("001 2.4 indent after an empty align", "001 section 2.4 (2)", "the flag is restored", "success 1 0 4 clear",
+    STAYS, "a5")
+# The flag stays set: passed, a5 5..5.
+run_2014("001 2.4 indent after an empty align", "001 section 2.4 (2)", "the flag remains true", "success 1 5 5 clear",
+         STAYS, "a5")
+# By both the flag is set at the indent. In 1.., flag: a5 5..5, out 0..4. Passed: 5..5.
+run("001 2.4 indent after an empty align with flag", "001 section 2.4 (3)", "an indent under the flag counts",
+    "success 1 0 4 clear", STAYS, "a5", flag=1)
+run_2014("001 2.4 indent after an empty align with flag", "001 section 2.4 (3)", "an indent under the flag is neglected",
+         "success 1 5 5 clear", STAYS, "a5", flag=1)
+# The align reads nothing, and the run ends: clear and set is clear; as the child left it is set.
+run("001 2.4 empty align at the end", "001 section 2.4 (2)", "the flag is restored", "success 0 2 6 clear",
+    "align !b", "a9", low=2, high=6)
+run_2014("001 2.4 empty align at the end", "001 section 2.4 (2)", "the flag is never changed at the end of |p|",
+         "success 0 2 6 set", "align !b", "a9", low=2, high=6)
+# "Distributivity of indentation and alignment fails in the semantics of [3]". |p|^>: in 2.., flag: a4 4..4, b4 4..4, out
+# 1..1 with 0..3 = 1..1. |p^>|: passed, 4 is not in 1..1; a1 is, b1 too.
+INSIDE, OUTSIDE = "align (indent greater (a b))", "indent greater (align (a b))"
+run_2014("001 2.4 indent over align", "001 section 2.4 (3)", "|p|^> from 1 to 1", "success 2 1 1 clear",
+         OUTSIDE, "a4 b4", low=1, high=1)
+run_2014("001 2.4 align over indent", "001 section 2.4 (3)", "|p^>| is not |p|^>", "failure",
+         INSIDE, "a4 b4", low=1, high=1)
+run_2014("001 2.4 indent over align at the baseline", "001 section 2.4 (3)", "|p|^>, a at the baseline", "failure",
+         OUTSIDE, "a1 b1", low=1, high=1)
+run_2014("001 2.4 indent under align", "001 section 2.4 (3)", "an indent inside align is neglected", "success 2 1 1 clear",
+         INSIDE, "a1 b1", low=1, high=1)
+# "the indentations cancelled because of an alignment do not apply even to the subsequent non-aligned tokens". In 2..,
+# flag: a2 2..2, b2, out 1.. with 0..1 = 1..1. Passed: a2 2..2, b2 2..2.
+run("001 2.4 tokens behind the aligned one", "001 section 2.4 (3)", "the indent is for b too", "success 2 1 1 clear",
+    INSIDE, "a2 b2", low=1)
+run_2014("001 2.4 tokens behind the aligned one", "001 section 2.4 (3)", "the cancelled indent is not for b either",
+         "success 2 2 2 clear", INSIDE, "a2 b2", low=1)
+# The do blocks of section 1. do^>: in 1.., do1 1..1, out 0..0. In 1.., flag: do^> passed, do3 3..3; in 4.., flag: s5 5..5;
+# do^> passed, 4 is not in 5..5; out 3..3 with 0..4 = 3..3. do4: passed, not in 3..3: the block ends. Out 0..0 with 0..2.
+run_2014("001 2.4 indented do under align", "001 sections 1 and 2.4 (3)", "the nested do must align",
+         "success 3 0 0 clear", "doexp", "do1 do3 s5 do4 s6", DO, DO_NAMES)
+# As before up to 3..3; do3: passed, in 3..3; in 4.., flag: s6 6..6, out 3..3 with 0..5. Out 0..0.
+run_2014("001 2.4 indented do aligned", "001 sections 1 and 2.4 (3)", "an aligned nested do goes on",
+         "success 5 0 0 clear", "doexp", "do1 do3 s5 do3 s6", DO, DO_NAMES)
+
 # ---- 001, section 3: elimination of alignment and position ----
 
 ORIGINAL = "A = !!c / a / B; B = b indent greater (align (A A))"
@@ -789,6 +849,13 @@ run("000 2.1 right recursion", "000 section 2.1, the basic idea", "A = a A / b",
 run("000 2.1 right recursion without end", "000 section 2.1, the basic idea", "A = a A / b without b", "failure",
     "A", "a0 a1", "A = a A / b", mode=ANY)
 
+# By 2014 each terminal under any: in N, i..i, out N.
+ANYWHERE = "A = (indent any a) A / indent any b"
+run_2014("000 2.1 right recursion", "000 section 2.1, the basic idea", "A = a A / b", "success 3 0 inf clear",
+         "A", "a0 a1 b2", ANYWHERE)
+run_2014("000 2.1 right recursion without end", "000 section 2.1, the basic idea", "A = a A / b without b", "failure",
+         "A", "a0 a1", ANYWHERE)
+
 # A = ( '(' A^> ')' / '['^>= A^> ']'^>= )*; the star is lost in the text ("^{1/2}"), the words of figure 2
 # need it.
 BRACKET_NAMES = "( ) [ ]"
@@ -815,6 +882,19 @@ run("000 2.2 contents not indented", "000 section 2.2, the bracket grammar", "co
 # B is the terminal a: a2 2..2, a2 in it, a3 not.
 run("000 2.2 repeat at one column", "000 section 2.2, the simple example", "A = B*", "success 2 2 2 clear",
     "B*", "a2 a2 a3", "B = a")
+# By 2014 the same: no flag is ever set, so that every indent counts. eof is a not under any: in N, ( is found.
+run_2014("000 2.2 first word of figure 2", "000 section 2.2, figure 2", "indented brackets", "success 6 1 1 clear",
+         "A", "(1 [4 (5 )5 ]7 )1", BRACKETS, BRACKET_NAMES)
+run_2014("000 2.2 second word of figure 2", "000 section 2.2, figure 2", "indented brackets",
+         "success 10 1 1 clear", "A", "(1 [8 (6 )6 [8 ]9 ]4 (3 )3 )1", BRACKETS, BRACKET_NAMES)
+run_2014("000 2.2 parentheses not aligned", "000 section 2.2, the bracket grammar", "a failed round reads nothing",
+         "success 0 0 inf clear", "A", "(1 )2", BRACKETS, BRACKET_NAMES)
+run_2014("000 5.2 parentheses not aligned with eof", "000 sections 2.2 and 5.2", "eof under any finds the rest", "failure",
+         'A indent any !("(" / ")" / "[" / "]")', "(1 )2", BRACKETS, BRACKET_NAMES)
+run_2014("000 2.2 contents not indented", "000 section 2.2, the bracket grammar",
+         "contents must be right of the parentheses", "success 0 0 inf clear", "A", "(1 [1 ]1 )1", BRACKETS, BRACKET_NAMES)
+run_2014("000 2.2 repeat at one column", "000 section 2.2, the simple example", "A = B*", "success 2 2 2 clear",
+         "B*", "a2 a2 a3", "B = a")
 
 # ---- 000, sections 3.1 and 4.3: case ----
 
@@ -852,6 +932,27 @@ INDENTED = {
 run("000 4.3 indented terminals by 001", "000 section 4.3 and 001 section 2.4 (3)",
     "the 2014 grammar under the 2017 clauses takes Right too", "success 8 1 1 clear",
     "case", "case3 id8 of10 id5 id10 ->12 id15 id4", INDENTED, CASE_NAMES, low=1, high=1)
+# By 2014, as figure 7 has it. case3, x8, of10: in 2.., i..i, out 1..1. { fails at id. In 2.., flag: id^> passed, Left5
+# 5..5; y10, ->12, y15: in 6.., i..i, out 5..5; Right4 is not in 6... Again the flag: passed, 4 is not in 5..5. Out 1..1
+# with 0..4 = 1..1. 7 read.
+run_2014("000 4.3 derivation", "000 section 4.3, figure 7", "Right at 4 ends the alternatives that began at 5",
+         "success 7 1 1 clear", "case", "case3 id8 of10 id5 id10 ->12 id15 id4", INDENTED, CASE_NAMES, low=1, high=1)
+# Right5 is not in 6.., but under the flag in 5..5; z11, ->13, z16: in 6.., out 5..5.
+run_2014("000 4.3 aligned alternatives", "000 section 4.3", "Right at 5 begins the second alternative",
+         "success 11 1 1 clear", "case", "case3 id8 of10 id5 id10 ->12 id15 id5 id11 ->13 id16", INDENTED, CASE_NAMES,
+         low=1, high=1)
+# {12: in 2.., out 1..1. any: in N: Left4: in 1.., 4..4, out 0..3; y9, ->11, y14 keep it; ;2: in 1.., out 0..1; Right1:
+# in 1.., out 0..0; z7, ->9, z12 keep it; out 1..1 with N. }0: in N, 0..0, out 1..1.
+run_2014("000 3.1 explicit braces", "000 section 3.1.2, eAlts", "braces free the contents and the closing brace",
+         "success 14 1 1 clear", "case", "case3 id8 of10 {12 id4 id9 ->11 id14 ;2 id1 id7 ->9 id12 }0", INDENTED,
+         CASE_NAMES, low=1, high=1)
+# {0 is not in 2..; iAlts: in 2.., no round, out 1..1. The failed round's flag is gone.
+run_2014("000 3.1 opening brace too far left", "000 section 3.1.2, eAlts", "the opening brace keeps to greater",
+         "success 3 1 1 clear", "case", "case3 id8 of10 {0 id2 ->4 id6 }0", INDENTED, CASE_NAMES, low=1, high=1)
+# {0: in N, out 1..1. any: in N: id2: in 1.., out 0..1; ->4, id6 keep it; out 1..1; }0.
+run_2014("000 3.1 relaxed layout", "000 section 3.1.2, RelaxedLayout", "an opening brace at any column",
+         "success 8 1 1 clear", "case", "case3 id8 of10 {0 id2 ->4 id6 }0",
+         dict(INDENTED, eAlts='(indent any "{") (indent any alts) (indent any "}")'), CASE_NAMES, low=1, high=1)
 # {12 right of 1. any: in N: Left4 0..3, y9, ->11, y14, ;2 0..1, Right1 0..0, z7, ->9, z12; out 1..1. }0
 # in mode any: 1..1.
 run("000 3.1 explicit braces", "000 section 3.1.2, eAlts", "braces free the contents and the closing brace",
@@ -869,6 +970,10 @@ run("000 3.1 relaxed layout", "000 section 3.1.2, RelaxedLayout", "an opening br
 run("000 3.1 alternatives that may be empty", "000 section 3.1.2, side condition of case",
     "a repeat of something that may read nothing", "refused 7 9", "indent greater (align alts)*", "id3",
     {"alts": '"id"? (";" "id"?)*'}, CASE_NAMES, mode=GREATER)
+# The same table; well-formedness asks for no reading.
+run_2014("000 3.1 alternatives that may be empty", "000 section 3.1.2, side condition of case",
+         "a repeat of something that may read nothing", "refused 7 9", "indent greater (align alts)*", "id3",
+         {"alts": '"id"? (";" "id"?)*'}, CASE_NAMES)
 
 # ---- 000, section 4.2 and 5.1 ----
 
@@ -881,9 +986,24 @@ run("000 4.2 b left of a", "000 section 4.2, biased choice", "a (indent greater 
 # In 2.., a2 2..2, out 1..2 with 0..1 = 1..1.
 run("000 4.2 indentation set 1 and 2", "000 section 4.2, indentation and absolute alignment", "indent greater p from 1 to 2",
     "success 1 1 1 clear", "indent greater a", "a2", low=1, high=2)
+# By 2014 the same three: no flag is set.
+run_2014("000 4.2 b right of a", "000 section 4.2, biased choice", "a (indent greater b / empty)", "success 2 1 1 clear",
+         "a (indent greater b / empty)", "a1 b2")
+run_2014("000 4.2 b left of a", "000 section 4.2, biased choice", "a (indent greater b / empty)", "success 1 3 3 clear",
+         "a (indent greater b / empty)", "a3 b2")
+run_2014("000 4.2 indentation set 1 and 2", "000 section 4.2, indentation and absolute alignment",
+         "indent greater p from 1 to 2", "success 1 1 1 clear", "indent greater a", "a2", low=1, high=2)
+# "we must not change the current indentation set": under the flag a1 lies in 1..2, 1..1, and a3 does not.
+run_2014("000 4.2 indentation set 1 and 2 with flag", "000 section 4.2, indentation and absolute alignment",
+         "in absolute mode the relation is ignored", "success 1 1 1 clear", "indent greater a", "a1", low=1, high=2, flag=1)
+run_2014("000 4.2 indentation set 1 and 2 with flag failing", "000 section 4.2, indentation and absolute alignment",
+         "in absolute mode the relation is ignored", "failure", "indent greater a", "a3", low=1, high=2, flag=1)
 # a b fails at c, the second alternative starts again at a.
 run("000 5.1 backtracking", "000 section 5.1, continuations", "a b / a c on a c", "success 2 0 inf clear",
     "a b / a c", "a0 c1", mode=ANY)
+# By 2014 each terminal under any, and N stays.
+run_2014("000 5.1 backtracking", "000 section 5.1, continuations", "a b / a c on a c", "success 2 0 inf clear",
+         "(indent any a) (indent any b) / (indent any a) (indent any c)", "a0 c1")
 
 # ---- 000 as report texts. Terminal 0 number, 1 word, 2 line end, 3 on keywords ----
 
@@ -941,6 +1061,67 @@ report("000 3.1 processes indented by two", "000 section 3.1, footnote on occam"
 # SKIP3 is not in 2..2, and a SEQ needs one process.
 report("000 3.1 process indented by three", "000 section 3.1, footnote on occam", "a process one column too far", "failure",
        "SEQ SKIP", "align process", "SEQ\n   SKIP\n", OCCAM)
+
+# ---- The same by 2014, as token lists ----
+
+# Every terminal under greater, as 000 says of Haskell and Python, and the line end, nl, under any. Under the flag the
+# greater of the first token is passed, so that it may stand at column 0.
+LETS_2014 = {
+    "exp": '(indent greater "let") (indent greater (align ((indent greater "id") (indent greater "=") exp))+) '
+           '(indent greater "in") exp / (indent greater "do") indent greater (align stmts)+ / indent greater "id"',
+    "stmts": 'exp ((indent greater ";") exp)*',
+}
+LETS_NAMES = "let = do ; in id"
+LETS_TOKENS = "let0 id4 =6 do8 id11 ;12 id14 in16 id19"
+# flag: passed, let0 0..0; in 1.., flag: passed, x4 4..4; =6, do8: in 5.., out 4..4; in 5.., flag: passed, f11 11..11;
+# ;12, g14: in 12.., out 11..11; in is no exp: out 4..4 with 0..10; no further x; out 0..0 with 0..3; in16, x19: in 1..,
+# out 0..0. 9 read.
+run_2014("000 3.1 let with do", "000 section 3.1.1, do on one line", "the do block ends at in without an oracle",
+         "success 9 0 0 clear", "align exp", LETS_TOKENS, LETS_2014, LETS_NAMES)
+# By 001 the greater of let counts: in 1.. has no 0, and let is no do and no id.
+run("000 3.1 let indented terminals by 001", "000 section 3.1.1 and 001 section 2.4 (3)",
+    "by 001 no aligned line can stand at column 0", "failure", "align exp", LETS_TOKENS, LETS_2014, LETS_NAMES)
+
+PYTHON_2014 = {
+    "statement": '(indent greater "while") (indent greater "id") (indent greater ":") suite / simple',
+    "simple": '(indent greater "id") (indent greater "=") (indent greater "num" / atom) indent any "nl"',
+    "suite": '(indent any "nl") (indent greater (align statement)+) / simple',
+    "atom": '(indent greater "[") (indent any listmaker) (indent any "]")',
+    "listmaker": '(indent greater "num") ((indent greater ",") (indent any "nl")? indent greater "num")*',
+}
+PYTHON_NAMES = "while : = [ ] , id num nl"
+
+
+def python_2014(label, source, shows, expected, tokens):
+    """A program by 2014, from its tokens."""
+    run_2014(label, source, shows, expected, PROGRAM, tokens, PYTHON_2014, PYTHON_NAMES)
+
+
+# flag: passed, while0 0..0; x6, :7: in 1.., out 0..0; nl8: in N, out 0..0. In 1.., flag: passed, y4 4..4; =6, num8: in
+# 5.., out 4..4; nl. flag: passed, z4 in 4..4, and so on; w0 is not. Out 0..0 with 0..3; flag: w0 in 0..0. 16 read.
+python_2014("000 3.2 while block", "000 section 3.2.2, while_stmt and suite", "a block, then a line at the margin",
+            "success 16 0 0 clear", "while0 id6 :7 nl8 id4 =6 num8 nl9 id4 =6 num8 nl9 id0 =2 num4 nl5")
+# z2 is neither in 4..4 nor in 0..0. 4 + 4 read.
+python_2014("000 3.2 while block badly dedented", "000 section 3.2.2, suite", "a line between two baselines is left over",
+            "success 8 0 0 clear", "while0 id6 :7 nl8 id4 =6 num8 nl9 id2 =4 num6 nl7")
+# y0: passed, not in 1..; simple does not begin with nl.
+python_2014("000 3.2 while body not indented", "000 section 3.2.2, suite", "the block must be indented", "failure",
+            "while0 id6 :7 nl8 id0 =2 num4 nl5")
+# y9, =11, num13: in 1.., out 0..0.
+python_2014("000 3.2 while on one line", "000 section 3.2.2, suite", "the second form of suite", "success 7 0 0 clear",
+            "while0 id6 :7 id9 =11 num13 nl14")
+# flag: passed, x1 1..1; =3, [5: in 2.., out 1..1. any: in N: num6: in 1.., out 0..5; ,7 keeps it; nl; num1: in 1.., out
+# 0..0; ,2, nl, num3; out 1..1 with N; ]4, nl. flag: y1 in 1..1. 12 + 4 read.
+python_2014("000 3.2 list over lines", "000 section 3.2.2, atom", "brackets free the columns of their contents",
+            "success 16 1 1 clear", "id1 =3 [5 num6 ,7 nl8 num1 ,2 nl3 num3 ]4 nl5 id1 =3 num5 nl6")
+
+OCCAM_2014 = {"process": '"SEQ" (indent any "nl") (indent +2 (align process)+) / "SKIP" indent any "nl"'}
+# The steps are those of the report: each indent stands behind a token, where the flag is clear.
+run_2014("000 3.1 processes indented by two", "000 section 3.1, footnote on occam",
+         "each level exactly two columns further", "success 8 0 0 clear", "align process",
+         "SEQ0 nl3 SKIP2 nl6 SEQ2 nl5 SKIP4 nl8", OCCAM_2014, "SEQ SKIP nl")
+run_2014("000 3.1 process indented by three", "000 section 3.1, footnote on occam", "a process one column too far",
+         "failure", "align process", "SEQ0 nl3 SKIP3 nl7", OCCAM_2014, "SEQ SKIP nl")
 
 
 # ---- 002 (Burreau 2023) ----

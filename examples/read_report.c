@@ -1,9 +1,10 @@
 /* Reads a report and prints the names that the grammar has, the outcome and, as a tree, what each rule read.
  *
- *     read_report GRAMMAR REPORT
+ *     read_report GRAMMAR REPORT [--by-2014]
  *
  * A line of the tree is `NAME LINE:COLUMN TEXT`, both counted from 1, with the text up to its first line break, or `NAME -`
- * if the rule read no token. Before it stand two blanks for each rule around it.
+ * if the rule read no token. Before it stand two blanks for each rule around it. With --by-2014 the report is read by the
+ * rules of 2014, for data sets that were read so; otherwise by those of 2017.
  */
 #include <stdio.h>
 #include <stdlib.h>
@@ -22,9 +23,10 @@ static uint8_t file[MOST], report[MOST];
 static uint16_t nodes[SAKTROUM_NODE_WORDS], rules[SAKTROUM_RULE_WORDS];
 static uint32_t tokens[SAKTROUM_TOKEN_WORDS], *captures;
 
-/* How many bytes there are to read, and afterwards the exit status. */
+/* How many bytes there are to read and by which rules, and afterwards the exit status. */
 struct reading {
     size_t file_bytes, report_bytes;
+    bool by_2014;
     int status;
 };
 
@@ -59,7 +61,9 @@ static const char *const advice[] = {
     [SAKTROUM_REFUSED_TOKENS] = "lend the tokens as a scan wrote them",
     [SAKTROUM_REFUSED_START] = "look at the start: its node, place, interval and mode",
     [SAKTROUM_REFUSED_CAPTURE_ROOM] = "split the report, or name fewer rules: the list of what they read is too long",
-    [SAKTROUM_REFUSED_CAPTURE] = "lend the capture as a list wrote it, with the report and the tokens of that run"};
+    [SAKTROUM_REFUSED_CAPTURE] = "lend the capture as a list wrote it, with the report and the tokens of that run",
+    [SAKTROUM_REFUSED_READING] = "by 2014 there is no position (`end` is one) and only mode equal: rewrite it, or read by 2017"
+};
 
 static int refused(const char *part, uint32_t answer)
 {
@@ -95,14 +99,15 @@ static void lend_captures(size_t words)
 }
 
 /* Runs the file's start from token 0, interval 0 without end, flag clear. (saktroum_run does it without the captures.) */
-static uint32_t run(const size_t read[5], size_t token_words, size_t ran[7])
+static uint32_t run(const size_t read[5], size_t token_words, bool by_2014, size_t ran[7])
 {
     uint32_t answer = SAKTROUM_REFUSED_CAPTURE_ROOM;
     for (size_t words = SAKTROUM_TOKEN_WORDS; answer == SAKTROUM_REFUSED_CAPTURE_ROOM && words <= MOST_CAPTURE_WORDS;
          words *= 2) {
         lend_captures(words);
         answer = saktroum_list(nodes, read[0] * 4, rules, read[1], tokens, token_words,
-                               (uint16_t)read[3], 0, 0, 0, true, false, (uint16_t)read[4], captures, words, ran);
+                               (uint16_t)read[3], 0, 0, 0, true, false, (uint16_t)read[4], by_2014,
+                               captures, words, ran);
     }
     return answer;
 }
@@ -138,7 +143,7 @@ static int print_entries(size_t file_bytes, size_t report_bytes, size_t token_wo
     return 0;
 }
 
-static int read_report(size_t file_bytes, size_t report_bytes)
+static int read_report(size_t file_bytes, size_t report_bytes, bool by_2014)
 {
     size_t read[5], count[1], ran[7];
     uint32_t answer;
@@ -152,7 +157,7 @@ static int read_report(size_t file_bytes, size_t report_bytes)
     if ((answer = saktroum_scan(file, file_bytes, report, report_bytes, tokens, SAKTROUM_TOKEN_WORDS, count)))
         return refused("scan", answer);
     printf("scan: %zu tokens\n", count[0]);
-    if ((answer = run(read, count[0] * 4, ran)))
+    if ((answer = run(read, count[0] * 4, by_2014, ran)))
         return refused("run", answer);
     if (!ran[0]) {
         puts("run: failure");
@@ -165,16 +170,17 @@ static int read_report(size_t file_bytes, size_t report_bytes)
 static void work(void *argument)
 {
     struct reading *it = argument;
-    it->status = read_report(it->file_bytes, it->report_bytes);
+    it->status = read_report(it->file_bytes, it->report_bytes, it->by_2014);
 }
 
 int main(int argc, char **argv)
 {
-    if (argc != 3) {
-        fprintf(stderr, "usage: read_report GRAMMAR REPORT\n");
+    bool by_2014 = argc == 4 && !strcmp(argv[3], "--by-2014");
+    if (argc != 3 && !by_2014) {
+        fprintf(stderr, "usage: read_report GRAMMAR REPORT [--by-2014]\n");
         return 2;
     }
-    struct reading it = {load(argv[1], file), load(argv[2], report), 2};
+    struct reading it = {load(argv[1], file), load(argv[2], report), by_2014, 2};
     /* A run may need more stack than a program usually has. */
     int error = saktroum_with_stack(work, &it);
     if (error)

@@ -1,7 +1,7 @@
 #!/usr/bin/env python3
 """Reads a report through ctypes and prints the grammar's names, the outcome and, as a tree, what each rule read.
 
-    python3 examples/read_report.py LIBRARY GRAMMAR REPORT [--json]
+    python3 examples/read_report.py LIBRARY GRAMMAR REPORT [--json] [--by-2014]
 
 A line of the tree is `NAME LINE:COLUMN TEXT`, both counted from 1, with the text up to its first line break, or `NAME -`
 if the rule read no token. Before it stand two blanks for each rule around it.
@@ -9,6 +9,8 @@ if the rule read no token. Before it stand two blanks for each rule around it.
 With --json only JSON lines are printed, one an entry: its number, from 0 on, the name of its rule, its first and last
 line, its whole text, and the number of the entry around it or null. If it read no token, both lines are null and the text
 is empty. A failure has no entries, and then ends the program with status 1.
+
+With --by-2014 the report is read by the rules of 2014, for data sets that were read so; otherwise by those of 2017.
 """
 
 import concurrent.futures
@@ -50,6 +52,7 @@ ADVICE = {
     12: "look at the start: its node, place, interval and mode",
     CAPTURE_ROOM: "split the report, or name fewer rules: the list of what they read is too long",
     14: "lend the capture as a list wrote it, with the report and the tokens of that run",
+    16: "by 2014 there is no position (`end` is one) and only mode equal: rewrite it, or read by 2017",
 }
 
 
@@ -108,9 +111,10 @@ def scan(reader, file, report):
     return (tokens, c_size_t(count[0] * 4)), count[0]
 
 
-def run(reader, table, tokens, node, mode):
+def run(reader, table, tokens, node, mode, by_2014):
     """The words of a run from token 0, interval 0 without end, flag clear, and its captures, four words each."""
     start = (c_uint16(node), c_uint32(0), c_uint32(0), c_uint32(0), c_bool(True), c_bool(False), c_uint16(mode))
+    start += (c_bool(by_2014),)
     ran, words = (c_size_t * 7)(), TOKEN_WORDS
     while True:
         captures = (c_uint32 * words)()
@@ -161,7 +165,7 @@ def print_json(listed):
         within.append(number)
 
 
-def read_report(library, grammar, report, as_json):
+def read_report(library, grammar, report, as_json, by_2014):
     reader = loaded(library)
     file, report = (given(pathlib.Path(path).read_bytes(), c_uint8) for path in (grammar, report))
     table, (_, rule_count, keyword_count, *start) = read_grammar(reader, file)
@@ -171,7 +175,7 @@ def read_report(library, grammar, report, as_json):
         print("keywords:", *names(reader.saktroum_keyword, file, keyword_count))
     passed(reader.saktroum_check(*table), "check")
     tokens, count = scan(reader, file, report)
-    ran, captures = run(reader, table, tokens, *start)
+    ran, captures = run(reader, table, tokens, *start, by_2014)
     if as_json and not ran[0]:
         sys.exit("failure")
     if not as_json:
@@ -180,15 +184,15 @@ def read_report(library, grammar, report, as_json):
 
 
 def main():
-    arguments, option = sys.argv[1:4], sys.argv[4:]
-    if len(arguments) != 3 or option not in ([], ["--json"]):
-        sys.exit("usage: read_report.py LIBRARY GRAMMAR REPORT [--json]")
+    arguments, options = sys.argv[1:4], sys.argv[4:]
+    if len(arguments) != 3 or options not in ([], ["--json"], ["--by-2014"], ["--json", "--by-2014"]):
+        sys.exit("usage: read_report.py LIBRARY GRAMMAR REPORT [--json] [--by-2014]")
     # A reader of the output, like `head`, may stop before its end.
     signal.signal(signal.SIGPIPE, signal.SIG_DFL)
     # On a thread of its own: a run may need more stack than a program usually has. What ends the thread ends the program.
     threading.stack_size(STACK_BYTES)
     with concurrent.futures.ThreadPoolExecutor(1) as thread:
-        thread.submit(read_report, *arguments, bool(option)).result()
+        thread.submit(read_report, *arguments, "--json" in options, "--by-2014" in options).result()
 
 
 if __name__ == "__main__":

@@ -24,7 +24,7 @@
 #ifndef SAKTROUM_H
 #define SAKTROUM_H
 
-#define SAKTROUM_VERSION "0.1.0"
+#define SAKTROUM_VERSION "0.2.0"
 
 #include <stdbool.h>
 #include <stddef.h>
@@ -70,7 +70,9 @@ enum saktroum_refusal {
     SAKTROUM_REFUSED_CAPTURE = 14,    /* a capture whose rule or tokens are not there, whose first token comes after the
                                          token that follows it, whose tokens' offsets fall, or whose last token ends past
                                          the report */
-    SAKTROUM_REFUSED_RULE_COUNT = 15  /* the rule count differs from that of the file that lends the names */
+    SAKTROUM_REFUSED_RULE_COUNT = 15, /* the rule count differs from that of the file that lends the names */
+    SAKTROUM_REFUSED_READING = 16     /* by 2014: a position node anywhere in the table, or a mode other than
+                                         SAKTROUM_EQUAL */
 };
 
 /* The kinds of nodes; a, b and relation are words 1 to 3 of a node, 0 where they are not used. */
@@ -130,19 +132,21 @@ uint32_t saktroum_scan(const uint8_t *file, size_t file_bytes,
 uint32_t saktroum_check(const uint16_t *nodes, size_t node_words,
                         const uint16_t *rules, size_t rule_words);
 
-/* Runs a grammar on tokens (3, 4, 5, 7, 11, 12; mind the stack, above) from a start: its node, the token place, the
+/* Runs a grammar on tokens (3, 4, 5, 7, 11, 12, 16; mind the stack, above) from a start: its node, the token place, the
  * interval from `lower` to `upper`, or without end (then `upper` is not looked at), the alignment flag and the token mode.
+ * `by_2014` names the reading: false is that of 2017, true that of 2014, for data sets that were read so
+ * (docs/HANDBOOK.md, "Data sets read by the rules of 2014").
  * result, on success: 1, the number of tokens read, the lower end, the upper end (0 if there is none), whether the
  * interval is without end (1 or 0), whether the flag is set (1 or 0). On failure: result[0] is 0, the others are as before. */
 uint32_t saktroum_run(const uint16_t *nodes, size_t node_words,
                       const uint16_t *rules, size_t rule_words,
                       const uint32_t *tokens, size_t token_words,
                       uint16_t node, uint32_t place, uint32_t lower, uint32_t upper,
-                      bool endless, bool flag, uint16_t mode,
+                      bool endless, bool flag, uint16_t mode, bool by_2014,
                       size_t result[6]);
 
-/* Runs a grammar as saktroum_run does and lists its captures (3, 4, 5, 7, 11, 12, 13; mind the stack, above): every rule
- * that succeeded on the way to the final success, outside any not, any failed alternative and a repeat's last, failed round.
+/* Runs a grammar as saktroum_run does and lists its captures (3, 4, 5, 7, 11, 12, 16, 13, in this order; mind the stack,
+ * above): every rule that succeeded on the way to the final success, outside any not, any failed alternative and a repeat's last, failed round.
  * Writes four words a capture (rule, first token, token after the last, number of captures around it) to `captures`, an
  * outer one before those inside it, otherwise in the order in which they were read, and 0 to every word behind them.
  * result, on success: the six words of saktroum_run, then the number of captures, which tells a list of one capture with
@@ -152,7 +156,7 @@ uint32_t saktroum_list(const uint16_t *nodes, size_t node_words,
                        const uint16_t *rules, size_t rule_words,
                        const uint32_t *tokens, size_t token_words,
                        uint16_t node, uint32_t place, uint32_t lower, uint32_t upper,
-                       bool endless, bool flag, uint16_t mode,
+                       bool endless, bool flag, uint16_t mode, bool by_2014,
                        uint32_t *captures, size_t capture_words,
                        size_t result[7]);
 

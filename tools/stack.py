@@ -27,7 +27,7 @@ sys.path.insert(0, str(ROOT / "cases"))
 import depth  # noqa: E402
 import grammar_fields  # noqa: E402
 from depth import LIST, TOKENS  # noqa: E402
-from table_nodes import ANY, AT_LEAST, EMPTY, step  # noqa: E402
+from table_nodes import ANY, AT_LEAST, EMPTY, EQUAL, step  # noqa: E402
 
 PROGRAM = ROOT / "target" / "bin" / "depth"
 READER = ROOT / "target" / "bin" / "reader"
@@ -40,6 +40,7 @@ NONE_READ = "success 0 0 inf clear"
 # X behind each of the tokens; the start is the node that X stands for, and no capture.
 LISTED, NONE_LISTED = f"captures {TOKENS}", "captures 0"
 ALL_READ_ENDLESS = f"success {TOKENS} 0 inf clear"
+ALL_READ_SET = f"success {TOKENS} 0 0 set"
 
 
 def chain(kind, count, b=0, relation=0, nodes=LIST):
@@ -70,14 +71,16 @@ def grammar_file(nodes):
 class Shape:
     """A grammar whose rule 0 stands for its last node, with the answer of a run and a limit in MiB."""
 
-    def __init__(self, name, nodes, answer=ALL_READ, rules=(), mode=AT_LEAST, limit=1024, listing=False):
+    def __init__(self, name, nodes, answer=ALL_READ, rules=(), mode=AT_LEAST, limit=1024, listing=False, by_2014=False):
         self.name, self.nodes, self.answer, self.mode, self.limit = name, nodes, answer, mode, limit
-        self.rules, self.listing = rules, listing
+        self.rules, self.listing, self.by_2014 = rules, listing, by_2014
+        # A run over no token leaves the flag as one over all does.
+        self.none = NONE_LISTED if listing else NONE_READ.replace("clear", answer.split()[-1])
         # Every node calls the next but a, X behind a (a tail, walked by its sequence's call) and empty.
         self.round = len(nodes) - 3
 
     def words(self, tokens=TOKENS):
-        return depth.shape(self.nodes, self.rules, self.mode, tokens, self.listing)
+        return depth.shape(self.nodes, self.rules, self.mode, tokens, self.listing, self.by_2014)
 
 
 def shapes():
@@ -89,6 +92,9 @@ def shapes():
         Shape("list, and its captures", LIST, LISTED, limit=4, listing=True),
         Shape("aligns", chain(9, free)),
         Shape("aligns, and captures", chain(9, free), LISTED, listing=True),
+        # By 2014 an align that read nothing, as the last ones do, leaves the flag set.
+        Shape("list, by 2014", LIST, mode=EQUAL, limit=4, by_2014=True),
+        Shape("aligns, by 2014", chain(9, free), ALL_READ_SET, mode=EQUAL, by_2014=True),
         Shape("indents, at least", chain(7, free, relation=2)),
         Shape("indents, any", chain(7, free, relation=3), ALL_READ_ENDLESS),
         Shape("indents, greater", chain(7, free, relation=1), ALL_READ_ENDLESS, mode=ANY),
@@ -147,7 +153,7 @@ def measure(shape, folder):
     """Prints a line for a shape, and answers whether it keeps its limit."""
     file = folder / "shape"
     file.write_bytes(shape.words(0))
-    base = least(PROGRAM, folder, NONE_LISTED if shape.listing else NONE_READ, MIB)
+    base = least(PROGRAM, folder, shape.none, MIB)
     file.write_bytes(shape.words())
     need = least(PROGRAM, folder, shape.answer, shape.limit * MIB)
     if base is None or need is None:

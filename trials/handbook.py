@@ -11,8 +11,8 @@ LIBRARY is the reader as a shared library (trials/library.py says how it is made
     report     a report, and below it a line for each run: `(NUMBER) START -> ANSWER`, by the grammar above it
     sh         commands; what a call of tools/build.py or of the program writes stands on the next line, behind `# `
 
-START is empty or parts with commas between them: `rule NAME`, `mode RELATION`, `from L to H`, `from L on`, `flag set`, and
-`entries`. Below a run with `entries` stand its captures as the program `entries` prints them, a line for each, behind five
+START is empty or parts with commas between them: `rule NAME`, `mode RELATION`, `from L to H`, `from L on`, `flag set`,
+`by 2014` (the reading) and `entries`. A run by 2014 that is refused has the answer `refused 16`. Below a run with `entries` stand its captures as the program `entries` prints them, a line for each, behind five
 blanks and two more for each capture around it: `NAME LINE:COLUMN TEXT`, or `NAME -` for one that read no token.
 """
 
@@ -34,7 +34,7 @@ CASES = ROOT / "crates" / "clauses" / "specs" / "HandbookCases.antt"
 
 CASE = re.compile(r"\((?P<number>\d+)\) (?:(?P<start>.+?) )?-> (?P<answer>.+)")
 ENTRY = " " * 5  # before each line of a list
-ANSWER = re.compile(r"failure|success (\d+) (\d+) (\d+|inf) (clear|set)")
+ANSWER = re.compile(r"failure|refused 16|success (\d+) (\d+) (\d+|inf) (clear|set)")
 BUILDS = re.compile(r"python3 tools/build\.py (?P<grammar>[^-\s]\S*) (?P<file>\S+)")
 READS = re.compile(r"\.\./target/bin/(?P<program>reader|entries) < (?P<report>\S+)")
 WRITES = re.compile(r"target/write_grammar (?P<lending>\S+) (?P<table>\S+) \S+")
@@ -75,6 +75,7 @@ class Case(NamedTuple):
     lower: int
     upper: Optional[int]
     flag: bool
+    by_2014: bool
     entries: bool
     answer: str
     captures: Optional[list] = None
@@ -189,7 +190,8 @@ def read_case(grammar, number, line):
     if not found or not ANSWER.fullmatch(found["answer"]):
         raise Wrong(number, "a run is written `(NUMBER) START -> success N L H clear` or `.. -> failure`")
     table = grammar.table
-    start = {"node": table.start, "mode": table.mode, "lower": 0, "upper": None, "flag": False, "entries": False}
+    start = {"node": table.start, "mode": table.mode, "lower": 0, "upper": None, "flag": False}
+    start |= {"by_2014": False, "entries": False}
     for part in (found["start"] or "").split(", ") if found["start"] else []:
         start.update(start_part(table, number, part))
     return Case(number, int(found["number"]), found["start"] or "", answer=found["answer"], **start)
@@ -206,6 +208,8 @@ def start_part(table, number, part):
         return {"lower": int(words[1]), "upper": None if words[2] == "on" else int(words[3])}
     if part == "flag set":
         return {"flag": True}
+    if part == "by 2014":
+        return {"by_2014": True}
     if part == "entries":
         return {"entries": True}
     raise Wrong(number, f"no such start: {part}")
@@ -234,17 +238,28 @@ def run_case(reader, report, case, written):
     file, text, table = report.grammar.file, report.text.encode(), report.grammar.table
     run = (table.nodes, list(table.rules.values()), report.tokens)
     run += (case.node, case.mode, case.lower, case.upper, case.flag)
-    answer = reader.run(*run)
+    answer, with_list, captures = answers_of(reader, run, case.by_2014)
     if case.usual() and reader.line(file, text) != answer:
         raise Wrong(case.line, "the program's line is not the answer of the run")
     if answer != case.answer:
         raise Wrong(case.line, f"the reader answers: {answer}")
-    with_list, captures = reader.list(*run)
     if with_list != answer:
         raise Wrong(case.line, f"the run that lists answers: {with_list}")
     listed = entry_lines(reader, file, text, report.tokens, captures) if case.entries else []
     check_entries(case, written, listed)
     return case._replace(captures=captures if case.entries else None)
+
+
+def answers_of(reader, run, by_2014):
+    """The answer of a run, that of a run that lists, and its captures. A refusal is an answer too."""
+    try:
+        answer = reader.run(*run, by_2014=by_2014)
+    except library.Refused as refused:
+        answer = str(refused)
+    try:
+        return answer, *reader.list(*run, by_2014=by_2014)
+    except library.Refused as refused:
+        return answer, str(refused), []
 
 
 # Commands

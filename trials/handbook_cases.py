@@ -13,20 +13,20 @@ HEAD = """\
 -- The blocks of docs/HANDBOOK.md as cases: each run of a report by a grammar, then a check of each grammar, and the runs whose
 -- entries the handbook has once more, with their captures. This file is made from the handbook by trials/handbook.py: nodes as
 -- tools/build.py numbers them, tokens as the scanner gives them, the answers as the handbook has them, where they follow from
--- 01, "Columns and states", 02, notes 1 and 2, and 001, section 2.1, by hand; the words of captures as the reader lists them,
+-- 01, "Columns and states", 02, notes 1, 2 and 5, and 001, section 2.1, by hand; the words of captures as the reader lists them,
 -- for the entries that the handbook has. `HandbookHold`, in proofs, computes them all.
 use Prim.Native.Nat.{ℕ}
 use mathlib.Core.Bool.{Bool, true, false}
 use mathlib.Core.List.{List, [], _∷_, _++_}
-use Rattle.table.specs.Answer.{given, refusedAt}
+use Rattle.table.specs.Answer.{given, refused, refusedAt}
 use Rattle.table.specs.Form.{Form, empty, terminal, rule, sequence, choice, not, repeat, indent, position, align}
 use Rattle.columns.specs.Relations.{equal, greater, atLeast, any, step}
 use Rattle.columns.specs.Intervals.{to}
 use Rattle.columns.specs.declared.Upper.the-variants.{At, Endless}
 use Rattle.columns.specs.declared.Interval.{Interval}
 use Rattle.columns.specs.declared.Start.{Start}
-use Rattle.clauses.specs.Cases.{TokenAt, _at_, reads, fails, Case, run, check, from}
-use Rattle.clauses.specs.CaptureCases.{CaptureCase, lists, counting, nines, capture}
+use Rattle.clauses.specs.Cases.{TokenAt, _at_, reads, fails, Case, run, runBy2014, check, from}
+use Rattle.clauses.specs.CaptureCases.{CaptureCase, lists, listsBy2014, counting, nines, capture}
 
 -- A start at the first token: node, mode, interval, flag.
 abbrev pub within : ℕ → ℕ → Interval → Bool → Start
@@ -111,6 +111,8 @@ def answer(text):
     """An answer of the handbook."""
     if text == "failure":
         return "fails"
+    if text.startswith("refused "):
+        return f"({text})"
     _, read, lower, upper, flag = text.split()
     return f"(reads {read} {lower} {'Endless' if upper == 'inf' else f'(At {upper})'} {'true' if flag == 'set' else 'false'})"
 
@@ -149,7 +151,8 @@ def cases_part(grammars, reports, names):
     for report in reports:
         for case in report.cases:
             lines.append(titled(report, case))
-            lines.append(f"∷ run {call(report, case, names)} {answer(case.answer)}")
+            kind = "runBy2014" if case.by_2014 else "run"
+            lines.append(f"∷ {kind} {call(report, case, names)} {answer(case.answer)}")
     lines.append("-- Each grammar: it passes the check, or the builder tells that it does not.")
     for grammar in grammars:
         refusal = grammar.refusal
@@ -175,7 +178,8 @@ def lists_part(reports, names):
                 continue
             count = len(case.captures)
             lines.append(titled(report, case))
-            lines.append(f"∷ lists {call(report, case, names)} (nines {4 * count}) (counting {count} {answer(case.answer)})")
+            kind, expected = "listsBy2014" if case.by_2014 else "lists", f"(counting {count} {answer(case.answer)})"
+            lines.append(f"∷ {kind} {call(report, case, names)} (nines {4 * count}) {expected}")
             lines += capture_words(case.captures)
     return case_list("handbookLists", "CaptureCase", lines)
 

@@ -89,17 +89,17 @@ class Reader:
         passed(self.library.saktroum_scan(*given, tokens, c_size_t(TOKEN_WORDS), byref(count)))
         return fours(tokens, count[0])
 
-    def run(self, nodes, rules, tokens, *start):
+    def run(self, nodes, rules, tokens, *start, by_2014=False):
         """The line of a run from the first token; the start is a node, a mode and, if not as usual, two ends and a flag."""
         ran = (c_size_t * 6)()
         words = self.token_words(tokens)
-        passed(self.library.saktroum_run(*self.table(nodes, rules), *words, *start_of(*start), byref(ran)))
+        passed(self.library.saktroum_run(*self.table(nodes, rules), *words, *start_of(*start), c_bool(by_2014), byref(ran)))
         return ran_line(ran)
 
-    def list(self, nodes, rules, tokens, *start):
+    def list(self, nodes, rules, tokens, *start, by_2014=False):
         """The line of such a run and its captures: rule, first token, token after the last and number around, of each."""
         ran, room = (c_size_t * 7)(), 4
-        given = (*self.table(nodes, rules), *self.token_words(tokens), *start_of(*start))
+        given = (*self.table(nodes, rules), *self.token_words(tokens), *start_of(*start), c_bool(by_2014))
         while True:
             captures = (c_uint32 * room)()
             answer = self.library.saktroum_list(*given, captures, c_size_t(room), byref(ran))

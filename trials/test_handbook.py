@@ -100,6 +100,15 @@ class Told(unittest.TestCase):
         self.assertIn("\n    terminal 1 ∷ position 0 (step 1) ∷ indent 1 (step 31) ∷ choice 0 2\n", cases)
         self.assertEqual(cases[cases.index("unfoldable") :], STEP_CASES)
 
+    def test_readings(self):
+        """Runs by 2014: an answer and a list of their own, a refusal, and the cases that name the reading."""
+        cases = handbook_cases.file_of(*handbook.read_handbook(READER, READINGS))
+        self.assertEqual(cases[cases.index("unfoldable") :], READING_CASES)
+        self.says("(1) ->", "(1) by 2014 ->", "14: the reader answers: success 1 0 0 clear", READINGS)
+        self.says("(2) by 2014, entries", "(2) entries", "15: the reader answers: failure", READINGS)
+        self.says("(3) by 2014, mode", "(3) mode", "17: the reader answers: failure", READINGS)
+        self.says("by 2014, entries", "by 2015, entries", "15: no such start: by 2015", READINGS)
+
     def lists(self, old, new, line, listed=None):
         """With one change, what the reader lists is told, with the first line that is wrong."""
         self.says(old, new, f"{line}: the reader lists:\n{listed or LIST}", LISTED)
@@ -137,7 +146,7 @@ class Told(unittest.TestCase):
         told = {"list": "the run that lists answers: failure", "line": "the program's line is not the answer of the run"}
         for part, says in told.items():
             other = copy.copy(READER)
-            setattr(other, part, lambda *given: ("failure", []))
+            setattr(other, part, lambda *given, **reading: ("failure", []))
             with self.assertRaises(handbook.Wrong) as wrong:
                 handbook.read_handbook(other, LISTED)
             self.assertEqual(str(wrong.exception), f"docs/HANDBOOK.md:18: {says}")
@@ -196,6 +205,48 @@ class Told(unittest.TestCase):
                 handbook.read_commands(READER, handbook.Block("sh", 1, right[:missing] + right[missing + 1 :]))
             self.assertRegex(str(wrong.exception), rf"^docs/HANDBOOK\.md:{told}: this writes: ")
 
+
+READINGS = """\
+```grammar
+# marked.grammar
+keywords "note" "loss"
+start marked
+mode equal
+
+marked = align "note"? indent greater loss
+loss   = "loss"
+```
+
+```report
+loss
+
+(1) -> failure
+(2) by 2014, entries -> success 1 0 0 clear
+     loss 1:1 loss
+(3) by 2014, mode greater -> refused 16
+```
+"""
+
+READING_CASES = """\
+unfoldable pub handbookCases : List Case
+handbookCases =
+    -- 1. marked.grammar on |loss|
+    run markedNodes markedRules report1 (from 6 equal) fails
+    -- 2. marked.grammar, by 2014, entries, on |loss|
+    ∷ runBy2014 markedNodes markedRules report1 (from 6 equal) (reads 1 0 (At 0) false)
+    -- 3. marked.grammar, by 2014, mode greater, on |loss|
+    ∷ runBy2014 markedNodes markedRules report1 (from 6 greater) (refused 16)
+    -- Each grammar: it passes the check, or the builder tells that it does not.
+    ∷ check markedNodes markedRules (given tt)
+    ∷ []
+
+unfoldable pub handbookLists : List CaptureCase
+handbookLists =
+    -- 2. marked.grammar, by 2014, entries, on |loss|
+    listsBy2014 markedNodes markedRules report1 (from 6 equal) (nines 4) (counting 1 (reads 1 0 (At 0) false))
+    (capture 1 0 1 0)
+    ∷ []
+"""
 
 CASES = """\
 unfoldable pub handbookCases : List Case

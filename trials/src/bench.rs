@@ -3,6 +3,7 @@
 use std::hint::black_box;
 use std::time::Instant;
 use trials::ours::plain;
+use trials::second::Reading::By2017;
 use trials::second::{self, kind, Start};
 
 /// Rounds of each side, taken in turn; the median counts.
@@ -352,11 +353,11 @@ fn run(name: &str, nodes: &[[u16; 4]], rules: &[u16], tokens: &[u32]) -> Result<
     let mut result = [0; 6];
     time(
         name,
-        || match plain::run(&nodes, rules, tokens, &start, &mut result) {
+        || match plain::run(&nodes, rules, tokens, By2017, &start, &mut result) {
             0 if result[0] == 1 => result[1],
             refused => 10_000 + refused as usize,
         },
-        || match second::run(&nodes, rules, tokens, &start) {
+        || match second::run(&nodes, rules, tokens, By2017, &start) {
             second::Ran::Success { read, .. } => read as usize,
             second::Ran::Failure => 10_000,
             second::Ran::Refused(refused) => 10_000 + usize::from(refused),
@@ -423,11 +424,19 @@ fn list(name: &str, nodes: &[[u16; 4]], rules: &[u16], tokens: &[u32]) -> Result
     let mut result = [0; 7];
     time(
         name,
-        || match plain::list(&nodes, rules, tokens, &start, &mut captures, &mut result) {
+        || match plain::list(
+            &nodes,
+            rules,
+            tokens,
+            By2017,
+            &start,
+            &mut captures,
+            &mut result,
+        ) {
             0 if result[0] == 1 => result[6],
             refused => 10_000 + refused as usize,
         },
-        || match second::list(&nodes, rules, tokens, &start, &mut others) {
+        || match second::list(&nodes, rules, tokens, By2017, &start, &mut others) {
             second::Listed::Success { captures, .. } => captures as usize,
             second::Listed::Failure => 10_000,
             second::Listed::Refused(refused) => 10_000 + usize::from(refused),

@@ -2,17 +2,20 @@
 
 use std::fmt::Debug;
 use trials::generate::{
-    file_input, report_input, run_input, shown_input, write_input, FileInput, ReportInput, Rng,
-    RunInput, ShownInput, Stats, WriteInput,
+    file_input, report_input, run_input, run_input_by_2014, shown_input, write_input, FileInput,
+    ReportInput, Rng, RunInput, ShownInput, Stats, WriteInput,
 };
 use trials::ours::{self, Odd};
-use trials::second::{self, sets, FileRead, Listed, Ran, Shown};
+use trials::second::{self, sets, FileRead, Listed, Ran, Reading, Shown};
 
 /// Grammars may take time that doubles with each token: inputs on which a run enters more expressions are passed over.
 const MOST_STEPS: u64 = 200_000;
 
 /// Each seventh run is made over sets of columns too, and lists its captures there.
 const SETS_EACH: u64 = 7;
+
+/// For ten runs by 2017 so many are made by 2014 besides, on inputs of their own.
+const BY_2014: u64 = 3;
 
 /// Runs on one thread, files and reports on another. Each has its own inputs, so that what is compared does not depend on
 /// which is faster.
@@ -35,7 +38,8 @@ pub fn compare(seed: u64, runs: u64, files: u64) -> Result<(), String> {
 
 fn over_runs(seed: u64, runs: u64) -> Result<Stats, String> {
     let mut stats = Stats::default();
-    compare_runs(seed, runs, &mut stats)?;
+    compare_runs(seed, runs, Reading::By2017, &mut stats)?;
+    compare_runs(seed, runs * BY_2014 / 10, Reading::By2014, &mut stats)?;
     Ok(stats)
 }
 
@@ -48,27 +52,48 @@ fn over_files(seed: u64, files: u64) -> Result<Stats, String> {
     Ok(stats)
 }
 
-/// As many runs as are asked for, with the check and the list of each.
-fn compare_runs(seed: u64, runs: u64, stats: &mut Stats) -> Result<(), String> {
+/// As many runs by a reading as are asked for, with the check and the list of each. Those by 2014 that nothing refuses are
+/// made by 2017 too.
+fn compare_runs(seed: u64, runs: u64, reading: Reading, stats: &mut Stats) -> Result<(), String> {
+    let (next, by): (fn(&mut Rng) -> RunInput, _) = match reading {
+        Reading::By2017 => (run_input, ""),
+        Reading::By2014 => (run_input_by_2014, " by 2014"),
+    };
     let mut rng = Rng::new(seed);
     let (mut compared, mut over_sets, mut passed_over) = (0, 0, 0);
     while compared < runs {
-        let input = run_input(&mut rng);
-        let found = |what| format!("seed {seed}, run {}: {what}", compared + passed_over);
+        let input = next(&mut rng);
+        let found = |what| format!("seed {seed}, run {}{by}: {what}", compared + passed_over);
         let Some(went) = run_once(&input).map_err(found)? else {
             stats.note_run(&input, None);
             passed_over += 1;
             continue;
         };
         stats.note_run(&input, Some(&went.ran));
-        stats.note_list(&went.listed, &went.words);
+        stats.note_list(reading, &went.listed, &went.words);
         if compared % SETS_EACH == 0 {
             sets_once(&input).map_err(found)?;
             over_sets += 1;
         }
+        if reading == Reading::By2014 && !is_refused(&went.ran) {
+            by_2017_too(input, &went.ran, stats).map_err(found)?;
+        }
         compared += 1;
     }
-    println!("seed {seed}: {compared} runs and lists, {over_sets} of them over sets too, no difference; {passed_over} passed over");
+    println!("seed {seed}: {compared} runs and lists{by}, {over_sets} of them over sets too, no difference; {passed_over} passed over");
+    Ok(())
+}
+
+fn is_refused(ran: &Ran) -> bool {
+    matches!(ran, Ran::Refused(_) | Ran::IllFormed(_))
+}
+
+/// The input of a run by 2014, by 2017: how the answers stand to each other.
+fn by_2017_too(mut input: RunInput, by_2014: &Ran, stats: &mut Stats) -> Result<(), String> {
+    input.reading = Reading::By2017;
+    if let Some(went) = run_once(&input)? {
+        stats.note_readings(by_2014, &went.ran);
+    }
     Ok(())
 }
 
@@ -148,7 +173,7 @@ pub struct Went {
 
 /// The check, the run and the list of a table. No answer is given where the run takes too many steps.
 pub fn run_once(input: &RunInput) -> Result<Option<Went>, String> {
-    let (nodes, rules, tokens, start) = input.parts();
+    let (nodes, rules, tokens, reading, start) = input.parts();
     let bytes = || told(input);
     same(
         "the check",
@@ -156,15 +181,15 @@ pub fn run_once(input: &RunInput) -> Result<Option<Went>, String> {
         second::check(nodes, rules),
         bytes,
     )?;
-    let Some(ran) = second::run_within(nodes, rules, tokens, start, MOST_STEPS) else {
+    let Some(ran) = second::run_within(nodes, rules, tokens, reading, start, MOST_STEPS) else {
         return Ok(None);
     };
-    let ours = ours::run(nodes, rules, tokens, start);
+    let ours = ours::run(nodes, rules, tokens, reading, start);
     let ran = same("the run", ours, ran, bytes)?;
 
     let mut words = vec![ours::TOKEN_WORD; input.room];
-    let listed = second::list(nodes, rules, tokens, start, &mut words);
-    let ours = ours::list(nodes, rules, tokens, start, input.room);
+    let listed = second::list(nodes, rules, tokens, reading, start, &mut words);
+    let ours = ours::list(nodes, rules, tokens, reading, start, input.room);
     let (listed, words) = same("the list", ours, (listed, words), bytes)?;
     let run_of = run_of(&listed, &ran);
     same("the run of the list", Ok(run_of), ran, bytes)?;
@@ -172,9 +197,9 @@ pub fn run_once(input: &RunInput) -> Result<Option<Went>, String> {
 }
 
 fn told(input: &RunInput) -> String {
-    let (nodes, rules, tokens, start) = input.parts();
+    let (nodes, rules, tokens, reading, start) = input.parts();
     let room = input.room;
-    format!("{room} words lent\nnodes {nodes:?}\nrules {rules:?}\ntokens {tokens:?}\n{start:?}")
+    format!("{room} words lent\nnodes {nodes:?}\nrules {rules:?}\ntokens {tokens:?}\n{reading:?} {start:?}")
 }
 
 /// The run by its list. After 13 nothing is known of it but that it succeeds, as `ran` does.
@@ -202,11 +227,11 @@ fn run_of(listed: &Listed, ran: &Ran) -> Ran {
 /// The run over sets and ours are alike: both succeed or both fail, with the same tokens read, flag and captures, and the
 /// set has the numbers between our ends. Few steps are known to do for the run.
 pub fn sets_once(input: &RunInput) -> Result<(), String> {
-    let (nodes, rules, tokens, start) = input.parts();
-    let (over, captures) =
-        sets::list_within(nodes, rules, tokens, start, u64::MAX).ok_or("the steps have run out")?;
+    let (nodes, rules, tokens, reading, start) = input.parts();
+    let (over, captures) = sets::list_within(nodes, rules, tokens, reading, start, u64::MAX)
+        .ok_or("the steps have run out")?;
     let list = captures.as_flattened();
-    let ours = ours::list(nodes, rules, tokens, start, list.len());
+    let ours = ours::list(nodes, rules, tokens, reading, start, list.len());
     let alike = match (&ours, &over) {
         (Ok((Listed::Failure, _)), sets::SetRan::Failure) => list.is_empty(),
         (Ok((Listed::Refused(x), _)), sets::SetRan::Refused(y)) => x == y,
@@ -304,7 +329,7 @@ const LISTED: usize = 8;
 
 /// Words with their numbers, and two numbers behind the last with no bytes.
 fn listed<'f>(words: &[&'f [u8]]) -> Vec<(usize, &'f [u8])> {
-    let taken = |i: usize| i < LISTED || i % LISTED == 0 || i + 1 == words.len();
+    let taken = |i: usize| i < LISTED || i.is_multiple_of(LISTED) || i + 1 == words.len();
     let inside = words.iter().copied().enumerate().filter(|(i, _)| taken(*i));
     let behind = [words.len(), usize::MAX].map(|i| (i, &[][..]));
     inside.chain(behind).collect()

@@ -12,7 +12,7 @@ mod writes;
 
 pub use files::{file_input, FileInput};
 pub use reports::{report_input, ReportInput};
-pub use runs::{run_input, RunInput};
+pub use runs::{run_input, run_input_by_2014, RunInput};
 pub use shown::{shown_input, ShownInput};
 pub use stats::Stats;
 pub use writes::{write_input, WriteInput};

@@ -1,7 +1,7 @@
 //! The trials.
 //!
-//!     trials compare SEED RUNS FILES    both readers on generated inputs: runs with their lists, and as many
-//!                                       reports, shown texts and writes as files
+//!     trials compare SEED RUNS FILES    both readers on generated inputs: runs with their lists, three for ten of
+//!                                       them by 2014 besides, and as many reports, shown texts and writes as files
 //!     trials published CASES            both readers on the published examples
 //!     trials program READER CASES DIR   the program on stored pairs, in a folder that it may fill
 //!     trials round CASES                published examples, the deepest runs and a short round of generated inputs

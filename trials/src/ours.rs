@@ -4,7 +4,7 @@
 //! that the call reports are taken, and all others must still hold the marker. A list is given with all its lent words, and
 //! a written file with all its lent bytes.
 
-use crate::second::{FileRead, Listed, Ran, Shown, Start, Verdict};
+use crate::second::{FileRead, Listed, Ran, Reading, Shown, Start, Verdict};
 
 mod c {
     extern "C" {
@@ -59,6 +59,7 @@ mod c {
             endless: bool,
             flag: bool,
             mode: u16,
+            by_2014: bool,
             result: *mut [usize; 6],
         ) -> u32;
         pub fn saktroum_list(
@@ -75,6 +76,7 @@ mod c {
             endless: bool,
             flag: bool,
             mode: u16,
+            by_2014: bool,
             captures: *mut u32,
             capture_words: usize,
             result: *mut [usize; 7],
@@ -120,7 +122,7 @@ mod c {
 /// The plain calls over slices: pointers of slices are aligned and not null, and what is lent overlaps nothing.
 pub mod plain {
     use super::c;
-    use crate::second::Start;
+    use crate::second::{Reading, Start};
 
     pub fn read(file: &[u8], nodes: &mut [u16], rules: &mut [u16], result: &mut [usize; 5]) -> u32 {
         unsafe {
@@ -185,6 +187,7 @@ pub mod plain {
         nodes: &[u16],
         rules: &[u16],
         tokens: &[u32],
+        reading: Reading,
         start: &Start,
         result: &mut [usize; 6],
     ) -> u32 {
@@ -204,6 +207,7 @@ pub mod plain {
                 start.upper.is_none(),
                 start.flag,
                 start.mode,
+                reading == Reading::By2014,
                 result,
             )
         }
@@ -214,6 +218,7 @@ pub mod plain {
         nodes: &[u16],
         rules: &[u16],
         tokens: &[u32],
+        reading: Reading,
         start: &Start,
         captures: &mut [u32],
         result: &mut [usize; 7],
@@ -234,6 +239,7 @@ pub mod plain {
                 start.upper.is_none(),
                 start.flag,
                 start.mode,
+                reading == Reading::By2014,
                 captures.as_mut_ptr(),
                 captures.len(),
                 result,
@@ -359,7 +365,7 @@ impl<T: Copy + PartialEq> Lent<T> {
 /// The number of an answer without a node.
 fn number(answer: u32) -> Result<u8, Odd> {
     match answer {
-        0..=15 => Ok(answer as u8),
+        0..=16 => Ok(answer as u8),
         _ => Err(Odd(format!("the answer is {answer}"))),
     }
 }
@@ -456,9 +462,15 @@ pub fn check(nodes: &[u16], rules: &[u16]) -> Result<Verdict, Odd> {
 }
 
 /// The interpreter. The stack must do for the run.
-pub fn run(nodes: &[u16], rules: &[u16], tokens: &[u32], start: &Start) -> Result<Ran, Odd> {
+pub fn run(
+    nodes: &[u16],
+    rules: &[u16],
+    tokens: &[u32],
+    reading: Reading,
+    start: &Start,
+) -> Result<Ran, Odd> {
     let mut result = Lent::new(6, RESULT_WORD);
-    let answer = plain::run(nodes, rules, tokens, start, result.array());
+    let answer = plain::run(nodes, rules, tokens, reading, start, result.array());
     if let Some(node) = node_of(answer) {
         return result.reported(0, "result").map(|_| Ran::IllFormed(node));
     }
@@ -476,6 +488,7 @@ pub fn list(
     nodes: &[u16],
     rules: &[u16],
     tokens: &[u32],
+    reading: Reading,
     start: &Start,
     room: usize,
 ) -> Result<(Listed, Vec<u32>), Odd> {
@@ -485,6 +498,7 @@ pub fn list(
         nodes,
         rules,
         tokens,
+        reading,
         start,
         captures.slice(),
         result.array(),

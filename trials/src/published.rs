@@ -5,7 +5,7 @@
 use crate::compare::{run_once, same, sets_once};
 use trials::generate::RunInput;
 use trials::ours;
-use trials::second::{self, Start};
+use trials::second::{self, Reading, Start};
 
 /// The words lent for the captures of an example.
 const ROOM: usize = 256;
@@ -57,7 +57,8 @@ fn record(rest: &mut &[u8]) -> Result<String, String> {
     let second = taken(rest, number(&header[23..26]))?;
     let third = taken(rest, number(&header[26..29]))?;
     let answer = match header[0] {
-        b'r' => run(header, first, second, third),
+        b'r' => run(Reading::By2017, header, [first, second, third]),
+        b'R' => run(Reading::By2014, header, [first, second, third]),
         b'l' => line(first, second),
         _ => Err("no such call".into()),
     };
@@ -74,11 +75,16 @@ fn line(file: &[u8], report: &[u8]) -> Result<Vec<u8>, String> {
     })
 }
 
-fn run(header: &[u8], nodes: &[u8], rules: &[u8], tokens: &[u8]) -> Result<Vec<u8>, String> {
+fn run(
+    reading: Reading,
+    header: &[u8],
+    [nodes, rules, tokens]: [&[u8]; 3],
+) -> Result<Vec<u8>, String> {
     let input = RunInput {
         nodes: nodes.chunks(2).map(|word| number(word) as u16).collect(),
         rules: rules.chunks(2).map(|word| number(word) as u16).collect(),
         tokens: tokens.chunks(4).map(|word| number(word) as u32).collect(),
+        reading,
         start: Start {
             node: number(&header[4..6]) as u16,
             place: number(&header[8..12]) as u32,

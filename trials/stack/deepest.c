@@ -41,7 +41,7 @@ static void run_aligns(void *unused)
     size_t ran[6];
     (void)unused;
     uint32_t answer = saktroum_run(nodes[0], SAKTROUM_NODE_WORDS, rules, 1, tokens, SAKTROUM_TOKEN_WORDS,
-                                   NODES - 1, 0, 0, 0, true, false, SAKTROUM_AT_LEAST, ran);
+                                   NODES - 1, 0, 0, 0, true, false, SAKTROUM_AT_LEAST, false, ran);
     if (answer)
         printf("aligns: refused %u\n", answer);
     else if (ran[0])
@@ -56,7 +56,7 @@ static void list_aligns(void *unused)
     size_t listed[7];
     (void)unused;
     uint32_t answer = saktroum_list(nodes[0], SAKTROUM_NODE_WORDS, rules, 1, tokens, SAKTROUM_TOKEN_WORDS,
-                                    NODES - 1, 0, 0, 0, true, false, SAKTROUM_AT_LEAST,
+                                    NODES - 1, 0, 0, 0, true, false, SAKTROUM_AT_LEAST, false,
                                     captures, TOKENS * 4, listed);
     if (answer)
         printf("captures: refused %u\n", answer);

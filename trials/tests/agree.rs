@@ -2,9 +2,13 @@
 //! readers on lists, shown texts and written files, and the generator's shares.
 
 use std::thread;
-use trials::generate::{file_input, report_input, run_input, shown_input, write_input, Rng, Stats};
+use trials::generate::{
+    file_input, report_input, run_input, run_input_by_2014, shown_input, write_input, Rng,
+    RunInput, Stats,
+};
 use trials::ours;
 use trials::second::sets::{self, ColumnSet, SetRan};
+use trials::second::Reading::{self, By2014, By2017};
 use trials::second::{
     check, line_within, list, list_within, next_token, read, run_within, scan, shown, text, write,
     Handed, Listed, Ran, Shown, Start, Value, Verdict,
@@ -33,49 +37,54 @@ fn is_interval(set: &ColumnSet, lower: u32, upper: Option<u32>) -> bool {
         && set.runs() == [(lower, upper)]
 }
 
+/// More than a run on a generated input mostly takes.
+const STEPS: u64 = 200_000;
+
+/// What a run answers, as the run over sets does.
+fn agreed(case: usize, input: &RunInput) -> Option<Ran> {
+    let (nodes, rules, tokens, reading, start) = input.parts();
+    let ran = run_within(nodes, rules, tokens, reading, start, STEPS);
+    let set = sets::run_within(nodes, rules, tokens, reading, start, STEPS);
+    let agree = match (&ran, &set) {
+        (None, None) => true,
+        (
+            Some(Ran::Success {
+                read,
+                lower,
+                upper,
+                flag,
+            }),
+            Some(SetRan::Success {
+                read: set_read,
+                set,
+                flag: set_flag,
+            }),
+        ) => read == set_read && flag == set_flag && is_interval(set, *lower, *upper),
+        (Some(Ran::Failure), Some(SetRan::Failure)) => true,
+        (Some(Ran::Refused(one)), Some(SetRan::Refused(two))) => one == two,
+        (Some(Ran::IllFormed(one)), Some(SetRan::IllFormed(two))) => one == two,
+        _ => false,
+    };
+    assert!(agree, "case {case}: {input:?} gives {ran:?} and {set:?}");
+    // The check says the same as the run's first checks.
+    match (check(nodes, rules), &ran) {
+        (Verdict::Refused(one), Some(Ran::Refused(two))) => assert_eq!(one, *two),
+        (Verdict::IllFormed(one), Some(Ran::IllFormed(two))) => assert_eq!(one, *two),
+        (Verdict::Passes, Some(Ran::IllFormed(_) | Ran::Refused(..=10))) => panic!("case {case}"),
+        (Verdict::Passes, _) => {}
+        _ => panic!("case {case}"),
+    }
+    ran
+}
+
 #[test]
 fn sets_and_two_ends_agree() {
     with_stack(|| {
-        const STEPS: u64 = 200_000;
         let mut rng = Rng::new(1);
         let mut stats = Stats::default();
         for case in 0..20_000 {
             let input = run_input(&mut rng);
-            let (nodes, rules) = (&input.nodes, &input.rules);
-            let ran = run_within(nodes, rules, &input.tokens, &input.start, STEPS);
-            let set = sets::run_within(nodes, rules, &input.tokens, &input.start, STEPS);
-            let agree = match (&ran, &set) {
-                (None, None) => true,
-                (
-                    Some(Ran::Success {
-                        read,
-                        lower,
-                        upper,
-                        flag,
-                    }),
-                    Some(SetRan::Success {
-                        read: set_read,
-                        set,
-                        flag: set_flag,
-                    }),
-                ) => read == set_read && flag == set_flag && is_interval(set, *lower, *upper),
-                (Some(Ran::Failure), Some(SetRan::Failure)) => true,
-                (Some(Ran::Refused(one)), Some(SetRan::Refused(two))) => one == two,
-                (Some(Ran::IllFormed(one)), Some(SetRan::IllFormed(two))) => one == two,
-                _ => false,
-            };
-            assert!(agree, "case {case}: {input:?} gives {ran:?} and {set:?}");
-            // The check says the same as the run's first checks.
-            match (check(nodes, rules), &ran) {
-                (Verdict::Refused(one), Some(Ran::Refused(two))) => assert_eq!(one, *two),
-                (Verdict::IllFormed(one), Some(Ran::IllFormed(two))) => assert_eq!(one, *two),
-                (Verdict::Passes, Some(Ran::IllFormed(_) | Ran::Refused(..=10))) => {
-                    panic!("case {case}")
-                }
-                (Verdict::Passes, _) => {}
-                _ => panic!("case {case}"),
-            }
-            stats.note_run(&input, ran.as_ref());
+            stats.note_run(&input, agreed(case, &input).as_ref());
         }
         println!("{stats}");
         assert!(stats.share("run", "success") > 33.4);
@@ -91,6 +100,60 @@ fn sets_and_two_ends_agree() {
                 stats.share("run", &format!("refused {number}")) > 0.3,
                 "{number}"
             );
+        }
+    });
+}
+
+#[test]
+fn sets_and_two_ends_agree_by_2014() {
+    with_stack(|| {
+        let mut rng = Rng::new(1);
+        let mut stats = Stats::default();
+        for case in 0..10_000 {
+            let mut input = run_input_by_2014(&mut rng);
+            assert_eq!(input.reading, By2014);
+            let ran = agreed(case, &input);
+            stats.note_run(&input, ran.as_ref());
+            // Where nothing refuses the run, how the readings stand to each other.
+            let Some(ran @ (Ran::Success { .. } | Ran::Failure)) = ran else {
+                continue;
+            };
+            input.reading = By2017;
+            if let Some(other) = agreed(case, &input) {
+                stats.note_readings(&ran, &other);
+            }
+        }
+        println!("{stats}");
+        for (class, least) in [
+            ("success", 45.0),
+            ("failure", 15.0),
+            ("success, 2 or more read", 20.0),
+            ("success, 2 or more read in layout", 15.0),
+            ("success, a token read by a step", 3.0),
+            ("success, an indent under a set flag", 15.0),
+            ("failure, an indent under a set flag", 5.0),
+            ("success, an align that handed on its own flag", 10.0),
+            ("success, the flag set at the end", 10.0),
+            ("refused 16", 6.0),
+            ("refused 16: a position in reach", 1.0),
+            ("refused 16: a position out of reach", 1.0),
+            ("refused 16: the mode", 1.0),
+        ] {
+            assert!(stats.share("run by 2014", class) > least, "{class}");
+        }
+        for number in [3, 4, 5, 7, 11, 12] {
+            let class = format!("refused {number}");
+            assert!(stats.share("run by 2014", &class) > 0.5, "{number}");
+        }
+        for (class, least) in [
+            ("differ", 20.0),
+            ("differ, in the tokens read", 3.0),
+            ("differ, in the ends alone", 3.0),
+            ("differ, in the flag", 5.0),
+            ("differ, success by 2014 alone", 3.0),
+            ("differ, success by 2017 alone", 1.0),
+        ] {
+            assert!(stats.share("readings", class) > least, "{class}");
         }
     });
 }
@@ -207,6 +270,7 @@ fn the_same_seed_gives_the_same_inputs() {
         let (mut one, mut two) = (Rng::new(5), Rng::new(5));
         for _ in 0..200 {
             assert_eq!(run_input(&mut one), run_input(&mut two));
+            assert_eq!(run_input_by_2014(&mut one), run_input_by_2014(&mut two));
             assert_eq!(file_input(&mut one), file_input(&mut two));
             assert_eq!(report_input(&mut one), report_input(&mut two));
             assert_eq!(shown_input(&mut one), shown_input(&mut two));
@@ -215,7 +279,7 @@ fn the_same_seed_gives_the_same_inputs() {
     });
 }
 
-/// What both readers answer, with every word of a slice of that length behind the call.
+/// What both readers answer by 2017, with every word of a slice of that length behind the call.
 fn listed(
     nodes: &[u16],
     rules: &[u16],
@@ -223,13 +287,25 @@ fn listed(
     start: &Start,
     room: usize,
 ) -> (Listed, Vec<u32>) {
+    listed_by(By2017, nodes, rules, tokens, start, room)
+}
+
+/// The same by either reading.
+fn listed_by(
+    reading: Reading,
+    nodes: &[u16],
+    rules: &[u16],
+    tokens: &[u32],
+    start: &Start,
+    room: usize,
+) -> (Listed, Vec<u32>) {
     let mut words = vec![ours::TOKEN_WORD; room];
-    let listed = list(nodes, rules, tokens, start, &mut words);
+    let listed = list(nodes, rules, tokens, reading, start, &mut words);
     let both = (listed, words);
     assert_eq!(
-        ours::list(nodes, rules, tokens, start, room).as_ref(),
+        ours::list(nodes, rules, tokens, reading, start, room).as_ref(),
         Ok(&both),
-        "{nodes:?} {rules:?} {tokens:?} {start:?}"
+        "{nodes:?} {rules:?} {tokens:?} {reading:?} {start:?}"
     );
     both
 }
@@ -554,21 +630,27 @@ fn lists_of_every_answer() {
     with_stack(|| {
         let mut rng = Rng::new(7);
         let mut stats = Stats::default();
-        for _ in 0..10_000 {
-            let input = run_input(&mut rng);
-            let (nodes, rules, tokens, start) = input.parts();
+        for case in 0..15_000 {
+            let input = match case % 3 {
+                0 => run_input_by_2014(&mut rng),
+                _ => run_input(&mut rng),
+            };
+            let (nodes, rules, tokens, reading, start) = input.parts();
             let mut words = vec![ours::TOKEN_WORD; input.room];
-            if list_within(nodes, rules, tokens, start, &mut words, 200_000).is_none() {
+            if list_within(nodes, rules, tokens, reading, start, &mut words, STEPS).is_none() {
                 continue;
             }
-            let (answer, words) = listed(nodes, rules, tokens, start, input.room);
-            stats.note_list(&answer, &words);
+            let (answer, words) = listed_by(reading, nodes, rules, tokens, start, input.room);
+            stats.note_list(reading, &answer, &words);
         }
         println!("{stats}");
-        assert!(stats.share("list", "captures") > 20.0);
-        assert!(stats.share("list", "captures, more than 2 around one") > 8.0);
-        assert!(stats.share("list", "captures, one that read no token") > 5.0);
-        assert!(stats.share("list", "refused 13") > 8.0);
+        for part in ["list", "list by 2014"] {
+            assert!(stats.share(part, "captures") > 18.0);
+            assert!(stats.share(part, "captures, more than 2 around one") > 8.0);
+            assert!(stats.share(part, "captures, one that read no token") > 5.0);
+            assert!(stats.share(part, "refused 13") > 8.0);
+        }
+        assert!(stats.share("list by 2014", "refused 16") > 6.0);
     });
 }
 

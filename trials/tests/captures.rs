@@ -1,5 +1,6 @@
 //! 02's Note 2: what each rule read, number 13, the shown text and number 14.
 
+use trials::second::Reading::By2017;
 use trials::second::{
     list, list_within, read, run, run_within, scan, sets, shown, text, Listed, Ran, Shown, Start,
 };
@@ -119,20 +120,21 @@ fn listed(
     start: Start,
 ) -> Option<Vec<[u32; 4]>> {
     let nodes = nodes.concat();
-    let ran = run(&nodes, rules, tokens, &start);
-    let (set_ran, captures) = sets::list_within(&nodes, rules, tokens, &start, 1 << 20).unwrap();
+    let ran = run(&nodes, rules, tokens, By2017, &start);
+    let (set_ran, captures) =
+        sets::list_within(&nodes, rules, tokens, By2017, &start, 1 << 20).unwrap();
     assert!(agrees(&ran, &set_ran), "{ran:?} but {set_ran:?}");
     assert_eq!(
-        sets::run_within(&nodes, rules, tokens, &start, 1 << 20),
+        sets::run_within(&nodes, rules, tokens, By2017, &start, 1 << 20),
         Some(set_ran)
     );
     let words = captures.as_flattened();
     for length in 0..words.len() + 9 {
         let mut slice = lent(length);
-        let went = list(&nodes, rules, tokens, &start, &mut slice);
+        let went = list(&nodes, rules, tokens, By2017, &start, &mut slice);
         let mut again = lent(length);
         let steps = 1 << 20;
-        let within = list_within(&nodes, rules, tokens, &start, &mut again, steps);
+        let within = list_within(&nodes, rules, tokens, By2017, &start, &mut again, steps);
         assert_eq!((within, &again), (Some(went), &slice));
         if length < words.len() {
             // 13, "fewer capture places than the list needs": nothing is written.
@@ -318,7 +320,7 @@ fn list_of(
     start: &Start,
     slice: &mut [u32],
 ) -> Listed {
-    list(&nodes.concat(), rules, tokens, start, slice)
+    list(&nodes.concat(), rules, tokens, By2017, start, slice)
 }
 
 /// Outside "any failed alternative".
@@ -422,7 +424,7 @@ fn long_lists() {
     let start = Start::from_first(17, EQUAL);
     let count = (1 << 17) - 1;
     let steps = 1 << 20;
-    let (_, captures) = sets::list_within(&nodes, &rules, &[], &start, steps).unwrap();
+    let (_, captures) = sets::list_within(&nodes, &rules, &[], By2017, &start, steps).unwrap();
     assert_eq!(captures.len(), count);
     assert_eq!(captures[..3], [[16, 0, 0, 0], [15, 0, 0, 1], [14, 0, 0, 2]]);
     assert_eq!(captures[count - 2..], [[0, 0, 0, 16]; 2]);
@@ -434,16 +436,16 @@ fn long_lists() {
         flag: false,
         captures: count as u32,
     };
-    assert_eq!(list(&nodes, &rules, &[], &start, &mut slice), done);
+    assert_eq!(list(&nodes, &rules, &[], By2017, &start, &mut slice), done);
     assert_eq!(slice, captures.as_flattened());
     for short in [1, 3, 4, 5, 4 * count - 5, 4 * count - 4, 4 * count - 1] {
         let mut slice = lent(short);
-        let went = list(&nodes, &rules, &[], &start, &mut slice);
+        let went = list(&nodes, &rules, &[], By2017, &start, &mut slice);
         assert_eq!(went, Listed::Refused(13));
         assert_eq!(slice, lent(short));
     }
     let mut slice = lent(4 * count + 3);
-    assert_eq!(list(&nodes, &rules, &[], &start, &mut slice), done);
+    assert_eq!(list(&nodes, &rules, &[], By2017, &start, &mut slice), done);
     assert_eq!(slice[..4 * count], *captures.as_flattened());
     assert_eq!(slice[4 * count..], [0; 3]);
 }
@@ -455,21 +457,24 @@ fn steps_are_counted() {
     let nodes = nodes.concat();
     let start = Start::from_first(5, EQUAL);
     let enough = (0..)
-        .find(|&steps| run_within(&nodes, &rules, &[], &start, steps).is_some())
+        .find(|&steps| run_within(&nodes, &rules, &[], By2017, &start, steps).is_some())
         .unwrap();
     // A rule node and an empty or a sequence for each capture.
     assert_eq!(enough, 2 * 31);
     for steps in 0..enough {
         for words in [0, 4, 4 * 31] {
             let mut slice = lent(words);
-            let went = list_within(&nodes, &rules, &[], &start, &mut slice, steps);
+            let went = list_within(&nodes, &rules, &[], By2017, &start, &mut slice, steps);
             assert_eq!((went, slice), (None, lent(words)));
         }
-        assert_eq!(sets::list_within(&nodes, &rules, &[], &start, steps), None);
+        assert_eq!(
+            sets::list_within(&nodes, &rules, &[], By2017, &start, steps),
+            None
+        );
     }
     let mut slice = lent(4 * 31);
     assert!(matches!(
-        list_within(&nodes, &rules, &[], &start, &mut slice, enough),
+        list_within(&nodes, &rules, &[], By2017, &start, &mut slice, enough),
         Some(Listed::Success { captures: 31, .. })
     ));
     // Far too long a list to end: 2^129 - 1 captures of 128 rules.
@@ -477,7 +482,7 @@ fn steps_are_counted() {
     let nodes = nodes.concat();
     let start = Start::from_first(128, EQUAL);
     let mut slice = lent(8);
-    let went = list_within(&nodes, &rules, &[], &start, &mut slice, 1 << 22);
+    let went = list_within(&nodes, &rules, &[], By2017, &start, &mut slice, 1 << 22);
     assert_eq!((went, slice), (None, lent(8)));
 }
 
@@ -639,15 +644,16 @@ fn refused() {
     let went = |nodes: &[u16], rules: &[u16], tokens: &[u32], start: &Start| {
         for words in [1, 3, 4, 9] {
             let mut slice = lent(words);
-            list(nodes, rules, tokens, start, &mut slice);
+            list(nodes, rules, tokens, By2017, start, &mut slice);
             assert_eq!(slice, lent(words));
         }
-        let refused = list(nodes, rules, tokens, start, &mut []);
-        let (set_ran, captures) = sets::list_within(nodes, rules, tokens, start, 9).unwrap();
+        let refused = list(nodes, rules, tokens, By2017, start, &mut []);
+        let (set_ran, captures) =
+            sets::list_within(nodes, rules, tokens, By2017, start, 9).unwrap();
         assert!(agrees(&bare(refused), &set_ran));
         assert!(captures.is_empty());
         // These come before the first step.
-        let within = list_within(nodes, rules, tokens, start, &mut [], 0);
+        let within = list_within(nodes, rules, tokens, By2017, start, &mut [], 0);
         assert_eq!(within, Some(refused));
         refused
     };
@@ -659,7 +665,10 @@ fn refused() {
     assert_eq!(went(&one, &[0], &[0; 3], &bad_start), refused(11));
     assert_eq!(went(&one, &[0], &[0; 4], &bad_start), refused(12));
     let from = Start { node: 1, ..start };
-    assert_eq!(list(&one, &[0], &[0; 4], &from, &mut []), refused(13));
+    assert_eq!(
+        list(&one, &[0], &[0; 4], By2017, &from, &mut []),
+        refused(13)
+    );
 }
 
 /// As deep as rules go: 128 around one another at each of 4,096 tokens.
@@ -780,18 +789,18 @@ fn both_readings() {
             mode: chance.below(6),
         };
         let (nodes, tokens) = (nodes.concat(), tokens(&pairs));
-        let ran = run_within(&nodes, &rules, &tokens, &start, 2_000);
+        let ran = run_within(&nodes, &rules, &tokens, By2017, &start, 2_000);
         if matches!(ran, Some(Ran::IllFormed(_))) {
             continue;
         }
-        let set_ran = sets::list_within(&nodes, &rules, &tokens, &start, 2_000);
+        let set_ran = sets::list_within(&nodes, &rules, &tokens, By2017, &start, 2_000);
         let mut slice = lent(4 * 2_000 + 2);
-        let went = list_within(&nodes, &rules, &tokens, &start, &mut slice, 2_000);
+        let went = list_within(&nodes, &rules, &tokens, By2017, &start, &mut slice, 2_000);
         let (Some(ran), Some((set_ran, captures)), Some(went)) = (ran, set_ran, went) else {
             // All of them count the same steps.
             assert_eq!((ran, went), (None, None));
             assert_eq!(
-                sets::run_within(&nodes, &rules, &tokens, &start, 2_000),
+                sets::run_within(&nodes, &rules, &tokens, By2017, &start, 2_000),
                 None
             );
             assert_eq!(slice, lent(slice.len()));
@@ -806,7 +815,7 @@ fn both_readings() {
         // A room by chance.
         let room = usize::from(chance.below(words.len() as u16 + 5));
         let mut slice = lent(room);
-        let went = list(&nodes, &rules, &tokens, &start, &mut slice);
+        let went = list(&nodes, &rules, &tokens, By2017, &start, &mut slice);
         if room < words.len() {
             assert_eq!(went, Listed::Refused(13));
             assert_eq!(slice, lent(room));
@@ -895,7 +904,7 @@ fn the_derivations_list() {
         };
         let mut slice = lent(4 * 2_000);
         let words = nodes.concat();
-        let went = list_within(&words, &rules, &tokens, &start, &mut slice, 2_000);
+        let went = list_within(&words, &rules, &tokens, By2017, &start, &mut slice, 2_000);
         let (list, _) = slice.as_chunks::<4>();
         let mut derivation = Derivation {
             nodes: &nodes,
@@ -1013,7 +1022,14 @@ fn entries() {
     let tokens = scan(&file, report, 16_384).unwrap();
     let start = Start::from_first(grammar.start, grammar.mode);
     let mut slice = lent(4 * 8);
-    let went = list(&grammar.nodes, &grammar.rules, &tokens, &start, &mut slice);
+    let went = list(
+        &grammar.nodes,
+        &grammar.rules,
+        &tokens,
+        By2017,
+        &start,
+        &mut slice,
+    );
     assert_eq!(
         went,
         Listed::Success {
@@ -1293,7 +1309,7 @@ fn scanned_captures_are_shown() {
         let start = Start::from_first(start, ANY);
         let nodes = nodes.concat();
         let mut slice = lent(4 * 2_000);
-        let went = list_within(&nodes, &rules, &tokens, &start, &mut slice, 2_000);
+        let went = list_within(&nodes, &rules, &tokens, By2017, &start, &mut slice, 2_000);
         let Some(Listed::Success { captures, .. }) = went else {
             continue;
         };

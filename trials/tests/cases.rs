@@ -1,6 +1,7 @@
 //! 01's bench cases a to j, its small inputs for every number, its program example,
 //! the examples of 001, and the steps of 02's Note 1.
 
+use trials::second::Reading::By2017;
 use trials::second::{
     check, line, next_token, read, run, run_within, scan, sets, Handed, Ran, Start, Value, Verdict,
 };
@@ -75,8 +76,8 @@ fn success(read: u32, lower: u32, upper: impl Into<Option<u32>>, flag: bool) -> 
 fn ran(nodes: &[[u16; 4]], rules: &[u16], list: &[(u16, u32)], start: Start) -> Ran {
     let nodes = nodes.concat();
     let tokens = tokens(list);
-    let ran = run(&nodes, rules, &tokens, &start);
-    match (&ran, sets::run(&nodes, rules, &tokens, &start)) {
+    let ran = run(&nodes, rules, &tokens, By2017, &start);
+    match (&ran, sets::run(&nodes, rules, &tokens, By2017, &start)) {
         (
             Ran::Success {
                 read,
@@ -325,13 +326,13 @@ fn steps_are_counted() {
     let nodes = [terminal(A), terminal(B), sequence(0, 1)].concat();
     let list = tokens(&[(A, 1), (B, 1)]);
     let from = start(2, EQUAL);
-    assert_eq!(run_within(&nodes, &[], &list, &from, 2), None);
+    assert_eq!(run_within(&nodes, &[], &list, By2017, &from, 2), None);
     assert_eq!(
-        run_within(&nodes, &[], &list, &from, 3),
+        run_within(&nodes, &[], &list, By2017, &from, 3),
         Some(success(2, 1, 1, false))
     );
-    assert_eq!(sets::run_within(&nodes, &[], &list, &from, 2), None);
-    assert!(sets::run_within(&nodes, &[], &list, &from, 3).is_some());
+    assert_eq!(sets::run_within(&nodes, &[], &list, By2017, &from, 2), None);
+    assert!(sets::run_within(&nodes, &[], &list, By2017, &from, 3).is_some());
 }
 
 // Note 1 of 02: steps of 1, 2 and 31, the value less 3.
@@ -783,24 +784,33 @@ fn small_inputs() {
     let none = file(&[], &[], &[], 0, 0);
     assert_eq!(read(&none, 2_048, 128), Err(3));
     assert_eq!(check(&[], &[]), Verdict::Refused(3));
-    assert_eq!(run(&[], &[], &[], &start(0, 0)), Ran::Refused(3));
+    assert_eq!(run(&[], &[], &[], By2017, &start(0, 0)), Ran::Refused(3));
     // 4: node 0 a repeat of 0.
     let own = file(&[], &[], &[repeat(0)], 0, 0);
     assert_eq!(read(&own, 2_048, 128), Err(4));
     assert_eq!(check(&repeat(0), &[]), Verdict::Refused(4));
-    assert_eq!(run(&repeat(0), &[], &[], &start(0, 0)), Ran::Refused(4));
+    assert_eq!(
+        run(&repeat(0), &[], &[], By2017, &start(0, 0)),
+        Ran::Refused(4)
+    );
     // 5: rule 0 = node 1 of 1.
     let gone = file(&[], &[(1, "r")], &[empty()], 0, 0);
     assert_eq!(read(&gone, 2_048, 128), Err(5));
     assert_eq!(check(&empty(), &[1]), Verdict::Refused(5));
-    assert_eq!(run(&empty(), &[1], &[], &start(0, 0)), Ran::Refused(5));
+    assert_eq!(
+        run(&empty(), &[1], &[], By2017, &start(0, 0)),
+        Ran::Refused(5)
+    );
     // 6: 1 node, 3 words.
     let plain = file(&[], &[], &[empty()], 0, 0);
     assert_eq!(read(&plain, 3, 0), Err(6));
     assert!(read(&plain, 4, 0).is_ok());
     // 7: rule 0 = node 0 = rule 0.
     assert_eq!(check(&rule(0), &[0]), Verdict::IllFormed(0));
-    assert_eq!(run(&rule(0), &[0], &[], &start(0, 0)), Ran::IllFormed(0));
+    assert_eq!(
+        run(&rule(0), &[0], &[], By2017, &start(0, 0)),
+        Ran::IllFormed(0)
+    );
     // 8: byte 0.
     assert_eq!(scan(&plain, b"\0", 16_384), Err(8));
     // 9: 8,192 tabs, `a`.
@@ -810,14 +820,17 @@ fn small_inputs() {
     assert_eq!(scan(&plain, b"a", 7), Err(10));
     assert_eq!(scan(&plain, b"a", 8), Ok(vec![1, 0, 0, 1, 2, 1, 1, 0]));
     // 11: 3 words.
-    assert_eq!(run(&empty(), &[], &[0; 3], &start(0, 0)), Ran::Refused(11));
+    assert_eq!(
+        run(&empty(), &[], &[0; 3], By2017, &start(0, 0)),
+        Ran::Refused(11)
+    );
     // 12: interval 5 to 4.
     let from = Start {
         lower: 5,
         upper: Some(4),
         ..start(0, 0)
     };
-    assert_eq!(run(&empty(), &[], &[], &from), Ran::Refused(12));
+    assert_eq!(run(&empty(), &[], &[], By2017, &from), Ran::Refused(12));
 }
 
 #[test]

@@ -1,5 +1,6 @@
 //! The limits, from both sides.
 
+use trials::second::Reading::By2017;
 use trials::second::{check, read, run, scan, sets, write, Ran, Start, Verdict};
 
 fn field(tag: u8, value: &[u8]) -> Vec<u8> {
@@ -195,12 +196,30 @@ fn order_of_the_runs_checks() {
     };
     let bad_start = Start { mode: 35, ..start };
     let rule = [2, 0, 0, 0];
-    assert_eq!(run(&[10; 3], &[9], &[0; 3], &bad_start), Ran::Refused(3));
-    assert_eq!(run(&[10; 4], &[9], &[0; 3], &bad_start), Ran::Refused(4));
-    assert_eq!(run(&rule, &[9], &[0; 3], &bad_start), Ran::Refused(5));
-    assert_eq!(run(&rule, &[0], &[0; 3], &bad_start), Ran::IllFormed(0));
-    assert_eq!(run(&[0; 4], &[0], &[0; 3], &bad_start), Ran::Refused(11));
-    assert_eq!(run(&[0; 4], &[0], &[0; 4], &bad_start), Ran::Refused(12));
+    assert_eq!(
+        run(&[10; 3], &[9], &[0; 3], By2017, &bad_start),
+        Ran::Refused(3)
+    );
+    assert_eq!(
+        run(&[10; 4], &[9], &[0; 3], By2017, &bad_start),
+        Ran::Refused(4)
+    );
+    assert_eq!(
+        run(&rule, &[9], &[0; 3], By2017, &bad_start),
+        Ran::Refused(5)
+    );
+    assert_eq!(
+        run(&rule, &[0], &[0; 3], By2017, &bad_start),
+        Ran::IllFormed(0)
+    );
+    assert_eq!(
+        run(&[0; 4], &[0], &[0; 3], By2017, &bad_start),
+        Ran::Refused(11)
+    );
+    assert_eq!(
+        run(&[0; 4], &[0], &[0; 4], By2017, &bad_start),
+        Ran::Refused(12)
+    );
 }
 
 #[test]
@@ -216,7 +235,7 @@ fn tokens_and_starts() {
     // A repeat of terminal 7.
     let nodes = [1, 7, 0, 0, 6, 0, 0, 0];
     let row = |count: usize| [7, 65_535, u32::MAX, u32::MAX].repeat(count);
-    let went = |tokens: &[u32], start: Start| match run(&nodes, &[], tokens, &start) {
+    let went = |tokens: &[u32], start: Start| match run(&nodes, &[], tokens, By2017, &start) {
         Ran::Success { read, .. } => Ok(read),
         Ran::Refused(number) => Err(number),
         other => panic!("{other:?}"),
@@ -291,8 +310,8 @@ fn relations_in_a_run() {
     let ran = |relation: u16, mode: u16| {
         let nodes = [0, 0, 0, 0, 7, 0, 0, relation, 8, 0, 0, relation];
         let start = Start::from_first(1, mode);
-        let ran = run(&nodes, &[], &[], &start);
-        match (ran, sets::run(&nodes, &[], &[], &start)) {
+        let ran = run(&nodes, &[], &[], By2017, &start);
+        match (ran, sets::run(&nodes, &[], &[], By2017, &start)) {
             (Ran::Success { .. }, sets::SetRan::Success { .. }) => 0,
             (Ran::Refused(one), sets::SetRan::Refused(two)) if one == two => one,
             other => panic!("{other:?}"),

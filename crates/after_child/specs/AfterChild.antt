@@ -1,9 +1,11 @@
--- The state after an indent and after an align: s is the state before it, u the one that its child ended in.
+-- The state after an indent and after an align, by a reading: s is the state before it, u the one that its child ended in.
 use Prim.Native.Nat.{ℕ}
-use mathlib.Core.Bool.{Bool, _&&_}
+use mathlib.Core.Bool.{Bool, cond}
 use Rattle.columns.specs.Intervals.{outerEnds, meetEnds}
 use Rattle.columns.specs.declared.Interval.{Interval}
 use Rattle.columns.specs.declared.State.{State}
+use Rattle.columns.specs.declared.Reading.{Reading}
+use Rattle.clauses.specs.Clauses.{counts, handedOn}
 
 -- A state with another interval.
 abbrev pub withInterval : State → Interval → State
@@ -13,10 +15,11 @@ withInterval s c = record { place = s .place; interval = c; flag = s .flag }
 abbrev pub withFlag : State → Bool → State
 withFlag s b = record { place = s .place; interval = s .interval; flag = b }
 
--- Clause 8, success: the old interval met with the outer set, by relation r, of the child's.
-abbrev pub leftState : ℕ → State → State → State
-leftState r s u = withInterval u (meetEnds (s .interval) (outerEnds r (u .interval)))
+-- Clause 8, success: where indentation counts, the old interval met with the outer set, by relation r, of the child's.
+abbrev pub leftState : Reading → ℕ → State → State → State
+leftState reading r s u =
+    cond (counts reading (s .flag)) (withInterval u (meetEnds (s .interval) (outerEnds r (u .interval)))) u
 
--- Clause 10, success: the flag is set exactly if it was before and where the child ended.
-abbrev pub alignedState : State → State → State
-alignedState s u = withFlag u (s .flag && u .flag)
+-- Clause 10, success: the flag that the reading hands on.
+abbrev pub alignedState : Reading → State → State → State
+alignedState reading s u = withFlag u (handedOn reading (s .flag) (u .flag))

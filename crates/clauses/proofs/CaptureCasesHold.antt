@@ -7,7 +7,7 @@ use Rattle.table.specs.Form.{form}
 use Rattle.table.specs.Checks.{tableAnswer, fails3, fails4, fails5, rightWords}
 use Rattle.well_formed.specs.Rounds.{gives, knownAfter, passes, wellAfter}
 use Rattle.well_formed.specs.Check.{mayNothing, isWell, verdictFrom, checkAnswer}
-use Rattle.clauses.specs.Limits.{fails11, fails12}
+use Rattle.clauses.specs.Limits.{fails11, fails12, fails16}
 use Rattle.clauses.specs.Evaluation.{evaluate, outcomeFor, traceFor}
 use Rattle.clauses.specs.RunAnswer.{runAnswer}
 use Rattle.clauses.specs.ListAnswer.{fails13, listAnswer, listAfter}
@@ -18,6 +18,6 @@ cases = listedCases ++ droppedCases ++ roomCases ++ refusedCases
 
 pub capture-cases-hold : map listing cases ≡ map expected cases
 unfolding listing listedCases droppedCases roomCases refusedCases eachWords form evaluate outcomeFor traceFor runAnswer
-    fails11 fails12 fails13 listAnswer listAfter every fails3 fails4 fails5 rightWords tableAnswer gives knownAfter passes
+    fails11 fails12 fails16 fails13 listAnswer listAfter every fails3 fails4 fails5 rightWords tableAnswer gives knownAfter passes
     wellAfter mayNothing isWell verdictFrom checkAnswer
 capture-cases-hold = refl

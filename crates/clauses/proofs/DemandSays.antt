@@ -19,11 +19,12 @@ use Rattle.columns.specs.Intervals.{to, ends}
 use Rattle.columns.specs.declared.Upper.the-variants.{At}
 use Rattle.columns.specs.declared.Interval.{Interval}
 use Rattle.columns.specs.declared.Capture.{Capture}
+use Rattle.columns.specs.declared.Reading.the-variants.{By2017}
 use Rattle.well_formed.specs.Rounds.{gives, knownAfter, passes, wellAfter}
 use Rattle.well_formed.specs.Check.{mayNothing, isWell, verdictFrom, checkAnswer}
 use Rattle.clauses.specs.Clauses.{State, Outcome, success}
 use Rattle.clauses.specs.AlikeOutcomes.{AlikeOutcome, alike-success}
-use Rattle.clauses.specs.Limits.{fails11, fails12}
+use Rattle.clauses.specs.Limits.{fails11, fails12, fails16}
 use Rattle.clauses.specs.Evaluation.{evaluate, outcomeFor, traceFor}
 use Rattle.clauses.specs.RunAnswer.{SetRun, runAnswer}
 use Rattle.clauses.specs.ListAnswer.{setCaptures, ourCaptures, Listing, listAnswer, listWords, listAfter}
@@ -39,22 +40,22 @@ words = eachWords tokenWords (a at 2 ∷ b at 3 ∷ [])
 abbrev pub end : State Interval
 end = (2, to 0 (At 1), false)
 
-answer : runAnswer nodes [] words (from 4 atLeast) ≡ given (success end)
-unfolding nodes words eachWords runAnswer form evaluate outcomeFor fails11 fails12 every fails3 fails4 fails5
+answer : runAnswer By2017 nodes [] words (from 4 atLeast) ≡ given (success end)
+unfolding nodes words eachWords runAnswer form evaluate outcomeFor fails11 fails12 fails16 every fails3 fails4 fails5
     rightWords tableAnswer gives knownAfter passes wellAfter mayNothing isWell verdictFrom checkAnswer
 answer = refl
 
 pub data Says : Outcome ColumnSet → Type 1 where
   two-read : {S : ColumnSet} → ((k : ℕ) → S k ↔ (k ≤ 1)) → Says (success (2, S, false))
 
-module _ (d : ThirdDemand nodes [] words (from 4 atLeast)) where
+module _ (d : ThirdDemand By2017 nodes [] words (from 4 atLeast)) where
   pub ours : d .ours ≡ success end
   ours = let p = d .answered in let q = answer in cc
 
   by-likeness : {o : Outcome ColumnSet} → AlikeOutcome ends sets (success end) o → Says o
   by-likeness (alike-success h) = two-read (λ k. (λ m. h .members k .0 m .upto, λ l. h .members k .1 (record { from = omega arith; upto = l })))
 
-  pub says : (o : Outcome ColumnSet) → SetRun nodes [] words (from 4 atLeast) o → Says o
+  pub says : (o : Outcome ColumnSet) → SetRun By2017 nodes [] words (from 4 atLeast) o → Says o
   says o e = subst Says (sym (d .only o e)) (by-likeness (subst (λ (v : Outcome Interval). AlikeOutcome ends sets v (d .theirs)) ours (d .alike)))
 
   pub says-two : d .read end ours .0 ≡ 2
@@ -73,25 +74,25 @@ one-rule = 0 ∷ []
 abbrev pub one-capture : List Capture
 one-capture = record { rule = 0; first = 0; after = 1; around = 0 } ∷ []
 
-computed : ourCaptures ruled one-rule one-token (from 1 equal) ≡ one-capture
+computed : ourCaptures By2017 ruled one-rule one-token (from 1 equal) ≡ one-capture
 unfolding ruled one-token eachWords form evaluate outcomeFor traceFor
 computed = refl
 
 pub says-captures :
-    ThirdDemand ruled one-rule one-token (from 1 equal)
-    → (o : Outcome ColumnSet) (d : SetRun ruled one-rule one-token (from 1 equal) o)
-    → setCaptures ruled one-rule one-token (from 1 equal) o d ≡ one-capture
+    ThirdDemand By2017 ruled one-rule one-token (from 1 equal)
+    → (o : Outcome ColumnSet) (d : SetRun By2017 ruled one-rule one-token (from 1 equal) o)
+    → setCaptures By2017 ruled one-rule one-token (from 1 equal) o d ≡ one-capture
 says-captures h o d = h .captures o d ∙ computed
 
 -- With room for it.
 pub says-count :
-    (h : ListDemand ruled one-rule one-token (from 1 equal) 4)
-    → listAnswer ruled one-rule one-token (from 1 equal) 4 ≡ given (record { outcome = h .demand .ours; count = 1 })
+    (h : ListDemand By2017 ruled one-rule one-token (from 1 equal) 4)
+    → listAnswer By2017 ruled one-rule one-token (from 1 equal) 4 ≡ given (record { outcome = h .demand .ours; count = 1 })
 says-count h = h .answered ∙ ap (λ (l : List Capture). given (record { outcome = h .demand .ours; count = length l })) computed
 
 pub says-words :
-    ListDemand ruled one-rule one-token (from 1 equal) 6
-    → (o : Outcome ColumnSet) (d : SetRun ruled one-rule one-token (from 1 equal) o)
-    → listAfter ruled one-rule one-token (from 1 equal) (9 ∷ 9 ∷ 9 ∷ 9 ∷ 9 ∷ 9 ∷ []) ≡ 0 ∷ 0 ∷ 1 ∷ 0 ∷ 0 ∷ 0 ∷ []
+    ListDemand By2017 ruled one-rule one-token (from 1 equal) 6
+    → (o : Outcome ColumnSet) (d : SetRun By2017 ruled one-rule one-token (from 1 equal) o)
+    → listAfter By2017 ruled one-rule one-token (from 1 equal) (9 ∷ 9 ∷ 9 ∷ 9 ∷ 9 ∷ 9 ∷ []) ≡ 0 ∷ 0 ∷ 1 ∷ 0 ∷ 0 ∷ 0 ∷ []
 unfolding eachWords
 says-words h o d = h .stands _ refl o d ∙ ap (λ (l : List Capture). listWords l 6) (says-captures (h .demand) o d)

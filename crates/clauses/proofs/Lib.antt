@@ -2,5 +2,6 @@ pub mod Sound
 pub mod ListWords
 pub mod CasesHold
 pub mod CaptureCasesHold
+pub mod ReadingCasesHold
 pub mod HandbookHold
 pub mod DemandSays

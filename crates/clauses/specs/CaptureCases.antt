@@ -13,6 +13,8 @@ use Rattle.columns.specs.Intervals.{to}
 use Rattle.columns.specs.declared.Upper.the-variants.{At, Endless}
 use Rattle.columns.specs.declared.Interval.{Interval}
 use Rattle.columns.specs.declared.Start.{Start}
+use Rattle.columns.specs.declared.Reading.{Reading}
+use Rattle.columns.specs.declared.Reading.the-variants.{By2017, By2014}
 use Rattle.clauses.specs.Clauses.{Outcome, success}
 use Rattle.clauses.specs.ListAnswer.{Listing, listAnswer, listAfter}
 use Rattle.clauses.specs.Cases.{fourWords, TokenAt, _at_, tokenWords, reads, fails, from, fromPlace, a, b, c}
@@ -22,24 +24,34 @@ pub record Listed : Type 0 where
   pub answer : Answer Listing
   pub afterwards : List ℕ
 
--- A run with the words lent to it, and what is expected of it.
+-- A run with the words lent to it, by 2017 or by 2014, and what is expected of it.
 pub data CaptureCase : Type 0 where
   lists :
+      (nodes : List Form) (rules : List ℕ) (tokens : List TokenAt) (start : Start) (before : List ℕ)
+      (expected : Answer Listing) (afterwards : List ℕ)
+      → CaptureCase
+  listsBy2014 :
       (nodes : List Form) (rules : List ℕ) (tokens : List TokenAt) (start : Start) (before : List ℕ)
       (expected : Answer Listing) (afterwards : List ℕ)
       → CaptureCase
 
 abbrev pub expected : CaptureCase → Listed
 expected (lists nodes rules tokens start before answer afterwards) = record { answer = answer; afterwards = afterwards }
+expected (listsBy2014 nodes rules tokens start before answer afterwards) = record { answer = answer; afterwards = afterwards }
 
-unfoldable pub listing : CaptureCase → Listed
-listing (lists nodes rules tokens start before answer afterwards) =
+-- The answer of a run by a reading, and the lent words afterwards.
+abbrev pub listingBy : Reading → List Form → List ℕ → List TokenAt → Start → List ℕ → Listed
+listingBy reading nodes rules tokens start before =
     let table = eachWords fourWords nodes in
     let words = eachWords tokenWords tokens in
     record {
-      answer = listAnswer table rules words start (length before);
-      afterwards = listAfter table rules words start before;
+      answer = listAnswer reading table rules words start (length before);
+      afterwards = listAfter reading table rules words start before;
     }
+
+unfoldable pub listing : CaptureCase → Listed
+listing (lists nodes rules tokens start before answer afterwards) = listingBy By2017 nodes rules tokens start before
+listing (listsBy2014 nodes rules tokens start before answer afterwards) = listingBy By2014 nodes rules tokens start before
 
 -- An outcome with so many captures.
 abbrev pub counting : ℕ → Answer (Outcome Interval) → Answer Listing

@@ -13,6 +13,8 @@ use Rattle.columns.specs.declared.Upper.{Upper}
 use Rattle.columns.specs.declared.Upper.the-variants.{At, Endless}
 use Rattle.columns.specs.declared.Interval.{Interval}
 use Rattle.columns.specs.declared.Start.{Start}
+use Rattle.columns.specs.declared.Reading.{Reading}
+use Rattle.columns.specs.declared.Reading.the-variants.{By2017, By2014}
 use Rattle.well_formed.specs.Check.{checkAnswer}
 use Rattle.clauses.specs.Clauses.{Outcome, success, failure}
 use Rattle.clauses.specs.RunAnswer.{runAnswer}
@@ -53,9 +55,13 @@ reads read lower upper flag = given (success (read, to lower upper, flag))
 abbrev pub fails : Answer (Outcome Interval)
 fails = given failure
 
--- A call with the answer that is expected of it: a run of forms and rules on tokens, or a check.
+-- A call with the answer that is expected of it: a run of forms and rules on tokens, by 2017 or by 2014, or a check.
 pub data Case : Type 0 where
   run :
+      (nodes : List Form) (rules : List ℕ) (tokens : List TokenAt) (start : Start)
+      (expected : Answer (Outcome Interval))
+      → Case
+  runBy2014 :
       (nodes : List Form) (rules : List ℕ) (tokens : List TokenAt) (start : Start)
       (expected : Answer (Outcome Interval))
       → Case
@@ -69,11 +75,16 @@ pub data Answered : Type 0 where
 -- What is expected of a case, and what the definitions answer to its call.
 abbrev pub expected : Case → Answered
 expected (run nodes rules tokens start answer) = ran answer
+expected (runBy2014 nodes rules tokens start answer) = ran answer
 expected (check nodes rules answer) = checked answer
 
+abbrev pub running : Reading → List Form → List ℕ → List TokenAt → Start → Answer (Outcome Interval)
+running reading nodes rules tokens start =
+    runAnswer reading (eachWords fourWords nodes) rules (eachWords tokenWords tokens) start
+
 unfoldable pub answered : Case → Answered
-answered (run nodes rules tokens start answer) =
-    ran (runAnswer (eachWords fourWords nodes) rules (eachWords tokenWords tokens) start)
+answered (run nodes rules tokens start answer) = ran (running By2017 nodes rules tokens start)
+answered (runBy2014 nodes rules tokens start answer) = ran (running By2014 nodes rules tokens start)
 answered (check nodes rules answer) = checked (checkAnswer (eachWords fourWords nodes) rules)
 
 -- "Start interval 0 without end and flag clear unless said": node, mode.

@@ -9,7 +9,8 @@ use Rattle.table.specs.Form.{Form, empty, terminal, rule, sequence, choice, not
 use Rattle.table.specs.Form.{align, other, form, standsFor, nodeCount}
 use Rattle.columns.specs.Intervals.{innerEnds, outerEnds, meetEnds, fits, afterToken}
 use Rattle.columns.specs.declared.Interval.{Interval}
-use Rattle.clauses.specs.Clauses.{Tokens, State, Outcome, success, failure}
+use Rattle.columns.specs.declared.Reading.{Reading}
+use Rattle.clauses.specs.Clauses.{Tokens, State, Outcome, success, failure, counts, handedOn}
 use Rattle.clauses.specs.Trace.{Trace, silent, _then_, dropped, captured}
 
 -- An outcome with its trace, or that the bound was met first.
@@ -40,6 +41,13 @@ reads tokens τ a s =
     && eqb (tokens .terminal (s .0)) a
     && fits (s .2) τ (s .1) (tokens .column (s .0))
 
+-- Clause 8, where indentation counts and where it does not, by a function for the child.
+abbrev pub indented : (State Interval → Result) → Bool → ℕ → State Interval → Result
+indented run true ρ s =
+    after (run (s .0, innerEnds ρ (s .1), s .2))
+    (λ s' t. ended (success (s' .0, meetEnds (s .1) (outerEnds ρ (s' .1)), s' .2)) t) (λ t. ended failure t)
+indented run false ρ s = run s
+
 -- The outcome in a result. One that met the bound may be anything, as no grammar that passes the check meets it
 -- (`outcome-given`, in `theorems`); failure is the value that needs no state.
 abbrev pub outcomeIn : Result → Outcome Interval
@@ -51,7 +59,7 @@ abbrev pub traceIn : Result → Trace
 traceIn (ended o t) = t
 traceIn unfinished = silent
 
-module _ (nodes rules : List ℕ) (tokens : Tokens) where
+module _ (reading : Reading) (nodes rules : List ℕ) (tokens : Tokens) where
   -- The clauses, in their order, by a function for what they call.
   abbrev pub step : (ℕ → Form → State Interval → Result) → ℕ → Form → State Interval → Result
   step run τ empty s = ended (success s) silent
@@ -68,13 +76,11 @@ module _ (nodes rules : List ℕ) (tokens : Tokens) where
       after (run τ (form nodes p) s) (λ s' t. ended failure (dropped t)) (λ t. ended (success s) (dropped t))
   step run τ (repeat p) s =
       after (run τ (form nodes p) s) (λ s' t. behind t (run τ (repeat p) s')) (λ t. ended (success s) (dropped t))
-  step run τ (indent p ρ) s =
-      after (run τ (form nodes p) (s .0, innerEnds ρ (s .1), s .2))
-      (λ s' t. ended (success (s' .0, meetEnds (s .1) (outerEnds ρ (s' .1)), s' .2)) t) (λ t. ended failure t)
+  step run τ (indent p ρ) s = indented (λ s'. run τ (form nodes p) s') (counts reading (s .2)) ρ s
   step run τ (position p σ) s = run σ (form nodes p) s
   step run τ (align p) s =
-      after (run τ (form nodes p) (s .0, s .1, true)) (λ s' t. ended (success (s' .0, s' .1, s .2 && s' .2)) t)
-      (λ t. ended failure t)
+      after (run τ (form nodes p) (s .0, s .1, true))
+      (λ s' t. ended (success (s' .0, s' .1, handedOn reading (s .2) (s' .2))) t) (λ t. ended failure t)
   step run τ other s = unfinished
 
   -- With calls at most so deep.

@@ -8,4 +8,5 @@ pub mod ListAnswer
 pub mod ThirdDemand
 pub mod Cases
 pub mod CaptureCases
+pub mod ReadingCases
 pub mod HandbookCases

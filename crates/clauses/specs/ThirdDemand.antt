@@ -1,5 +1,6 @@
 -- Demand 3: for every well-formed grammar, token list and start within the limits the clauses over sets give exactly one
--- outcome, and what a run answers is alike; their captures are those that a run lists (02, Note 2).
+-- outcome, and what a run answers is alike; their captures are those that a run lists (02, Note 2). By either reading, each
+-- "under its own clauses" (02, Note 5).
 use Prim.Native.Nat.{ℕ}
 use mathlib.Core.Path.{_≡_}
 use mathlib.Core.List.{List}
@@ -9,39 +10,40 @@ use Rattle.columns.specs.Sets.{ColumnSet, sets}
 use Rattle.columns.specs.Intervals.{ends}
 use Rattle.columns.specs.declared.Interval.{Interval}
 use Rattle.columns.specs.declared.Start.{Start}
+use Rattle.columns.specs.declared.Reading.{Reading}
 use Rattle.clauses.specs.Clauses.{State, Outcome, success}
 use Rattle.clauses.specs.AlikeOutcomes.{AlikeOutcome}
 use Rattle.clauses.specs.RunAnswer.{SetRun, runAnswer, Reads}
 use Rattle.clauses.specs.ListAnswer.{setCaptures, ourCaptures, listAnswer, listWords, listAfter}
 
-pub record ThirdDemand (nodes rules words : List ℕ) (start : Start) : Type 1 where
+pub record ThirdDemand (reading : Reading) (nodes rules words : List ℕ) (start : Start) : Type 1 where
   -- a run answers an outcome,
   pub ours : Outcome Interval
-  pub answered : runAnswer nodes rules words start ≡ given ours
+  pub answered : runAnswer reading nodes rules words start ≡ given ours
   -- the clauses over sets give one,
   pub theirs : Outcome ColumnSet
-  pub derived : SetRun nodes rules words start theirs
+  pub derived : SetRun reading nodes rules words start theirs
   -- and no other,
-  pub only : (o : Outcome ColumnSet) → SetRun nodes rules words start o → o ≡ theirs
+  pub only : (o : Outcome ColumnSet) → SetRun reading nodes rules words start o → o ≡ theirs
   -- and the two are alike;
   pub alike : AlikeOutcome ends sets ours theirs
   -- a success has read so many tokens from the start's place on,
   pub read : (s : State Interval) → ours ≡ success s → (n : ℕ) × Reads (start .place) n (s .0)
   -- and every derivation over sets has our captures
   pub captures :
-      (o : Outcome ColumnSet) (d : SetRun nodes rules words start o)
-      → setCaptures nodes rules words start o d ≡ ourCaptures nodes rules words start
+      (o : Outcome ColumnSet) (d : SetRun reading nodes rules words start o)
+      → setCaptures reading nodes rules words start o d ≡ ourCaptures reading nodes rules words start
 
 -- The same for a run that lists, into so many lent words: where 13 does not apply either, it answers that outcome and the
 -- number of those captures,
-pub record ListDemand (nodes rules words : List ℕ) (start : Start) (lent : ℕ) : Type 1 where
-  pub demand : ThirdDemand nodes rules words start
+pub record ListDemand (reading : Reading) (nodes rules words : List ℕ) (start : Start) (lent : ℕ) : Type 1 where
+  pub demand : ThirdDemand reading nodes rules words start
   pub answered :
-      listAnswer nodes rules words start lent
-      ≡ given (record { outcome = demand .ours; count = length (ourCaptures nodes rules words start) })
+      listAnswer reading nodes rules words start lent
+      ≡ given (record { outcome = demand .ours; count = length (ourCaptures reading nodes rules words start) })
   -- and the captures of every derivation over sets stand in the lent words afterwards
   pub stands :
       (before : List ℕ)
       → length before ≡ lent
-      → (o : Outcome ColumnSet) (d : SetRun nodes rules words start o)
-      → listAfter nodes rules words start before ≡ listWords (setCaptures nodes rules words start o d) lent
+      → (o : Outcome ColumnSet) (d : SetRun reading nodes rules words start o)
+      → listAfter reading nodes rules words start before ≡ listWords (setCaptures reading nodes rules words start o d) lent

@@ -5,11 +5,12 @@ use mathlib.Core.Path.{_≡_}
 use mathlib.Core.List.{List, [], _∷_, _++_}
 use Rattle.table.specs.Form.{Form}
 use Rattle.columns.specs.Domain.{Domain}
+use Rattle.columns.specs.declared.Reading.{Reading}
 use Rattle.columns.specs.declared.Capture.{Capture}
 use Rattle.clauses.specs.Clauses.{Tokens, State, Outcome, success, failure, Run, empty, terminal-clear}
 use Rattle.clauses.specs.Clauses.{terminal-aligned, terminal-fails, rule, sequence, sequence-fails, choice-first}
 use Rattle.clauses.specs.Clauses.{choice-second, not, not-fails, repeat-ends, repeat-again, indent, indent-fails}
-use Rattle.clauses.specs.Clauses.{position, align, align-fails}
+use Rattle.clauses.specs.Clauses.{indent-through, position, align, align-fails}
 
 -- The captures of a run, where so many are around it.
 pub record Trace : Type 0 where
@@ -38,12 +39,12 @@ entered x w k failure inside = []
 abbrev pub captured {ℓ} : {C : Type ℓ} → ℕ → ℕ → Outcome C → Trace → Trace
 captured x w o t = record { captures = λ k. entered x w k o (t .captures (k + 1)) }
 
-module _ {ℓ κ} (D : Domain {ℓ, κ}) (nodes rules : List ℕ) (tokens : Tokens) where
+module _ {ℓ κ} (D : Domain {ℓ, κ}) (reading : Reading) (nodes rules : List ℕ) (tokens : Tokens) where
   -- The trace of a run, a word for each clause. A failed run's trace may hold what a part of it captured: inside a success
   -- every failure is dropped, and a whole run that fails lists none.
   unfoldable pub trace :
       {τ : ℕ} {f : Form} {s : State (D .Columns)} {o : Outcome (D .Columns)}
-      → Run D nodes rules tokens τ f s o
+      → Run D reading nodes rules tokens τ f s o
       → Trace
   trace empty = silent
   trace (terminal-clear n m) = silent
@@ -58,15 +59,16 @@ module _ {ℓ κ} (D : Domain {ℓ, κ}) (nodes rules : List ℕ) (tokens : Toke
   trace (not-fails d) = dropped (trace d)
   trace (repeat-ends d) = dropped (trace d)
   trace (repeat-again d e) = trace d then trace e
-  trace (indent d) = trace d
-  trace (indent-fails d) = trace d
+  trace (indent c d) = trace d
+  trace (indent-fails c d) = trace d
+  trace (indent-through c d) = trace d
   trace (position d) = trace d
   trace (align d) = trace d
   trace (align-fails d) = trace d
 
   -- The clauses give outcome o, and trace t with it.
   pub record Gives (τ : ℕ) (f : Form) (s : State (D .Columns)) (o : Outcome (D .Columns)) (t : Trace) : Type (ℓ ⊔ κ) where
-    pub run : Run D nodes rules tokens τ f s o
+    pub run : Run D reading nodes rules tokens τ f s o
     pub shows : trace run ≡ t
 
 -- The captures that a whole run lists: "a failure lists none".

@@ -1,5 +1,5 @@
-// Columns, states and captures: the types. An upper end is a column or without end; it stands inside the interval, the
-// interval inside the state, the state inside the outcome's Success case.
+// Columns, states, captures and readings: the types. An upper end is a column or without end; it stands inside the interval,
+// the interval inside the state, the state inside the outcome's Success case.
 
 // An upper end.
 pub enum Upper {
@@ -33,6 +33,12 @@ pub struct Start {
     pub interval: Interval,
     pub flag: bool,
     pub mode: u16,
+}
+
+// Which paper a run is read by (02, Note 5): 001, of 2017, or 000, of 2014.
+pub enum Reading {
+    By2017,
+    By2014,
 }
 
 // What a rule read (02, Note 2): the rule, its first token, the token after its last, and the number of captures around it.

@@ -1,4 +1,1 @@
-pub mod LeafLaws
-pub mod HighLaws
-pub mod WalkLaws
 pub mod RunLaws

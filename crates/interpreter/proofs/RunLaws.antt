@@ -1,292 +1,222 @@
--- What a run answers and lists, over plain values: by the walk's outcome, or by the first number that applies.
+-- What a run answers and lists, over plain values: from what the walk answers, and from the words that it left.
 use Prim.Native.Nat.{ℕ, _+_, _-_, _*_, _/_, _≤_, _<_, _^_, min}
 use mathlib.Core.Path.{_≡_, refl, sym, ap, ap₂, subst, _∙_}
-use mathlib.Core.Bool.{true, false, not as isFalse, _||_}
-use mathlib.Core.List.{List, [], _∷_}
-use lib.ListN.{length, getD}
+use mathlib.Core.Bool.{Bool, true, false, cond}
+use mathlib.Core.List.{List, _++_}
+use lib.ListN.{length, drop}
+use lib.Dec.{leb, ltb}
 use native.Mathlib.Omega.{arith}
-use borrow.Author.Tests.{ltb-false, lt-ltb, le-ltb}
-use Rattle.table.specs.Limits.{mostColumn}
-use Rattle.table.specs.Checks.{isRelation}
-use Rattle.table.proofs.Every.{both-false}
-use lib.Dec.{ltb}
-use Rattle.table.specs.Form.{form, nodeCount}
-use Rattle.columns.specs.Intervals.{ends, isUpTo}
-use Rattle.columns.specs.InternalHighest.{finite}
-use Rattle.columns.specs.declared.Upper.{Upper}
-use Rattle.columns.specs.declared.Upper.the-variants.{At, Endless}
+use borrow.Author.Tests.{lt-ltb, le-ltb, lt-leb, le-leb}
+use Rattle.table.specs.Answer.{Answer, given, refused, refusedAt, andThen, afterwards}
+use Rattle.columns.specs.Intervals.{ends}
 use Rattle.columns.specs.declared.Interval.{Interval}
 use Rattle.columns.specs.declared.State.{State}
 use Rattle.columns.specs.declared.Start.{Start}
-use Rattle.columns.specs.declared.Outcome.{Outcome}
-use Rattle.columns.specs.declared.Outcome.the-variants.{Success, Failure}
-use Rattle.table.specs.Answer.{Answer, given, refused, refusedAt}
-use Rattle.table.proofs.AnswerLaws.{first-refuses, first-names}
-use Rattle.well_formed.specs.Check.{checkAnswer}
-use Rattle.well_formed.proofs.VerdictLaws.{check-means}
-use Rattle.table.specs.Words.{eachWords}
-use Rattle.clauses.specs.Clauses as clauses
-use Rattle.clauses.specs.Trace.{Trace, trace, listed}
-use Rattle.clauses.specs.Limits.{tokensOf, finiteOver, fails11, fails12, WithinLimits}
+use Rattle.columns.specs.declared.Reading.{Reading}
+use Rattle.well_formed.specs.WellFormed.{Passes}
+use Rattle.clauses.specs.Clauses.{Outcome, success, failure}
+use Rattle.clauses.specs.Trace.{listed}
+use Rattle.clauses.specs.Limits.{tokensOf, WithinLimits}
 use Rattle.clauses.specs.RunAnswer.{EndsRun, ourOutcome, ourTrace, runAnswer, Reads}
-use Rattle.clauses.specs.ListAnswer.{endsCaptures, ourCaptures, fails13, Listing, listAnswer, captureWords, listWords, listAfter}
+use Rattle.clauses.specs.ListAnswer.{ourCaptures, fails13, Listing, listAnswer, listWords, listAfter}
 use Rattle.clauses.proofs.ListWords.{length-list, list-fills}
 use Rattle.theorems.proofs.Narrows.{onward}
-use Rattle.theorems.proofs.Agreement.{outcome-only, captures-only, outcome-answered}
-use Rattle.theorems.proofs.LimitLaws.{begins}
-use Rattle.capture_list.specs.Put.{mostCount, clearedFrom}
-use Rattle.capture_list.specs.InternalList.{soFar, Room, Leaves, lists, keeps}
-use Rattle.capture_list.proofs.ClearLaws.{list-is}
-use Rattle.interpreter.specs.declared.Whole.{Whole}
-use Rattle.interpreter.specs.InternalWalk.{stateOf, outcomeOf, weight, Checked, Ready, Walked}
-use Rattle.interpreter.specs.InternalRun.{Admitted, WholeWalk}
+use Rattle.theorems.proofs.Agreement.{run-given, captures-only, outcome-answered, answered-within}
+use Rattle.capture_list.specs.Put.{mostCount}
+use Rattle.walk.specs.WalkAnswer.{numbers as walkNumbers, walkAnswer, walkAfter}
+use Rattle.walk.specs.declared.Walk.{Walk}
 use Rattle.interpreter.specs.Numbers.{CapturesStand}
-use Rattle.interpreter.proofs.WalkLaws.{weight-most}
 
--- A finite upper end of a start within the limits is at most the last column.
-upper-right : (nodes words : List ℕ) (start : Start) → fails12 nodes words start ≡ false → finiteOver (start .interval .upper) ≡ false
-unfolding fails12
-upper-right nodes words start e =
-    let n = isFalse (ltb (start .node) (nodeCount nodes)) in
-    let p = ltb (tokensOf words .count) (start .place) in
-    let o = isFalse (isUpTo (start .interval .lower) (start .interval .upper)) in
-    let l = ltb mostColumn (start .interval .lower) in
-    let u = finiteOver (start .interval .upper) in
-    both-false (n || p || o || l) u (both-false (n || p || o || l || u) (isFalse (isRelation (start .mode))) e .0) .1
+-- What refuses the second of two answers refuses the first, where the second is given.
+refused-first : {A B : Type 0} {number : ℕ} (r : Answer B) (x : A) → refused number ≡ andThen r (given x) → refused number ≡ r
+refused-first (given b) x e = absurd (let z : _≡_ {A = ℕ} 0 1 = cc in omega arith)
+refused-first {number = number} (refused k) x e = let q : number ≡ k = cc in ap refused q
+refused-first (refusedAt k n) x e = absurd (let z : _≡_ {A = ℕ} 0 1 = cc in omega arith)
 
-upper-in : (h : Upper) → finiteOver h ≡ false → finite h ≤ mostColumn
-upper-in (At x) e = ltb-false mostColumn x e
-upper-in Endless e = omega arith
+named-first : {A B : Type 0} {number node : ℕ} (r : Answer B) (x : A) → refusedAt number node ≡ andThen r (given x) → refusedAt number node ≡ r
+named-first (given b) x e = absurd (let z : _≡_ {A = ℕ} 0 1 = cc in omega arith)
+named-first (refused k) x e = absurd (let z : _≡_ {A = ℕ} 0 1 = cc in omega arith)
+named-first {number = number} {node = node} (refusedAt k n) x e = let q : number ≡ k = cc in let p : node ≡ n = cc in ap₂ refusedAt q p
 
--- From an empty list: the count and the words of what is listed.
-count-left :
-    {t : Trace} {l c' l' : List ℕ} {u : State}
-    → Leaves t (0 ∷ 0 ∷ []) l c' l' (Success u)
-    → soFar c' ≡ min (length (t .captures 0)) mostCount
-count-left (lists x) = omega (arith, x .count)
+-- Words that stay, whether there is room or not.
+either : (b : Bool) (after lent : List ℕ) → after ≡ lent → cond b after lent ≡ lent
+either true after lent e = e
+either false after lent e = refl
 
-long-left : {t : Trace} {l c' l' : List ℕ} {o : Outcome} → Leaves t (0 ∷ 0 ∷ []) l c' l' o → length l' ≡ length l
-long-left (lists x) = x .keeps .long
-long-left (keeps x) = x .long
+module _ (reading : Reading) (nodes rules words : List ℕ) (start : Start) where
+  -- The walk's answer, by the case that it is.
+  pub told : {w v : Walk} → w ≡ v → walkNumbers w ≡ walkAnswer reading nodes rules words start → walkNumbers v ≡ walkAnswer reading nodes rules words start
+  told e p = sym (ap walkNumbers e) ∙ p
 
-words-left :
-    {t : Trace} {l c' l' : List ℕ} {o : Outcome}
-    → Leaves t (0 ∷ 0 ∷ []) l c' l' o
-    → length (listed (outcomeOf o) t) * 4 ≤ length l
-    → (i : ℕ)
-    → i < length (listed (outcomeOf o) t) * 4
-    → getD l' i 0 ≡ getD (eachWords captureWords (listed (outcomeOf o) t)) i 0
-words-left {l' = l'} (lists x) f i b = ap (λ (k : ℕ). getD l' k 0) (omega arith) ∙ x .there (omega arith) i b
-words-left (keeps x) f i b = absurd (omega arith)
+  pub run-refused : {number : ℕ} → refused number ≡ walkAnswer reading nodes rules words start → refused number ≡ runAnswer reading nodes rules words start
+  unfolding walkAnswer
+  run-refused e = refused-first (runAnswer reading nodes rules words start) _ e
 
-module _ (nodes rules words : List ℕ) (start : Start) where
-  abbrev Answered : Answer (clauses.Outcome Interval) → Type 0
-  Answered v = v ≡ runAnswer nodes rules words start
+  pub run-named :
+      {number node : ℕ}
+      → refusedAt number node ≡ walkAnswer reading nodes rules words start
+      → refusedAt number node ≡ runAnswer reading nodes rules words start
+  unfolding walkAnswer
+  run-named e = named-first (runAnswer reading nodes rules words start) _ e
 
-  -- The grammar is refused.
-  pub check-refuses : {number : ℕ} → refused number ≡ checkAnswer nodes rules → Answered (refused number)
-  unfolding runAnswer
-  check-refuses e = first-refuses _ e
+  -- What an outcome that is answered shows.
+  pub record Shown (o : Outcome Interval) (n : ℕ) : Type 0 where
+    pub limits : WithinLimits reading nodes rules words start
+    pub well : Passes nodes rules
+    pub outcome : o ≡ ourOutcome reading nodes rules words start
+    pub counted : n ≡ min (length (ourCaptures reading nodes rules words start)) mostCount
 
-  pub check-names : {number node : ℕ} → refusedAt number node ≡ checkAnswer nodes rules → Answered (refusedAt number node)
-  unfolding runAnswer
-  check-names e = first-names _ e
+  -- What the walk gives where nothing refuses.
+  abbrev whole : Listing
+  whole =
+      record {
+        outcome = ourOutcome reading nodes rules words start;
+        count = min (length (ourCaptures reading nodes rules words start)) mostCount;
+      }
 
-  -- 11 and 12.
-  pub refused-11 : checkAnswer nodes rules ≡ given tt → fails11 words ≡ true → Answered (refused 11)
-  unfolding runAnswer
-  refused-11 passed e = rw (passed, e) refl
+  shown-by : (x : Listing) (r : Answer (Outcome Interval)) → runAnswer reading nodes rules words start ≡ r → given x ≡ andThen r (given whole) → Shown (x .outcome) (x .count)
+  shown-by x (given ours) p e =
+      let l = answered-within reading nodes rules words start ours p in
+      let q : x ≡ whole = cc in
+      record { limits = l .0; well = l .1; outcome = ap (λ (v : Listing). v .outcome) q; counted = ap (λ (v : Listing). v .count) q }
+  shown-by x (refused k) p e = absurd (let z : _≡_ {A = ℕ} 0 1 = cc in omega arith)
+  shown-by x (refusedAt k m) p e = absurd (let z : _≡_ {A = ℕ} 0 1 = cc in omega arith)
 
-  pub refused-12 : checkAnswer nodes rules ≡ given tt → fails11 words ≡ false → fails12 nodes words start ≡ true → Answered (refused 12)
-  unfolding runAnswer
-  refused-12 passed e d = rw (passed, e, d) refl
+  pub shown :
+      {o : Outcome Interval} {n : ℕ}
+      → given (record { outcome = o; count = n }) ≡ walkAnswer reading nodes rules words start
+      → Shown o n
+  unfolding walkAnswer
+  shown {o} {n} e = shown-by (record { outcome = o; count = n }) (runAnswer reading nodes rules words start) refl e
 
-  -- What refuses a run refuses one that lists, and the lent words are as they were.
-  module _ (lent : List ℕ) where
+  module _ {o : Outcome Interval} {n : ℕ} (h : Shown o n) where
+    answered : runAnswer reading nodes rules words start ≡ given (ourOutcome reading nodes rules words start)
+    answered = outcome-answered reading nodes rules words start (h .limits) (h .well)
+
+    derived : EndsRun reading nodes rules words start o
+    derived =
+        subst (λ (v : Outcome Interval). EndsRun reading nodes rules words start v) (sym (h .outcome))
+        (run-given reading nodes rules words start (h .limits) (h .well) .run)
+
+  pub answer-failure :
+      {n : ℕ}
+      → Shown failure n
+      → (given failure ≡ runAnswer reading nodes rules words start) × EndsRun reading nodes rules words start failure
+  answer-failure h = (ap given (h .outcome) ∙ sym (answered h), derived h)
+
+  module _ (u : State) {n : ℕ} (h : Shown (success (u .place, u .interval, u .flag)) n) where
+    pub success-onward : start .place ≤ u .place
+    success-onward = onward ends reading nodes rules (tokensOf words) (derived h)
+
+    -- The tokens read end at the walk's place.
+    read : Reads (start .place) (u .place - start .place) (u .place)
+    read = let l = success-onward in omega arith
+
+    pub answer-success :
+        (given (success (start .place + (u .place - start .place), u .interval, u .flag)) ≡ runAnswer reading nodes rules words start)
+        × (EndsRun reading nodes rules words start (success (u .place, u .interval, u .flag))
+        × Reads (start .place) (u .place - start .place) (u .place))
+    answer-success =
+        (ap (λ (w : ℕ). given (success (w, u .interval, u .flag))) read ∙ (ap given (h .outcome) ∙ sym (answered h)), (derived h, read))
+
+  -- The lent words, and those that the walk left.
+  module _ (lent : List ℕ) {l' : List ℕ} (after : l' ≡ walkAfter reading nodes rules words start lent) where
+    -- What refuses a run refuses one that lists, and the words are as they were.
     pub list-refused :
         {number : ℕ}
-        → Answered (refused number)
-        → (refused number ≡ listAnswer nodes rules words start (length lent)) × (lent ≡ listAfter nodes rules words start lent)
-    unfolding listAnswer listAfter
-    list-refused e = (rw (← e) refl, rw (← e) refl)
+        → refused number ≡ runAnswer reading nodes rules words start
+        → (refused number ≡ listAnswer reading nodes rules words start (length lent)) × (l' ≡ listAfter reading nodes rules words start lent)
+    unfolding listAnswer listAfter walkAfter
+    list-refused e =
+        (rw (← e) refl, rw (← e) (after ∙ either (leb (length (ourCaptures reading nodes rules words start)) (length lent / 4)) _ lent (rw (← e) refl)))
 
     pub list-named :
         {number node : ℕ}
-        → Answered (refusedAt number node)
-        → (refusedAt number node ≡ listAnswer nodes rules words start (length lent)) × (lent ≡ listAfter nodes rules words start lent)
-    unfolding listAnswer listAfter
-    list-named e = (rw (← e) refl, rw (← e) refl)
+        → refusedAt number node ≡ runAnswer reading nodes rules words start
+        → (refusedAt number node ≡ listAnswer reading nodes rules words start (length lent)) × (l' ≡ listAfter reading nodes rules words start lent)
+    unfolding listAnswer listAfter walkAfter
+    list-named e =
+        (rw (← e) refl, rw (← e) (after ∙ either (leb (length (ourCaptures reading nodes rules words start)) (length lent / 4)) _ lent (rw (← e) refl)))
 
-  module _ (admitted : Admitted nodes rules words start) where
-    limits : WithinLimits nodes rules words start
-    limits =
-        record {
-          table = check-means nodes rules .passes .0 (admitted .table) .0;
-          tokens = admitted .tokens;
-          start-right = admitted .start-right;
-        }
-
-    checked : Checked nodes rules words
-    checked = record { table = limits .table; well = check-means nodes rules .passes .0 (admitted .table) .1; tokens = admitted .tokens }
-
-    -- The walk may begin.
-    abbrev from : State
-    from = record { place = start .place; interval = start .interval; flag = start .flag }
-
-    pub begin-ready : Ready nodes rules words (start .node) from
-    begin-ready =
-        let b = begins nodes words start (admitted .start-right) in
-        let l = b .lower in
-        let u = upper-in (start .interval .upper) (upper-right nodes words start (admitted .start-right)) in
-        let w = weight-most nodes rules words (start .node) from checked (b .node) in
-        record { checked = checked; node = b .node; place = b .place; room = omega arith }
-
-    pub begin-room : {l : List ℕ} → length l < 2 ^ 64 → Room (weight nodes rules words (start .node) from) (0 ∷ 0 ∷ []) l
-    begin-room h =
-        let b = begins nodes words start (admitted .start-right) in
-        let w = weight-most nodes rules words (start .node) from checked (b .node) in
-        record { deep = omega arith; count = omega arith; long = h }
-
-    -- The walk's outcome is the one that is defined.
-    settled : (o : clauses.Outcome Interval) → EndsRun nodes rules words start o → o ≡ ourOutcome nodes rules words start
-    settled o d = outcome-only nodes rules words start limits (checked .well) o d
-
-    answered : Answered (given (ourOutcome nodes rules words start))
-    answered = sym (outcome-answered nodes rules words start limits (checked .well))
-
-    -- What a whole walk shows, from what the expression walk shows.
-    module _ {l : List ℕ} {o : Outcome} {c' l' : List ℕ}
-        (d : Walked nodes rules words (start .mode) (form nodes (start .node)) from (0 ∷ 0 ∷ []) l o c' l') where
-      same : listed (outcomeOf o) (d .shown) ≡ ourCaptures nodes rules words start
-      same =
-          ap (listed (outcomeOf o)) (sym (d .gives .derived .shows))
-          ∙ captures-only nodes rules words start limits (checked .well) (outcomeOf o) (d .gives .derived .run)
-
-      whole : (n : ℕ) → n ≡ min (length (listed (outcomeOf o) (d .shown))) mostCount
-          → WholeWalk nodes rules words start l (record { outcome = o; count = n }) l'
-      whole n e =
-          record {
-            run = d .gives .derived .run;
-            count = rw (← same) e;
-            long = long-left (d .left);
-            there = rw (← same) (words-left (d .left));
-          }
-
-    pub whole-failed :
-        {l : List ℕ} {o : Outcome} {c' l' : List ℕ}
-        → Walked nodes rules words (start .mode) (form nodes (start .node)) from (0 ∷ 0 ∷ []) l o c' l'
-        → o ≡ Failure
-        → WholeWalk nodes rules words start l (record { outcome = Failure; count = 0 }) l'
-    whole-failed {l} {o} {c'} {l'} d e =
-        let f : Walked nodes rules words (start .mode) (form nodes (start .node)) from (0 ∷ 0 ∷ []) l Failure c' l' = rw e at d in
-        whole f 0 (omega arith)
-
-    pub whole-read :
-        {l : List ℕ} {o : Outcome} {c' l' : List ℕ} (u : State)
-        → Walked nodes rules words (start .mode) (form nodes (start .node)) from (0 ∷ 0 ∷ []) l o c' l'
-        → o ≡ Success u
-        → WholeWalk nodes rules words start l (record { outcome = Success u; count = soFar c' }) l'
-    whole-read {l} {o} {c'} {l'} u d e =
-        let f : Walked nodes rules words (start .mode) (form nodes (start .node)) from (0 ∷ 0 ∷ []) l (Success u) c' l' = rw e at d in
-        whole f (soFar c') (count-left (f .left))
-
-    -- What a run answers by a walk w.
-    module _ {l : List ℕ} {w : Whole} {l' : List ℕ} (d : WholeWalk nodes rules words start l w l') where
-      derived : (o : Outcome) → w .outcome ≡ o → EndsRun nodes rules words start (outcomeOf o)
-      derived o e = subst (λ (v : Outcome). EndsRun nodes rules words start (outcomeOf v)) e (d .run)
-
-      pub answer-failure : w .outcome ≡ Failure → Answered (given clauses.failure) × EndsRun nodes rules words start clauses.failure
-      answer-failure e = let f = derived Failure e in (ap given (settled clauses.failure f) ∙ answered, f)
-
-      module _ (u : State) (e : w .outcome ≡ Success u) where
-        pub success-onward : start .place ≤ u .place
-        success-onward = onward ends nodes rules (tokensOf words) (derived (Success u) e)
-
-        -- The tokens read end at the walk's place.
-        pub read : Reads (start .place) (u .place - start .place) (u .place)
-        read = let h = success-onward in omega arith
-
-        pub answer-success :
-            Answered (given (clauses.success (start .place + (u .place - start .place), u .interval, u .flag)))
-            × (EndsRun nodes rules words start (clauses.success (u .place, u .interval, u .flag))
-            × Reads (start .place) (u .place - start .place) (u .place))
-        answer-success =
-            let f = derived (Success u) e in
-            (ap (λ (w : ℕ). given (clauses.success (w, u .interval, u .flag))) read ∙ (ap given (settled _ f) ∙ answered), (f, read))
-
-    -- A run that lists: a first walk counts n captures, of a slice of so many words.
-    module _ (lent : List ℕ) (short : length lent < 2 ^ 64) {n : ℕ} (e : n ≡ min (length (ourCaptures nodes rules words start)) mostCount) where
+    module _ (short : length lent < 2 ^ 64) (m : length l' ≡ length lent) {o : Outcome Interval} {n : ℕ} (h : Shown o n) where
+      -- 13.
       pub list-13 :
-          length lent / 4 < n
-          → (refused 13 ≡ listAnswer nodes rules words start (length lent)) × (lent ≡ listAfter nodes rules words start lent)
-      unfolding listAnswer listAfter fails13
-      list-13 h =
-          let k : length lent / 4 < length (ourCaptures nodes rules words start) = omega arith in
-          let f = lt-ltb (length lent / 4) (length (ourCaptures nodes rules words start)) k in
-          (rw (← answered, f) refl, rw (← answered, f) refl)
+          length l' / 4 < n
+          → (refused 13 ≡ listAnswer reading nodes rules words start (length lent)) × (l' ≡ listAfter reading nodes rules words start lent)
+      unfolding listAnswer listAfter fails13 walkAfter
+      list-13 k =
+          let c = h .counted in
+          let l : length lent / 4 < length (ourCaptures reading nodes rules words start) = omega arith in
+          let f = lt-ltb (length lent / 4) (length (ourCaptures reading nodes rules words start)) l in
+          let g = lt-leb (length (ourCaptures reading nodes rules words start)) (length lent / 4) l in
+          (rw (answered h, f) refl, rw (answered h, f) (rw g at after))
 
-      module _ (h : n ≤ length lent / 4) where
-        exact : n ≡ length (ourCaptures nodes rules words start)
-        exact = omega arith
+      module _ (k : n ≤ length l' / 4) where
+        exact : n ≡ length (ourCaptures reading nodes rules words start)
+        exact = let c = h .counted in omega arith
 
-        fits : length (ourCaptures nodes rules words start) * 4 ≤ length lent
-        fits = let k = exact in omega arith
+        fits : length (ourCaptures reading nodes rules words start) * 4 ≤ length lent
+        fits = let e = exact in omega arith
 
-        passes : fails13 nodes rules words start (length lent) ≡ false
+        passes : fails13 reading nodes rules words start (length lent) ≡ false
         unfolding fails13
-        passes = le-ltb (length lent / 4) (length (ourCaptures nodes rules words start)) (let k = exact in omega arith)
+        passes = le-ltb (length lent / 4) (length (ourCaptures reading nodes rules words start)) (let e = exact in omega arith)
 
-        -- The answer, and the words that a second walk and the clearing left.
         given-list :
-            given (record { outcome = ourOutcome nodes rules words start; count = n })
-            ≡ listAnswer nodes rules words start (length lent)
+            given (record { outcome = o; count = n })
+            ≡ listAnswer reading nodes rules words start (length lent)
         unfolding listAnswer
-        given-list = rw (← answered, passes, exact) refl
+        given-list = rw (answered h, passes, exact, h .outcome) refl
 
-        module _ {w : Whole} {l' l'' : List ℕ} (d : WholeWalk nodes rules words start lent w l') (z : l'' ≡ clearedFrom (n * 4) l') where
-          slice : l'' ≡ listWords (ourCaptures nodes rules words start) (length lent)
-          slice =
-              z
-              ∙ rw exact
-              (list-is (ourCaptures nodes rules words start) (length lent) l' (d .long) fits (d .there fits))
+        room : leb (length (ourCaptures reading nodes rules words start)) (length lent / 4) ≡ true
+        room = le-leb (length (ourCaptures reading nodes rules words start)) (length lent / 4) (let e = exact in omega arith)
 
-          after : l'' ≡ listAfter nodes rules words start lent
-          unfolding listAfter
-          after = rw (← given-list) (slice ∙ sym (list-fills (ourCaptures nodes rules words start) lent fits))
+        -- The words are the list's.
+        written :
+            l'
+            ≡ (listWords (ourCaptures reading nodes rules words start) (length lent)
+            ++ drop (length (listWords (ourCaptures reading nodes rules words start) (length lent))) lent)
+        unfolding walkAfter
+        written = rw (room, answered h) at after
 
-          stands : (o : clauses.Outcome Interval) → EndsRun nodes rules words start o → CapturesStand nodes rules words start o n l''
-          stands o f =
-              let c = captures-only nodes rules words start limits (checked .well) o f in
-              let m = ap length slice ∙ length-list (ourCaptures nodes rules words start) (length lent) fits in
-              record { run = f; counted = exact ∙ ap length (sym c); stands = rw (c, m) slice }
+        slice : l' ≡ listWords (ourCaptures reading nodes rules words start) (length lent)
+        slice = written ∙ list-fills (ourCaptures reading nodes rules words start) lent fits
 
-          -- A failure lists none.
-          module _ (f : w .outcome ≡ Failure) where
-            none : n ≡ 0
-            none = exact ∙ ap (λ (o : clauses.Outcome Interval). length (listed o (ourTrace nodes rules words start))) (sym (settled clauses.failure (derived d Failure f)))
+        left : l' ≡ listAfter reading nodes rules words start lent
+        unfolding listAfter
+        left = rw (← given-list) written
 
-            pub list-failure :
-                (given (record { outcome = clauses.failure; count = 0 }) ≡ listAnswer nodes rules words start (length lent))
-                × ((l'' ≡ listAfter nodes rules words start lent) × CapturesStand nodes rules words start clauses.failure 0 l'')
-            list-failure =
-                let g = derived d Failure f in
-                let x = stands clauses.failure g in (
-                  ap₂ (λ (o : clauses.Outcome Interval) (k : ℕ). given (record { outcome = o; count = k })) (settled clauses.failure g) (sym none) ∙ given-list,
-                  (after, record { run = x .run; counted = sym none ∙ x .counted; stands = x .stands }),
-                )
+        stands : CapturesStand reading nodes rules words start o n l'
+        stands =
+            let f = derived h in
+            let c = captures-only reading nodes rules words start (h .limits) (h .well) o f in
+            record { run = f; counted = exact ∙ ap length (sym c); stands = rw (c, m) slice }
 
-          module _ (u : State) (f : w .outcome ≡ Success u) where
-            pub list-success :
-                (given (record { outcome = clauses.success (start .place + (u .place - start .place), u .interval, u .flag); count = n })
-                ≡ listAnswer nodes rules words start (length lent))
-                × ((l'' ≡ listAfter nodes rules words start lent)
-                × (CapturesStand nodes rules words start (clauses.success (u .place, u .interval, u .flag)) n l''
-                × Reads (start .place) (u .place - start .place) (u .place)))
-            list-success =
-                let g = derived d (Success u) f in
-                let r = read d u f in (
-                  ap (λ (v : ℕ). given (record { outcome = clauses.success (v, u .interval, u .flag); count = n })) r
-                      ∙ ap (λ (o : clauses.Outcome Interval). given (record { outcome = o; count = n })) (settled _ g)
-                      ∙ given-list,
-                  (after, (stands _ g, r)),
-                )
+        pub list-given :
+            (given (record { outcome = o; count = n }) ≡ listAnswer reading nodes rules words start (length lent))
+            × ((l' ≡ listAfter reading nodes rules words start lent) × CapturesStand reading nodes rules words start o n l')
+        list-given = (given-list, (left, stands))
+
+    module _ (short : length lent < 2 ^ 64) (m : length l' ≡ length lent) where
+      -- A failure lists none, so it has room.
+      pub list-failure :
+          Shown failure 0
+          → (given (record { outcome = failure; count = 0 }) ≡ listAnswer reading nodes rules words start (length lent))
+          × ((l' ≡ listAfter reading nodes rules words start lent) × CapturesStand reading nodes rules words start failure 0 l')
+      list-failure h = list-given short m h (omega arith)
+
+      pub list-success :
+          (u : State) {n : ℕ}
+          → Shown (success (u .place, u .interval, u .flag)) n
+          → n ≤ length l' / 4
+          → (given (record { outcome = success (start .place + (u .place - start .place), u .interval, u .flag); count = n })
+          ≡ listAnswer reading nodes rules words start (length lent))
+          × ((l' ≡ listAfter reading nodes rules words start lent)
+          × (CapturesStand reading nodes rules words start (success (u .place, u .interval, u .flag)) n l'
+          × Reads (start .place) (u .place - start .place) (u .place)))
+      list-success u {n} h k =
+          let x = list-given short m h k in
+          let r = read u h in (
+            ap (λ (v : ℕ). given (record { outcome = success (v, u .interval, u .flag); count = n })) r ∙ x .0,
+            (x .1 .0, (x .1 .1, r)),
+          )

@@ -8,6 +8,8 @@
 // words, then the rule words, two bytes each. A token word has four. The kinds:
 //   r  run the table over the tokens; no words are lent
 //   l  the same, and list the captures in the words lent
+//   R, L  the same two by the reading of 2014
+use columns::Reading;
 use columns::Start;
 use interpreter::Listed;
 use interpreter::Ran;
@@ -32,6 +34,10 @@ use stored_cases::triple;
 const RUN: usize = b'r' as usize;
 
 const LIST: usize = b'l' as usize;
+
+const RUN_BY_2014: usize = b'R' as usize;
+
+const LIST_BY_2014: usize = b'L' as usize;
 
 // What every lent word holds before a run that lists.
 const MARKER: u32 = 4000000000;
@@ -82,12 +88,33 @@ fn record(cases: &[u8], at: usize, table: &mut [u8], text: &mut [u8]) -> usize {
 fn call(header: &[u8], nodes: &[u8], rules: &[u8], tokens: &[u8]) {
     let start = stored_runs::start(part(header, 2, 18));
     match byte(header, 0) {
-        RUN => show_run(stored_runs::run_stored(nodes, rules, tokens, start)),
-        LIST => lend(nodes, rules, tokens, start, pair(header, 41)),
+        RUN => run(nodes, rules, tokens, start, Reading::By2017),
+        RUN_BY_2014 => run(nodes, rules, tokens, start, Reading::By2014),
+        LIST => lend(
+            nodes,
+            rules,
+            tokens,
+            start,
+            Reading::By2017,
+            pair(header, 41),
+        ),
+        LIST_BY_2014 => lend(
+            nodes,
+            rules,
+            tokens,
+            start,
+            Reading::By2014,
+            pair(header, 41),
+        ),
         _ => {
             io::write_all(1, b"no such call");
         }
     }
+}
+
+// Makes a call without a list.
+fn run(nodes: &[u8], rules: &[u8], tokens: &[u8], start: Start, reading: Reading) {
+    show_run(stored_runs::run_stored(nodes, rules, tokens, start, reading));
 }
 
 // Prints what a run ended in, for a success the place too.
@@ -99,7 +126,7 @@ fn show_run(ran: Ran) {
 }
 
 // Makes a call that is lent x words for its captures.
-fn lend(nodes: &[u8], rules: &[u8], tokens: &[u8], start: Start, x: usize) {
+fn lend(nodes: &[u8], rules: &[u8], tokens: &[u8], start: Start, reading: Reading, x: usize) {
     let mut node_words = stored_cases::room_for_nodes();
     let mut rule_words = stored_cases::room_for_rules();
     let mut token_words = stored_cases::room_for_tokens();
@@ -113,6 +140,7 @@ fn lend(nodes: &[u8], rules: &[u8], tokens: &[u8], start: Start, x: usize) {
         rules,
         tokens,
         start,
+        reading,
         &mut node_words[0..n],
         &mut rule_words[0..r],
         &mut token_words[0..t],
@@ -126,6 +154,7 @@ fn list_in(
     rules: &[u8],
     tokens: &[u8],
     start: Start,
+    reading: Reading,
     first: &mut [u16],
     second: &mut [u16],
     words: &mut [u32],
@@ -135,12 +164,19 @@ fn list_in(
     load_16(rules, second);
     load_32(tokens, words);
     mark_32(captures, MARKER);
-    show_list(first, second, words, start, captures);
+    show_list(first, second, words, start, reading, captures);
 }
 
 // Prints what a run that lists ended in, and the words that it was lent.
-fn show_list(nodes: &[u16], rules: &[u16], tokens: &[u32], start: Start, captures: &mut [u32]) {
-    let listed = interpreter::list(nodes, rules, tokens, start, captures);
+fn show_list(
+    nodes: &[u16],
+    rules: &[u16],
+    tokens: &[u32],
+    start: Start,
+    reading: Reading,
+    captures: &mut [u32],
+) {
+    let listed = interpreter::list(nodes, rules, tokens, start, reading, captures);
     match listed {
         Listed::Success(read, state, count) => {
             show_run(Ran::Success(read, state));

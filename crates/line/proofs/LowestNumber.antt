@@ -12,6 +12,7 @@ use Rattle.table.specs.Limits.{mostNodes, mostRules, mostTokens}
 use Rattle.file_fields.specs.Fields.{Field}
 use Rattle.columns.specs.declared.Start.{Start}
 use Rattle.columns.specs.declared.Interval.{Interval}
+use Rattle.columns.specs.declared.Reading.the-variants.{By2017}
 use Rattle.clauses.specs.Clauses.{Outcome}
 use Rattle.clauses.specs.RunAnswer.{ourOutcome, runAnswer}
 use lib.ListN.{length}
@@ -19,7 +20,7 @@ use Rattle.grammar_file.specs.File.{Contents, fieldsOf, nodeTable, ruleList, st
 use Rattle.token_words.specs.Places.{places}
 use Rattle.token_words.specs.Scan.{wordsOf, scanTokens, scanAnswer, fails8, fails9, fails10}
 use Rattle.well_formed.specs.Check.{checkAnswer, verdictFrom, isWell}
-use Rattle.clauses.specs.Limits.{fails11, fails12}
+use Rattle.clauses.specs.Limits.{fails11, fails12, fails16}
 use Rattle.line.specs.Line.{startAt, afterParts, lineAnswer}
 use Rattle.line.specs.Lowest.{Refuses, Gives, by-reader, by-check, by-scanner, by-interpreter, Lowest}
 
@@ -231,9 +232,9 @@ module _ (file report : List ℕ) where
 
   -- "the lowest number that any of the four parts gives"
   pub lowest-number : (n : ℕ) → Refuses (lineAnswer file report) n → Lowest file report n
-  unfolding lineAnswer afterParts readAnswer scanAnswer fileAnswer checkAnswer tableAnswer runAnswer
+  unfolding lineAnswer afterParts readAnswer scanAnswer fileAnswer checkAnswer tableAnswer runAnswer fails16
   lowest-number n e =
-      let least = by-file (fails11 words) (fails12 nodes words start) (length (places report)) (contents fs) (ourOutcome nodes rules words start)
+      let least = by-file (fails11 words) (fails12 nodes words start) (length (places report)) (contents fs) (ourOutcome By2017 nodes rules words start)
       (fails1 file) (fails2 fs) (fails3 nodes rules) (fails4 nodes rules) (fails5ByFile fs) (fails5 nodes rules)
       (fails6 fs (mostNodes * 4) mostRules) (fails8 report) (fails9 report) (fails10 report (mostTokens * 4))
       (verdictFrom (isWell nodes rules) 0 (nodeCount nodes)) n (verdict-seven (isWell nodes rules) 0 (nodeCount nodes)) (five-by-table fs) e in
@@ -245,7 +246,7 @@ module _ (file report : List ℕ) where
       lower :
           {n : ℕ}
           → Least (readAnswer file (mostNodes * 4) mostRules) (checkAnswer nodes rules)
-          (scanAnswer file report (mostTokens * 4)) (runAnswer nodes rules words start) n
+          (scanAnswer file report (mostTokens * 4)) (runAnswer By2017 nodes rules words start) n
           → (m : ℕ)
           → Gives file report m
           → n ≤ m
@@ -259,7 +260,7 @@ module _ (file report : List ℕ) where
       → Gives file report m
       → Refuses (readAnswer file (mostNodes * 4) mostRules) m
       ⊎ (Refuses (checkAnswer nodes rules) m
-      ⊎ (Refuses (scanAnswer file report (mostTokens * 4)) m ⊎ Refuses (runAnswer nodes rules words start) m))
+      ⊎ (Refuses (scanAnswer file report (mostTokens * 4)) m ⊎ Refuses (runAnswer By2017 nodes rules words start) m))
   part-of (by-reader r) = inl r
   part-of (by-check r) = inr (inl r)
   part-of (by-scanner r) = inr (inr (inl r))
@@ -267,9 +268,9 @@ module _ (file report : List ℕ) where
 
   -- Where the line has no number, no part gives one.
   pub no-number : (y : Outcome Interval) → given y ≡ lineAnswer file report → (m : ℕ) → Gives file report m → ⊥
-  unfolding lineAnswer afterParts readAnswer scanAnswer fileAnswer checkAnswer tableAnswer runAnswer
+  unfolding lineAnswer afterParts readAnswer scanAnswer fileAnswer checkAnswer tableAnswer runAnswer fails16
   no-number y e m g =
-      none-file (fails11 words) (fails12 nodes words start) (length (places report)) (contents fs) (ourOutcome nodes rules words start)
+      none-file (fails11 words) (fails12 nodes words start) (length (places report)) (contents fs) (ourOutcome By2017 nodes rules words start)
       (fails1 file) (fails2 fs) (fails3 nodes rules) (fails4 nodes rules) (fails5ByFile fs) (fails5 nodes rules)
       (fails6 fs (mostNodes * 4) mostRules) (fails8 report) (fails9 report) (fails10 report (mostTokens * 4))
       (verdictFrom (isWell nodes rules) 0 (nodeCount nodes)) y m (five-by-table fs) e (part-of g)

@@ -7,6 +7,7 @@ use Rattle.table.specs.Answer.{Answer, given, refused, refusedAt, afterwards}
 use Rattle.grammar_file.specs.File.{fieldsOf, nodeTable, ruleList}
 use Rattle.token_words.specs.Scan.{wordsOf, scanTokens}
 use Rattle.columns.specs.declared.Start.{Start}
+use Rattle.columns.specs.declared.Reading.the-variants.{By2017}
 use Rattle.clauses.specs.RunAnswer.{runAnswer}
 use Rattle.clauses.specs.ListAnswer.{Listing, listAnswer, listAfter, listWords}
 use Rattle.interpreter.specs.Numbers.{numbers, listNumbers}
@@ -45,33 +46,33 @@ module _ {file report : List ℕ} {room n r t node mode : ℕ} {nodes rules toke
       room ≡ 16384
       → {start : Start} (x : Ran)
       → start ≡ startAt node mode
-      → numbers (start .place) x ≡ runAnswer (take (n * 4) nodes) (take r rules) (take (t * 4) tokens) start
+      → numbers (start .place) x ≡ runAnswer By2017 (take (n * 4) nodes) (take r rules) (take (t * 4) tokens) start
       → numbers 0 x ≡ lineAnswer file report
   unfolding lineAnswer
   line-runs l x e d =
-      let q : numbers 0 x ≡ runAnswer (take (n * 4) nodes) (take r rules) (take (t * 4) tokens) (fileStart file) =
-      subst (λ (s : Start). numbers (s .place) x ≡ runAnswer (take (n * 4) nodes) (take r rules) (take (t * 4) tokens) s) (same-start e) d in
+      let q : numbers 0 x ≡ runAnswer By2017 (take (n * 4) nodes) (take r rules) (take (t * 4) tokens) (fileStart file) =
+      subst (λ (s : Start). numbers (s .place) x ≡ runAnswer By2017 (take (n * 4) nodes) (take r rules) (take (t * 4) tokens) s) (same-start e) d in
       q
       ∙ rw (h .nodes-are, h .rules-are, h .tokens-are)
       (rw l at
       (parts-pass file report room
-      (runAnswer (nodeTable (fieldsOf file)) (ruleList (fieldsOf file)) (wordsOf (scanTokens file report)) (fileStart file)) (h .passes)))
+      (runAnswer By2017 (nodeTable (fieldsOf file)) (ruleList (fieldsOf file)) (wordsOf (scanTokens file report)) (fileStart file)) (h .passes)))
 
   -- The answer of a list, and the words lent for its captures.
   module _ (before : List ℕ) {start : Start} (e : start ≡ startAt node mode) where
-    list-is : listAnswer (take (n * 4) nodes) (take r rules) (take (t * 4) tokens) start (length before) ≡ entriesAnswer file report room (length before)
+    list-is : listAnswer By2017 (take (n * 4) nodes) (take r rules) (take (t * 4) tokens) start (length before) ≡ entriesAnswer file report room (length before)
     unfolding entriesAnswer
     list-is = rw (same-start e, h .nodes-are, h .rules-are, h .tokens-are) (parts-pass file report room _ (h .passes))
 
     pub list-answers :
         (y : Listed)
-        → listNumbers (start .place) y ≡ listAnswer (take (n * 4) nodes) (take r rules) (take (t * 4) tokens) start (length before)
+        → listNumbers (start .place) y ≡ listAnswer By2017 (take (n * 4) nodes) (take r rules) (take (t * 4) tokens) start (length before)
         → listNumbers 0 y ≡ entriesAnswer file report room (length before)
     list-answers y d = subst (λ (s : Start). listNumbers (s .place) y ≡ entriesAnswer file report room (length before)) (same-start e) (d ∙ list-is)
 
     pub list-leaves :
         {after : List ℕ}
-        → after ≡ listAfter (take (n * 4) nodes) (take r rules) (take (t * 4) tokens) start before
+        → after ≡ listAfter By2017 (take (n * 4) nodes) (take r rules) (take (t * 4) tokens) start before
         → after ≡ capturesAfter file report room before
     unfolding listAfter capturesAfter entriesAnswer
     list-leaves d =
@@ -79,7 +80,7 @@ module _ {file report : List ℕ} {room n r t node mode : ℕ} {nodes rules toke
         ∙ rw (same-start e, h .nodes-are, h .rules-are, h .tokens-are)
         (ap (λ (a : Answer Listing). afterwards a (listWords (entries file report) (length before)) before)
         (parts-pass file report room
-        (listAnswer (nodeTable (fieldsOf file)) (ruleList (fieldsOf file)) (wordsOf (scanTokens file report)) (fileStart file) (length before))
+        (listAnswer By2017 (nodeTable (fieldsOf file)) (ruleList (fieldsOf file)) (wordsOf (scanTokens file report)) (fileStart file) (length before))
         (h .passes)))
 
   pub token-count : t ≡ tokenCount file report room

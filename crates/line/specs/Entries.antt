@@ -9,6 +9,7 @@ use Rattle.grammar_file.specs.File.{fieldsOf, nodeTable, ruleList}
 use Rattle.token_words.specs.Scan.{wordsOf, scanTokens}
 use Rattle.columns.specs.declared.Capture.{Capture}
 use Rattle.columns.specs.declared.Interval.{Interval}
+use Rattle.columns.specs.declared.Reading.the-variants.{By2017}
 use Rattle.clauses.specs.Clauses.{Outcome}
 use Rattle.clauses.specs.ListAnswer.{ourCaptures, Listing, listAnswer, listWords}
 use Rattle.line.specs.Line.{fileStart, afterParts, partsAnswer}
@@ -18,7 +19,7 @@ use Rattle.line.specs.Line.{fileStart, afterParts, partsAnswer}
 unfoldable pub entriesAnswer : List ℕ → List ℕ → ℕ → ℕ → Answer Listing
 entriesAnswer file report tokensLent capturesLent =
     afterParts file report tokensLent
-    (listAnswer (nodeTable (fieldsOf file)) (ruleList (fieldsOf file)) (wordsOf (scanTokens file report))
+    (listAnswer By2017 (nodeTable (fieldsOf file)) (ruleList (fieldsOf file)) (wordsOf (scanTokens file report))
     (fileStart file) capturesLent)
 
 -- The outcome alone, by which the last line is printed.
@@ -50,7 +51,7 @@ tokensAfter file report before =
 -- The captures of the file's start.
 abbrev pub entries : List ℕ → List ℕ → List Capture
 entries file report =
-    ourCaptures (nodeTable (fieldsOf file)) (ruleList (fieldsOf file)) (wordsOf (scanTokens file report)) (fileStart file)
+    ourCaptures By2017 (nodeTable (fieldsOf file)) (ruleList (fieldsOf file)) (wordsOf (scanTokens file report)) (fileStart file)
 
 -- The words lent for the captures afterwards: the list and zeros behind it, where nothing refuses.
 unfoldable pub capturesAfter : List ℕ → List ℕ → ℕ → List ℕ → List ℕ

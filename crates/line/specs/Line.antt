@@ -13,6 +13,7 @@ use Rattle.columns.specs.declared.Start.{Start}
 use Rattle.grammar_file.specs.File.{fieldsOf, nodeTable, ruleList, startNode, startMode, readAnswer}
 use Rattle.token_words.specs.Scan.{wordsOf, scanTokens, scanAnswer}
 use Rattle.well_formed.specs.Check.{checkAnswer}
+use Rattle.columns.specs.declared.Reading.the-variants.{By2017}
 use Rattle.clauses.specs.Clauses.{Outcome}
 use Rattle.clauses.specs.RunAnswer.{runAnswer}
 use Rattle.answer_line.specs.AnswerLine.{lineBytes, room}
@@ -41,7 +42,7 @@ partsAnswer file report lent = afterParts file report lent (given tt)
 unfoldable pub lineAnswer : List ℕ → List ℕ → Answer (Outcome Interval)
 lineAnswer file report =
     afterParts file report (mostTokens * 4)
-    (runAnswer (nodeTable (fieldsOf file)) (ruleList (fieldsOf file)) (wordsOf (scanTokens file report)) (fileStart file))
+    (runAnswer By2017 (nodeTable (fieldsOf file)) (ruleList (fieldsOf file)) (wordsOf (scanTokens file report)) (fileStart file))
 
 -- How many bytes are written to a slice of so many: all of the line, or none where it has fewer than 64.
 unfoldable pub lineCount : List ℕ → List ℕ → ℕ → ℕ

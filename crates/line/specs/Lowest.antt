@@ -7,6 +7,7 @@ use Rattle.table.specs.Limits.{mostNodes, mostRules, mostTokens}
 use Rattle.grammar_file.specs.File.{fieldsOf, nodeTable, ruleList, startNode, startMode, readAnswer}
 use Rattle.token_words.specs.Scan.{wordsOf, scanTokens, scanAnswer}
 use Rattle.well_formed.specs.Check.{checkAnswer}
+use Rattle.columns.specs.declared.Reading.the-variants.{By2017}
 use Rattle.clauses.specs.RunAnswer.{runAnswer}
 use Rattle.line.specs.Line.{startAt}
 
@@ -23,7 +24,7 @@ pub data Gives (file report : List ℕ) (n : ℕ) : Type 0 where
   by-scanner : Refuses (scanAnswer file report (mostTokens * 4)) n → Gives file report n
   by-interpreter :
       Refuses
-      (runAnswer (nodeTable (fieldsOf file)) (ruleList (fieldsOf file)) (wordsOf (scanTokens file report))
+      (runAnswer By2017 (nodeTable (fieldsOf file)) (ruleList (fieldsOf file)) (wordsOf (scanTokens file report))
       (startAt (startNode (fieldsOf file)) (startMode (fieldsOf file)))) n
       → Gives file report n
 

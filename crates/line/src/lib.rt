@@ -3,6 +3,7 @@
 use answer_line::ROOM;
 use columns::Capture;
 use columns::Interval;
+use columns::Reading;
 use columns::Start;
 use columns::Upper;
 use grammar_file::FileRead;
@@ -94,6 +95,7 @@ pub fn list(file: &[u8], report: &[u8], tokens: &mut [u32], captures: &mut [u32]
                 &rules[..r],
                 &tokens[..words],
                 start_at(node, mode),
+                Reading::By2017,
                 captures,
             );
             counted(y, t)
@@ -147,6 +149,7 @@ fn answer(file: &[u8], report: &[u8]) -> Ran
                 &rules[..r],
                 &tokens[..words],
                 start_at(node, mode),
+                Reading::By2017,
             )
         }
     }

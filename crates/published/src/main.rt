@@ -4,8 +4,9 @@
 // A record is a header of 29 bytes, a label and three parts. The header has the kind of the call and the label's length in
 // one byte each, the start in 18 (`stored_runs::start`), and the lengths of the three parts in three each. The kinds:
 //   r  run a table: the parts are node words and rule words of two bytes and token words of four
+//   R  the same by the reading of 2014
 //   l  the line of a grammar file and a report, the first two parts; no start is told
-use interpreter::Ran;
+use columns::Reading;
 use stored_cases::MOST_RECORDS;
 use stored_cases::byte;
 use stored_cases::label;
@@ -14,6 +15,8 @@ use stored_cases::triple;
 
 // The kinds of calls.
 const RUN: usize = b'r' as usize;
+
+const RUN_BY_2014: usize = b'R' as usize;
 
 const LINE: usize = b'l' as usize;
 
@@ -57,7 +60,8 @@ fn record(cases: &[u8], at: usize) -> usize {
 // Makes the call that a header tells of and prints its answer.
 fn call(header: &[u8], a: &[u8], b: &[u8], c: &[u8]) {
     match byte(header, 0) {
-        RUN => show_run(stored_runs::run_stored(a, b, c, stored_runs::start(part(header, 2, 18)))),
+        RUN => run(header, a, b, c, Reading::By2017),
+        RUN_BY_2014 => run(header, a, b, c, Reading::By2014),
         LINE => {
             stored_runs::show_line(a, b);
         }
@@ -67,8 +71,9 @@ fn call(header: &[u8], a: &[u8], b: &[u8], c: &[u8]) {
     }
 }
 
-// Prints what a run ended in.
-fn show_run(ran: Ran) {
-    stored_runs::show(ran);
+// Makes a run from the start that a header tells of, and prints what it ended in.
+fn run(header: &[u8], a: &[u8], b: &[u8], c: &[u8], reading: Reading) {
+    let start = stored_runs::start(part(header, 2, 18));
+    stored_runs::show(stored_runs::run_stored(a, b, c, start, reading));
     io::write_all(1, b"\n");
 }

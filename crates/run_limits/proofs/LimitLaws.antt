@@ -1,4 +1,4 @@
--- What the parts of a start come to, over plain values.
+-- What the parts of a start and of a reading come to, over plain values.
 use Prim.Native.Nat.{ℕ, _/_, _≤_, _<_}
 use mathlib.Core.Path.{_≡_, refl, sym, ap, _∙_}
 use mathlib.Core.Bool.{Bool, true, false, not, _||_, or-true}
@@ -6,13 +6,15 @@ use mathlib.Core.List.{List}
 use mathlib.Core.Logic.{_⊎_, inl, inr}
 use native.Mathlib.Omega.{arith}
 use lib.ListN.{length}
-use lib.Dec.{leb, ltb}
+use lib.Dec.{leb, ltb, eqb}
 use borrow.Author.Tests.{lt-ltb, le-ltb, lt-leb, le-leb}
 use Rattle.table.specs.Checks.{isRelation}
 use Rattle.table.proofs.Orders.{le-or-lt}
 use Rattle.columns.specs.Intervals.{isUpTo}
 use Rattle.columns.specs.declared.Start.{Start}
-use Rattle.clauses.specs.Limits.{fails12, finiteOver}
+use Rattle.columns.specs.declared.Reading.{Reading}
+use Rattle.columns.specs.declared.Reading.the-variants.{By2017, By2014}
+use Rattle.clauses.specs.Limits.{fails12, finiteOver, anyPosition, fails16}
 
 -- An upper end below the lower one, and one that is not: then the lower end is past the last column only if the upper one is.
 pub upper-below : (l x : ℕ) → x < l → true ≡ (not (leb l x) || ltb 65535 l || ltb 65535 x)
@@ -60,3 +62,18 @@ module _ (nodes words : List ℕ) (start : Start) where
 
         pub mode-left : x ≡ false → not (isRelation (start .mode)) ≡ fails12 nodes words start
         mode-left t = sym (ap (λ (b : Bool). b || not (isRelation (start .mode))) t) ∙ wrong-rest
+
+-- The parts of a reading, by what it is.
+module _ (reading : Reading) (nodes : List ℕ) (start : Start) where
+  pub by-2017 : reading ≡ By2017 → false ≡ fails16 reading nodes start
+  unfolding fails16
+  by-2017 e = rw e refl
+
+  module _ (e : reading ≡ By2014) {x : Bool} (p : x ≡ anyPosition nodes) where
+    pub has-position : x ≡ true → true ≡ fails16 reading nodes start
+    unfolding fails16
+    has-position h = rw (e, ← p, h) refl
+
+    pub has-none : x ≡ false → not (eqb (start .mode) 0) ≡ fails16 reading nodes start
+    unfolding fails16
+    has-none h = rw (e, ← p, h) refl

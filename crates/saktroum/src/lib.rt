@@ -4,6 +4,7 @@ use columns::Capture;
 use columns::Interval;
 use columns::Start;
 use columns::Upper;
+use readings::reading;
 ghost use mathlib.Core.Path.{_≡_};
 ghost use lib.ListN.{length};
 ghost use Rattle.table.specs.Answer.{afterwards};
@@ -15,6 +16,7 @@ ghost use Rattle.clauses.specs.RunAnswer.{runAnswer};
 ghost use Rattle.clauses.specs.ListAnswer.{listAnswer, listAfter};
 ghost use Rattle.shown_text.specs.Shown.{shownAnswer};
 ghost use Rattle.line.specs.Line.{lineCount, lineAfter};
+ghost use Rattle.readings.specs.Readings.{readingOf};
 ghost use Rattle.reported.specs.Reported.{number, reported, contentsWords, countWords, partWords};
 ghost use Rattle.reported.specs.Reported.{RunReported, ListReported, upperFrom, startFrom, captureFrom};
 ghost use Rattle.slices.specs.Copied.{copied};
@@ -101,8 +103,8 @@ pub extern "C" fn saktroum_check(nodes: &[u16], rules: &[u16]) -> u32
     reported::report_check(x)
 }
 
-// Runs a grammar on tokens from a start. The answer is 0, with success or failure in `result`, or the number that
-// refused the call, for 7 with the node.
+// Runs a grammar on tokens from a start, by the reading of 2014 or of 2017. The answer is 0, with success or failure in
+// `result`, or the number that refused the call, for 7 with the node.
 #[no_mangle]
 pub extern "C" fn saktroum_run(
     nodes: &[u16],
@@ -115,18 +117,19 @@ pub extern "C" fn saktroum_run(
     endless: bool,
     flag: bool,
     mode: u16,
+    by_2014: bool,
     result: &mut [usize; 6],
 ) -> u32
     ensures { λ r. ⌜ r
-        ≡ number (runAnswer (now (nodes .entry)) (now (rules .entry)) (now (tokens .entry))
+        ≡ number (runAnswer (readingOf by_2014) (now (nodes .entry)) (now (rules .entry)) (now (tokens .entry))
         (startFrom node place lower upper endless flag mode)) ⌝ }
     ensures { λ r. ⌜ RunReported place (now (result .entry))
-        (runAnswer (now (nodes .entry)) (now (rules .entry)) (now (tokens .entry))
+        (runAnswer (readingOf by_2014) (now (nodes .entry)) (now (rules .entry)) (now (tokens .entry))
         (startFrom node place lower upper endless flag mode))
         (now (result .exit)) ⌝ }
 {
     let start = start_from(node, place, lower, upper, endless, flag, mode);
-    let x = interpreter::run(nodes, rules, tokens, start);
+    let x = interpreter::run(nodes, rules, tokens, start, reading(by_2014));
     reported::report(x, result)
 }
 
@@ -144,22 +147,23 @@ pub extern "C" fn saktroum_list(
     endless: bool,
     flag: bool,
     mode: u16,
+    by_2014: bool,
     captures: &mut [u32],
     result: &mut [usize; 7],
 ) -> u32
     ensures { λ r. ⌜ r
-        ≡ number (listAnswer (now (nodes .entry)) (now (rules .entry)) (now (tokens .entry))
+        ≡ number (listAnswer (readingOf by_2014) (now (nodes .entry)) (now (rules .entry)) (now (tokens .entry))
         (startFrom node place lower upper endless flag mode) (length (now (captures .entry)))) ⌝ }
     ensures { λ r. ⌜ now (captures .exit)
-        ≡ listAfter (now (nodes .entry)) (now (rules .entry)) (now (tokens .entry))
+        ≡ listAfter (readingOf by_2014) (now (nodes .entry)) (now (rules .entry)) (now (tokens .entry))
         (startFrom node place lower upper endless flag mode) (now (captures .entry)) ⌝ }
     ensures { λ r. ⌜ ListReported place (now (result .entry))
-        (listAnswer (now (nodes .entry)) (now (rules .entry)) (now (tokens .entry))
+        (listAnswer (readingOf by_2014) (now (nodes .entry)) (now (rules .entry)) (now (tokens .entry))
         (startFrom node place lower upper endless flag mode) (length (now (captures .entry))))
         (now (result .exit)) ⌝ }
 {
     let start = start_from(node, place, lower, upper, endless, flag, mode);
-    let x = interpreter::list(nodes, rules, tokens, start, captures);
+    let x = interpreter::list(nodes, rules, tokens, start, reading(by_2014), captures);
     reported::report_list(x, result)
 }
 

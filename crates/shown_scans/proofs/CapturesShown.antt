@@ -6,6 +6,7 @@ use native.Mathlib.Omega.{arith}
 use Rattle.table.specs.Answer.{given}
 use Rattle.columns.specs.declared.Capture.{Capture}
 use Rattle.columns.specs.declared.Start.{Start}
+use Rattle.columns.specs.declared.Reading.{Reading}
 use Rattle.grammar_file.specs.File.{fieldsOf, nodeTable, ruleList}
 use Rattle.token_words.specs.Scan.{wordsOf, scanTokens, scanAnswer}
 use Rattle.clauses.specs.ListAnswer.{ourCaptures, Listing, listAnswer}
@@ -13,15 +14,16 @@ use Rattle.theorems.proofs.CapturesInside.{All, all-by, listing-inside}
 use Rattle.shown_text.specs.Shown.{partShown, shownAnswer}
 use Rattle.shown_scans.proofs.ScansShown.{always-shown, scan-count}
 
--- Where a scan answers, and a run that lists the file's grammar on its tokens does, from any start: every capture has its text.
-module _ (file report : List ℕ) (lent n : ℕ) (scanned : given n ≡ scanAnswer file report lent) (start : Start) (room : ℕ) (x : Listing)
-    (listed : listAnswer (nodeTable (fieldsOf file)) (ruleList (fieldsOf file)) (wordsOf (scanTokens file report)) start room ≡ given x) where
+-- Where a scan answers, and a run that lists the file's grammar on its tokens does, from any start by
+-- either reading: every capture has its text.
+module _ (file report : List ℕ) (lent n : ℕ) (scanned : given n ≡ scanAnswer file report lent) (reading : Reading) (start : Start) (room : ℕ) (x : Listing)
+    (listed : listAnswer reading (nodeTable (fieldsOf file)) (ruleList (fieldsOf file)) (wordsOf (scanTokens file report)) start room ≡ given x) where
   abbrev Shows : Capture → Type 0
   Shows c = given (partShown (fieldsOf file) (wordsOf (scanTokens file report)) c) ≡ shownAnswer file report (wordsOf (scanTokens file report)) c
 
-  pub captures-shown : All Shows (ourCaptures (nodeTable (fieldsOf file)) (ruleList (fieldsOf file)) (wordsOf (scanTokens file report)) start)
+  pub captures-shown : All Shows (ourCaptures reading (nodeTable (fieldsOf file)) (ruleList (fieldsOf file)) (wordsOf (scanTokens file report)) start)
   captures-shown =
       all-by
       (λ (c : Capture) b.
       always-shown file report lent n scanned c (b .rule-there) (b .order) (omega (arith, b .upto, scan-count file report lent n scanned c)))
-      (listing-inside (nodeTable (fieldsOf file)) (ruleList (fieldsOf file)) (wordsOf (scanTokens file report)) start room x listed)
+      (listing-inside reading (nodeTable (fieldsOf file)) (ruleList (fieldsOf file)) (wordsOf (scanTokens file report)) start room x listed)

@@ -7,6 +7,7 @@ use mathlib.Core.Bool.{Bool, true}
 use Rattle.columns.specs.declared.Upper.{Upper}
 use Rattle.columns.specs.declared.Upper.the-variants.{At}
 use Rattle.columns.specs.declared.Start.{Start}
+use Rattle.columns.specs.declared.Reading.{Reading}
 use Rattle.interpreter.specs.declared.Ran.{Ran}
 use Rattle.stored_runs.specs.Runs.{upperOf, flagOf, startOf, Answers}
 use Rattle.stored_cases.specs.Numbers.{pairAt, quadAt, firstPairs, firstQuads}
@@ -29,17 +30,17 @@ unfolding startOf
 starts bytes n m p l b c u s f = cc
 
 -- A run of the same words.
-pub carried : {nodes nodes' rules rules' tokens tokens' : List ℕ} (start : Start) (ran : Ran)
+pub carried : {reading : Reading} {nodes nodes' rules rules' tokens tokens' : List ℕ} (start : Start) (ran : Ran)
     → nodes ≡ nodes' → rules ≡ rules' → tokens ≡ tokens'
-    → Answers nodes rules tokens start ran → Answers nodes' rules' tokens' start ran
+    → Answers reading nodes rules tokens start ran → Answers reading nodes' rules' tokens' start ran
 carried start ran e f g a = rw (← e, ← f, ← g) a
 
 -- A run of as many words.
-pub as-many-pairs : (nodes rules : List ℕ) {tokens : List ℕ} {start : Start} {ran : Ran} {x x' y y' : ℕ}
-    → Answers (firstPairs x nodes) (firstPairs y rules) tokens start ran → x ≡ x' → y ≡ y'
-    → Answers (firstPairs x' nodes) (firstPairs y' rules) tokens start ran
+pub as-many-pairs : {reading : Reading} (nodes rules : List ℕ) {tokens : List ℕ} {start : Start} {ran : Ran} {x x' y y' : ℕ}
+    → Answers reading (firstPairs x nodes) (firstPairs y rules) tokens start ran → x ≡ x' → y ≡ y'
+    → Answers reading (firstPairs x' nodes) (firstPairs y' rules) tokens start ran
 as-many-pairs nodes rules a e f = rw (← e, ← f) a
 
-pub as-many-quads : {nodes rules : List ℕ} (tokens : List ℕ) {start : Start} {ran : Ran} {x x' : ℕ}
-    → Answers nodes rules (firstQuads x tokens) start ran → x ≡ x' → Answers nodes rules (firstQuads x' tokens) start ran
+pub as-many-quads : {reading : Reading} {nodes rules : List ℕ} (tokens : List ℕ) {start : Start} {ran : Ran} {x x' : ℕ}
+    → Answers reading nodes rules (firstQuads x tokens) start ran → x ≡ x' → Answers reading nodes rules (firstQuads x' tokens) start ran
 as-many-quads tokens a e = rw (← e) a

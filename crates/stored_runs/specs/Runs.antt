@@ -6,6 +6,7 @@ use mathlib.Core.List.{List}
 use lib.ListN.{getD}
 use Rattle.columns.specs.declared.Interval.{Interval}
 use Rattle.columns.specs.declared.Start.{Start}
+use Rattle.columns.specs.declared.Reading.{Reading}
 use Rattle.columns.specs.declared.State.{State}
 use Rattle.columns.specs.declared.Upper.{Upper}
 use Rattle.columns.specs.declared.Upper.the-variants.{At, Endless}
@@ -37,13 +38,13 @@ startOf bytes =
     }
 
 -- A run of a table answered what it is to answer, and its outcome is derived.
-pub record Answers (nodes rules tokens : List ℕ) (start : Start) (ran : Ran) : Type 0 where
-  pub answer : numbers (start .place) ran ≡ runAnswer nodes rules tokens start
-  pub derived : Derived nodes rules tokens start ran
+pub record Answers (reading : Reading) (nodes rules tokens : List ℕ) (start : Start) (ran : Ran) : Type 0 where
+  pub answer : numbers (start .place) ran ≡ runAnswer reading nodes rules tokens start
+  pub derived : Derived reading nodes rules tokens start ran
 
 -- The same of stored bytes, of at most 2,100 node words and 200 rule words.
-abbrev pub StoredAnswers : List ℕ → List ℕ → List ℕ → Start → Ran → Type 0
-StoredAnswers nodes rules tokens start ran = Answers (pairs 2100 nodes) (pairs 200 rules) tokens start ran
+abbrev pub StoredAnswers : Reading → List ℕ → List ℕ → List ℕ → Start → Ran → Type 0
+StoredAnswers reading nodes rules tokens start ran = Answers reading (pairs 2100 nodes) (pairs 200 rules) tokens start ran
 
 -- How many numbers a success has: the tokens read, the lower end, and the upper end where it is a column.
 abbrev pub shownUpper : Upper → ℕ

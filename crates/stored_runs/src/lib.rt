@@ -1,6 +1,7 @@
 // From stored bytes to runs: the start that a header tells of, the run of a stored table, and what it ended in, printed;
 // and the program's line of a grammar file and a report.
 use columns::Interval;
+use columns::Reading;
 use columns::Start;
 use columns::State;
 use columns::Upper;
@@ -59,8 +60,8 @@ fn is_set(flag: usize) -> bool
 }
 
 // Runs a stored table, of at most 2,100 node words and 200 rule words of two bytes.
-pub fn run(nodes: &[u8], rules: &[u8], tokens: &[u32], start: Start) -> Ran
-    ensures { λ r. ⌜ StoredAnswers (now (nodes .entry)) (now (rules .entry)) (now (tokens .entry)) start r ⌝ }
+pub fn run(nodes: &[u8], rules: &[u8], tokens: &[u32], start: Start, reading: Reading) -> Ran
+    ensures { λ r. ⌜ StoredAnswers reading (now (nodes .entry)) (now (rules .entry)) (now (tokens .entry)) start r ⌝ }
 {
     let mut node_words = stored_cases::room_for_nodes();
     let mut rule_words = stored_cases::room_for_rules();
@@ -71,6 +72,7 @@ pub fn run(nodes: &[u8], rules: &[u8], tokens: &[u32], start: Start) -> Ran
         rules,
         tokens,
         start,
+        reading,
         &mut node_words[0..x],
         &mut rule_words[0..y],
     )
@@ -82,37 +84,45 @@ fn run_in(
     rules: &[u8],
     tokens: &[u32],
     start: Start,
+    reading: Reading,
     first: &mut [u16],
     second: &mut [u16],
 ) -> Ran
     ensures { λ r. ⌜
-        Answers (firstPairs (length (now (first .entry))) (now (nodes .entry)))
+        Answers reading (firstPairs (length (now (first .entry))) (now (nodes .entry)))
         (firstPairs (length (now (second .entry))) (now (rules .entry))) (now (tokens .entry)) start r
         ⌝ }
 {
     load_16(nodes, first);
     load_16(rules, second);
-    interpreter::run(first, second, tokens, start)
+    interpreter::run(first, second, tokens, start, reading)
 }
 
 // The same over stored tokens, of at most 16,500 words of four bytes.
-pub fn run_stored(nodes: &[u8], rules: &[u8], tokens: &[u8], start: Start) -> Ran
-    ensures { λ r. ⌜ StoredAnswers (now (nodes .entry)) (now (rules .entry)) (quads 16500 (now (tokens .entry))) start r ⌝ }
+pub fn run_stored(nodes: &[u8], rules: &[u8], tokens: &[u8], start: Start, reading: Reading) -> Ran
+    ensures { λ r. ⌜ StoredAnswers reading (now (nodes .entry)) (now (rules .entry)) (quads 16500 (now (tokens .entry))) start r ⌝ }
 {
     let mut token_words = stored_cases::room_for_tokens();
     let z = least(tokens.len() / 4, 16500);
-    run_over(nodes, rules, tokens, start, &mut token_words[0..z])
+    run_over(nodes, rules, tokens, start, reading, &mut token_words[0..z])
 }
 
 // Runs a stored table over stored tokens in the words lent for them.
-fn run_over(nodes: &[u8], rules: &[u8], tokens: &[u8], start: Start, words: &mut [u32]) -> Ran
+fn run_over(
+    nodes: &[u8],
+    rules: &[u8],
+    tokens: &[u8],
+    start: Start,
+    reading: Reading,
+    words: &mut [u32],
+) -> Ran
     ensures { λ r. ⌜
-        StoredAnswers (now (nodes .entry)) (now (rules .entry))
+        StoredAnswers reading (now (nodes .entry)) (now (rules .entry))
         (firstQuads (length (now (words .entry))) (now (tokens .entry))) start r
         ⌝ }
 {
     load_32(tokens, words);
-    run(nodes, rules, words, start)
+    run(nodes, rules, words, start, reading)
 }
 
 // Prints `success` with the tokens read, the interval's ends and the flag, `failure`, or `refused` with the number, and

@@ -1,4 +1,5 @@
-// The numbers of the checks that turn a call down (01, "Turned-down calls"; 13 and 14: 02, Note 2; 15: Note 4).
+// The numbers of the checks that turn a call down (01, "Turned-down calls"; 13 and 14: 02, Note 2; 15: Note 4;
+// 16: Note 5).
 
 // The grammar file: its length, fields, tags and number of keywords.
 pub const FIELDS: u8 = 1;
@@ -44,3 +45,6 @@ pub const CAPTURE: u8 = 14;
 
 // The rule count differs from that of the file that lends the names.
 pub const RULE_COUNT: u8 = 15;
+
+// A grammar or a mode that the reading of 2014 does not have.
+pub const READING: u8 = 16;

@@ -17,9 +17,11 @@ use Rattle.columns.specs.Domain.{Domain}
 use Rattle.columns.specs.Intervals.{ends}
 use Rattle.columns.specs.declared.Capture.{Capture}
 use Rattle.columns.specs.declared.Start.{Start}
+use Rattle.columns.specs.declared.Reading.{Reading}
 use Rattle.well_formed.specs.WellFormed.{Passes}
 use Rattle.clauses.specs.Clauses.{Tokens, State, Outcome, success, failure, Run, empty, terminal-clear, terminal-aligned, rule}
-use Rattle.clauses.specs.Clauses.{sequence, choice-first, choice-second, not, repeat-ends, repeat-again, indent, position, align}
+use Rattle.clauses.specs.Clauses.{sequence, choice-first, choice-second, not, repeat-ends, repeat-again, indent}
+use Rattle.clauses.specs.Clauses.{indent-through, position, align}
 use Rattle.clauses.specs.Limits.{tokensOf, WithinLimits}
 use Rattle.clauses.specs.Trace.{Trace, trace, Gives, listed}
 use Rattle.clauses.specs.ListAnswer.{ourCaptures, Listing, listAnswer}
@@ -108,59 +110,60 @@ module _ (nodes rules : List ℕ) (passing : tableAnswer nodes rules ≡ given t
         names = names-decoded (length rules) (kindOf nodes n) (aOf nodes n) (bOf nodes n) (relationOf nodes n) (rule-there nodes rules passing n h);
       }
 
-  module _ {ℓ κ} (D : Domain {ℓ, κ}) (tokens : Tokens) where
+  module _ {ℓ κ} (D : Domain {ℓ, κ}) (reading : Reading) (tokens : Tokens) where
     lie :
-        {τ : ℕ} {f : Form} {s s' : State (D .Columns)} (d : Run D nodes rules tokens τ f s (success s')) (k : ℕ)
+        {τ : ℕ} {f : Form} {s s' : State (D .Columns)} (d : Run D reading nodes rules tokens τ f s (success s')) (k : ℕ)
         → Right f
-        → All (Between (length rules) (s .0) (s' .0)) (trace D nodes rules tokens d .captures k)
+        → All (Between (length rules) (s .0) (s' .0)) (trace D reading nodes rules tokens d .captures k)
     unfolding trace
     lie empty k h = none
     lie (terminal-clear n i) k h = none
     lie (terminal-aligned n i) k h = none
-    lie (rule d) k h = more (whole (h .names) (onward D nodes rules tokens d)) (lie d (k + 1) (right _ (h .inside)))
+    lie (rule d) k h = more (whole (h .names) (onward D reading nodes rules tokens d)) (lie d (k + 1) (right _ (h .inside)))
     lie (sequence d e) k h =
-        joined (onward D nodes rules tokens d) (onward D nodes rules tokens e) (lie d k (right _ (h .inside .0))) (lie e k (right _ (h .inside .1)))
+        joined (onward D reading nodes rules tokens d) (onward D reading nodes rules tokens e) (lie d k (right _ (h .inside .0))) (lie e k (right _ (h .inside .1)))
     lie (choice-first d) k h = lie d k (right _ (h .inside .0))
     lie (choice-second d e) k h = lie e k (right _ (h .inside .1))
     lie (not d) k h = none
     lie (repeat-ends d) k h = none
-    lie (repeat-again d e) k h = joined (onward D nodes rules tokens d) (onward D nodes rules tokens e) (lie d k (right _ (h .inside))) (lie e k h)
-    lie (indent d) k h = lie d k (right _ (h .inside))
+    lie (repeat-again d e) k h = joined (onward D reading nodes rules tokens d) (onward D reading nodes rules tokens e) (lie d k (right _ (h .inside))) (lie e k h)
+    lie (indent c d) k h = lie d k (right _ (h .inside))
+    lie (indent-through c d) k h = lie d k (right _ (h .inside))
     lie (position d) k h = lie d k (right _ (h .inside))
     lie (align d) k h = lie d k (right _ (h .inside))
 
     -- The theorem, from a node that is there.
     pub captures-inside :
-        {τ : ℕ} {s s' : State (D .Columns)} (n : ℕ) (d : Run D nodes rules tokens τ (form nodes n) s (success s')) (k : ℕ)
+        {τ : ℕ} {s s' : State (D .Columns)} (n : ℕ) (d : Run D reading nodes rules tokens τ (form nodes n) s (success s')) (k : ℕ)
         → n < nodeCount nodes
-        → All (Between (length rules) (s .0) (s' .0)) (trace D nodes rules tokens d .captures k)
+        → All (Between (length rules) (s .0) (s' .0)) (trace D reading nodes rules tokens d .captures k)
     captures-inside n d k h = lie d k (right n h)
 
     -- What a whole run lists lies between its start and the token count.
     pub listed-inside :
         {τ : ℕ} {s : State (D .Columns)} (n : ℕ) (o : Outcome (D .Columns)) (t : Trace)
-        → Gives D nodes rules tokens τ (form nodes n) s o t
+        → Gives D reading nodes rules tokens τ (form nodes n) s o t
         → n < nodeCount nodes
         → s .0 ≤ tokens .count
         → All (Between (length rules) (s .0) (tokens .count)) (listed o t)
     listed-inside {s = s} n (success s') t g h p =
-        wider (le-refl (s .0)) (within D nodes rules tokens p (g .run))
+        wider (le-refl (s .0)) (within D reading nodes rules tokens p (g .run))
         (subst (λ (u : Trace). All (Between (length rules) (s .0) (s' .0)) (u .captures 0)) (g .shows) (captures-inside n (g .run) 0 h))
     listed-inside n failure t g h p = none
 
 -- So do the captures that a run lists, for every grammar that passes, token list and start within the limits.
 pub our-captures-inside :
-    (nodes rules words : List ℕ) (start : Start) (limits : WithinLimits nodes rules words start) (well : Passes nodes rules)
-    → All (Between (length rules) (start .place) (tokensOf words .count)) (ourCaptures nodes rules words start)
-our-captures-inside nodes rules words start limits well =
+    (reading : Reading) (nodes rules words : List ℕ) (start : Start) (limits : WithinLimits reading nodes rules words start) (well : Passes nodes rules)
+    → All (Between (length rules) (start .place) (tokensOf words .count)) (ourCaptures reading nodes rules words start)
+our-captures-inside reading nodes rules words start limits well =
     let b = begins nodes words start (limits .start-right) in
-    listed-inside nodes rules (limits .table) ends (tokensOf words) (start .node) _ _ (run-given nodes rules words start limits well) (b .node) (b .place)
+    listed-inside nodes rules (limits .table) ends reading (tokensOf words) (start .node) _ _ (run-given reading nodes rules words start limits well) (b .node) (b .place)
 
 -- So wherever a run that lists answers a listing.
 pub listing-inside :
-    (nodes rules words : List ℕ) (start : Start) (lent : ℕ) (x : Listing)
-    → listAnswer nodes rules words start lent ≡ given x
-    → All (Between (length rules) (start .place) (tokensOf words .count)) (ourCaptures nodes rules words start)
-listing-inside nodes rules words start lent x e =
-    let h = listing-within nodes rules words start lent x e in
-    our-captures-inside nodes rules words start (h .0) (h .1)
+    (reading : Reading) (nodes rules words : List ℕ) (start : Start) (lent : ℕ) (x : Listing)
+    → listAnswer reading nodes rules words start lent ≡ given x
+    → All (Between (length rules) (start .place) (tokensOf words .count)) (ourCaptures reading nodes rules words start)
+listing-inside reading nodes rules words start lent x e =
+    let h = listing-within reading nodes rules words start lent x e in
+    our-captures-inside reading nodes rules words start (h .0) (h .1)

@@ -1,8 +1,8 @@
--- An outcome exists for every grammar that passes the check, token list and start: the evaluation ends within its bound on
--- depth. By tokens left, then by rank.
+-- An outcome exists for every grammar that passes the check, token list, start and reading: the evaluation ends within its
+-- bound on depth. By tokens left, then by rank.
 use Prim.Native.Nat.{ℕ, zero, suc, _+_, _*_, _-_, _≤_, _<_}
 use mathlib.Core.Path.{_≡_, refl, sym}
-use mathlib.Core.Bool.{true}
+use mathlib.Core.Bool.{Bool, true, false}
 use mathlib.Core.List.{List}
 use mathlib.Core.Logic.{⊎-elim}
 use native.Mathlib.Nat.{eq-or-lt-of-le, mul-le-mul-right, suc-mul}
@@ -15,15 +15,16 @@ use Rattle.table.specs.InternalInside.{Inside}
 use Rattle.table.proofs.Inside.{inside-table}
 use Rattle.columns.specs.Intervals.{ends, innerEnds}
 use Rattle.columns.specs.declared.Interval.{Interval}
+use Rattle.columns.specs.declared.Reading.{Reading}
 use Rattle.well_formed.specs.Facts.{nothing}
 use Rattle.well_formed.specs.WellFormed.{Passes}
 use Rattle.well_formed.specs.InternalRank.{Enters, enters-rule, enters-first, enters-second, enters-choice}
 use Rattle.well_formed.specs.InternalRank.{enters-other, enters-not, enters-repeat, enters-indent, enters-position}
 use Rattle.well_formed.specs.InternalRank.{enters-align, rank}
 use Rattle.well_formed.proofs.RankLaws.{rank-falls, rank-most, repeat-reads}
-use Rattle.clauses.specs.Clauses.{Tokens, State, Outcome, success, failure, Run}
+use Rattle.clauses.specs.Clauses.{Tokens, State, Outcome, success, failure, counts, Run}
 use Rattle.clauses.specs.Trace.{Trace, silent, _then_, dropped, captured, Gives}
-use Rattle.clauses.specs.Evaluation.{Result, ended, unfinished, after, behind, ruled, step, evaluate, enough}
+use Rattle.clauses.specs.Evaluation.{Result, ended, unfinished, after, behind, ruled, indented, step, evaluate, enough}
 use Rattle.clauses.specs.Evaluation.{outcomeFor, traceFor}
 use Rattle.theorems.proofs.Narrows.{onward, within}
 use Rattle.theorems.proofs.ShownFacts.{shown, at-once}
@@ -70,13 +71,13 @@ outweighs left left' most r r' h k l =
 pub weighs-less : (left left' most r r' : ℕ) → left' < left → r' ≤ most → left' * (most + 1) + r' < left * (most + 1) + r
 weighs-less left left' most r r' h k = let x = outweighs left left' (most + 1) (r + 1) (r' + 1) h (omega arith) (omega arith) in omega arith
 
-module _ (nodes rules : List ℕ) (tokens : Tokens) (passing : tableAnswer nodes rules ≡ given tt) (every-well : Passes nodes rules) where
+module _ (reading : Reading) (nodes rules : List ℕ) (tokens : Tokens) (passing : tableAnswer nodes rules ≡ given tt) (every-well : Passes nodes rules) where
   -- Tokens left, then rank.
   abbrev weight : ℕ → ℕ → ℕ
   weight w n = (tokens .count - w) * (nodeCount nodes + 1) + rank nodes rules n
 
   abbrev call : ℕ → ℕ → Form → State Interval → Result
-  call depth τ f s = evaluate nodes rules tokens depth τ f s
+  call depth τ f s = evaluate reading nodes rules tokens depth τ f s
 
   -- Node n at depth k + 1, where every call that weighs less ends at depth k.
   module _ (k n : ℕ) (h : n < nodeCount nodes)
@@ -107,10 +108,18 @@ module _ (nodes rules : List ℕ) (tokens : Tokens) (passing : tableAnswer nodes
     derived :
         (σ : ℕ) (f : Form) (t t' : State Interval) (u : Trace)
         → call k σ f t ≡ ended (success t') u
-        → Run ends nodes rules tokens σ f t (success t')
-    derived σ f t t' u e = evaluate-sound nodes rules tokens k σ f t (success t') u e .run
+        → Run ends reading nodes rules tokens σ f t (success t')
+    derived σ f t t' u e = evaluate-sound reading nodes rules tokens k σ f t (success t') u e .run
 
-    by-form : (f : Form) → form nodes n ≡ f → Ended (step nodes rules tokens (λ τ' f' s'. call k τ' f' s') τ f s)
+    -- An indent, whether it counts or not.
+    by-counts :
+        (p ρ : ℕ) (c : Bool)
+        → ((t : State Interval) → t .0 ≡ s .0 → Ended (call k τ (form nodes p) t))
+        → Ended (indented (λ t. call k τ (form nodes p) t) c ρ s)
+    by-counts p ρ true h = after-ended (call k τ (form nodes p) (s .0, innerEnds ρ (s .1), s .2)) _ _ (h _ refl) (λ t u r. this _ u) (λ u. this failure u)
+    by-counts p ρ false h = h s refl
+
+    by-form : (f : Form) → form nodes n ≡ f → Ended (step reading nodes rules tokens (λ τ' f' s'. call k τ' f' s') τ f s)
     by-form table.empty e = this (success s) silent
     by-form (table.terminal a) e = this _ silent
     by-form (table.rule x) e = ruled-ended x (s .0) _ (child _ e (standsFor rules x) τ s refl (inside _ e) enters-rule)
@@ -120,9 +129,9 @@ module _ (nodes rules : List ℕ) (tokens : Tokens) (passing : tableAnswer nodes
         let d = derived τ (form nodes p) s t u r in
         behind-ended u _
         (⊎-elim
-        (λ i. child _ e q τ t (sym i) (inside _ e .1) (enters-second (shown ends nodes rules tokens d nothing (at-once (sym i)))))
-        (λ l. later q t (inside _ e .1) (within ends nodes rules tokens b d) l)
-        (eq-or-lt-of-le (onward ends nodes rules tokens d))))
+        (λ i. child _ e q τ t (sym i) (inside _ e .1) (enters-second (shown ends reading nodes rules tokens d nothing (at-once (sym i)))))
+        (λ l. later q t (inside _ e .1) (within ends reading nodes rules tokens b d) l)
+        (eq-or-lt-of-le (onward ends reading nodes rules tokens d))))
         (λ u. this failure u)
     by-form (table.choice p q) e =
         after-ended (call k τ (form nodes p) s) _ _ (child _ e p τ s refl (inside _ e .0) enters-choice)
@@ -136,14 +145,11 @@ module _ (nodes rules : List ℕ) (tokens : Tokens) (passing : tableAnswer nodes
         let d = derived τ (form nodes p) s t u r in
         behind-ended u (call k τ (table.repeat p) t)
         (⊎-elim
-        (λ i. absurd (repeat-reads nodes rules passing every-well n p h e (shown ends nodes rules tokens d nothing (at-once (sym i)))))
-        (λ l. rw (← e) (later n t h (within ends nodes rules tokens b d) l))
-        (eq-or-lt-of-le (onward ends nodes rules tokens d))))
+        (λ i. absurd (repeat-reads nodes rules passing every-well n p h e (shown ends reading nodes rules tokens d nothing (at-once (sym i)))))
+        (λ l. rw (← e) (later n t h (within ends reading nodes rules tokens b d) l))
+        (eq-or-lt-of-le (onward ends reading nodes rules tokens d))))
         (λ u. this (success s) (dropped u))
-    by-form (table.indent p ρ) e =
-        after-ended (call k τ (form nodes p) (s .0, innerEnds ρ (s .1), s .2)) _ _
-        (child _ e p τ (s .0, innerEnds ρ (s .1), s .2) refl (inside _ e) enters-indent)
-        (λ t u r. this _ u) (λ u. this failure u)
+    by-form (table.indent p ρ) e = by-counts p ρ (counts reading (s .2)) (λ t q. child _ e p τ t q (inside _ e) enters-indent)
     by-form (table.position p σ) e = child _ e p σ s refl (inside _ e) enters-position
     by-form (table.align p) e =
         after-ended (call k τ (form nodes p) (s .0, s .1, true)) _ _ (child _ e p τ (s .0, s .1, true) refl (inside _ e) enters-align)
@@ -156,7 +162,7 @@ module _ (nodes rules : List ℕ) (tokens : Tokens) (passing : tableAnswer nodes
   evaluates (suc k) n τ s h b heavy = by-form k n h (λ m σ t. evaluates k m σ t) τ s b heavy (form nodes n) refl
 
   -- Nothing weighs more than the bound.
-  light : (n w : ℕ) → n < nodeCount nodes → weight w n < enough nodes rules tokens
+  light : (n w : ℕ) → n < nodeCount nodes → weight w n < enough reading nodes rules tokens
   light n w h =
       let x = weighs-less (tokens .count + 1) (tokens .count - w) (nodeCount nodes) 0 (rank nodes rules n) (omega arith) (rank-most nodes rules passing every-well n h) in
       omega arith
@@ -166,9 +172,9 @@ module _ (nodes rules : List ℕ) (tokens : Tokens) (passing : tableAnswer nodes
       (τ n : ℕ) (s : State Interval)
       → n < nodeCount nodes
       → s .0 ≤ tokens .count
-      → Gives ends nodes rules tokens τ (form nodes n) s (outcomeFor nodes rules tokens τ n s) (traceFor nodes rules tokens τ n s)
+      → Gives ends reading nodes rules tokens τ (form nodes n) s (outcomeFor reading nodes rules tokens τ n s) (traceFor reading nodes rules tokens τ n s)
   unfolding outcomeFor traceFor
   outcome-given τ n s h b =
-      let r = evaluates (enough nodes rules tokens) n τ s h b (light n (s .0) h) in
-      evaluate-sound nodes rules tokens (enough nodes rules tokens) τ (form nodes n) s (outcomeFor nodes rules tokens τ n s)
-      (traceFor nodes rules tokens τ n s) (rw (r .is) refl)
+      let r = evaluates (enough reading nodes rules tokens) n τ s h b (light n (s .0) h) in
+      evaluate-sound reading nodes rules tokens (enough reading nodes rules tokens) τ (form nodes n) s (outcomeFor reading nodes rules tokens τ n s)
+      (traceFor reading nodes rules tokens τ n s) (rw (r .is) refl)

@@ -10,3 +10,4 @@ pub mod Nested
 pub mod CapturesInside
 pub mod OffsetsUnread
 pub mod StepLaws
+pub mod EachReading

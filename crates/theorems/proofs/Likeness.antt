@@ -1,5 +1,5 @@
--- Likeness: from alike columns, runs in two lawful column domains have alike outcomes and the same trace. So two ends and
--- sets have; nothing here looks at a relation.
+-- Likeness: from alike columns, runs in two lawful column domains have alike outcomes and the same trace, by either reading.
+-- So two ends and sets have; nothing here looks at a relation.
 use Prim.Native.Nat.{ℕ}
 use mathlib.Core.Bool.{Bool}
 use mathlib.Core.List.{List}
@@ -10,20 +10,21 @@ use Rattle.columns.specs.Lawful.{Lawful}
 use Rattle.columns.specs.Alike.{Alike}
 use Rattle.columns.proofs.LawfulLaws.{one-inside, inner-some}
 use Rattle.columns.proofs.AlikeLaws.{alike-one, alike-inner, alike-leave}
+use Rattle.columns.specs.declared.Reading.{Reading}
 use Rattle.clauses.specs.Clauses.{Tokens, State, Outcome, success, failure, Fits, clear, aligned, Run, empty}
 use Rattle.clauses.specs.Clauses.{terminal-clear, terminal-aligned, terminal-fails, rule, sequence, sequence-fails}
 use Rattle.clauses.specs.Clauses.{choice-first, choice-second, not, not-fails, repeat-ends, repeat-again, indent}
-use Rattle.clauses.specs.Clauses.{indent-fails, position, align, align-fails}
+use Rattle.clauses.specs.Clauses.{indent-fails, indent-through, position, align, align-fails}
 use Rattle.clauses.specs.Trace.{Trace, captured, trace, Gives}
 use Rattle.theorems.proofs.GiveLaws as give
 use Rattle.clauses.specs.AlikeOutcomes.{AlikeOutcome, alike-success, alike-failure}
 use Rattle.theorems.proofs.Narrows.{narrows}
 
-module _ {ℓ κ ℓ' κ'} (D : Domain {ℓ, κ}) (E : Domain {ℓ', κ'}) (L : Lawful D) (M : Lawful E) (nodes rules : List ℕ) (tokens : Tokens) where
+module _ {ℓ κ ℓ' κ'} (D : Domain {ℓ, κ}) (E : Domain {ℓ', κ'}) (L : Lawful D) (M : Lawful E) (reading : Reading) (nodes rules : List ℕ) (tokens : Tokens) where
   -- What E gives from alike columns: an outcome that is alike, and the same trace.
   pub record Follows (τ : ℕ) (f : Form) (s : State (E .Columns)) (o : Outcome (D .Columns)) (t : Trace) : Type (ℓ ⊔ κ ⊔ ℓ' ⊔ κ') where
     pub outcome : Outcome (E .Columns)
-    pub gives : Gives E nodes rules tokens τ f s outcome t
+    pub gives : Gives E reading nodes rules tokens τ f s outcome t
     pub alike : AlikeOutcome D E o outcome
 
   -- A token that fits in one fits in the other.
@@ -33,36 +34,36 @@ module _ {ℓ κ ℓ' κ'} (D : Domain {ℓ, κ}) (E : Domain {ℓ', κ'}) (L : 
 
   -- What follows a success, and what follows a failure, in E.
   on-success : {τ : ℕ} {f : Form} {v : State (E .Columns)} {s : State (D .Columns)} {t : Trace} {X : Type (ℓ ⊔ κ ⊔ ℓ' ⊔ κ')} → Follows τ f v (success s) t
-      → ((S : E .Columns) → Alike D E (s .1) S → Gives E nodes rules tokens τ f v (success (s .0, S, s .2)) t → X) → X
+      → ((S : E .Columns) → Alike D E (s .1) S → Gives E reading nodes rules tokens τ f v (success (s .0, S, s .2)) t → X) → X
   on-success {τ} {f} {v} {s} {t} {X} a k = by-outcome (a .outcome) (a .gives) (a .alike)
     where
-      by-outcome : (o : Outcome (E .Columns)) → Gives E nodes rules tokens τ f v o t → AlikeOutcome D E (success s) o → X
+      by-outcome : (o : Outcome (E .Columns)) → Gives E reading nodes rules tokens τ f v o t → AlikeOutcome D E (success s) o → X
       by-outcome o g (alike-success {S = S} h) = k S h g
 
   on-failure :
       {τ : ℕ} {f : Form} {v : State (E .Columns)} {t : Trace} {X : Type (ℓ ⊔ κ ⊔ ℓ' ⊔ κ')}
       → Follows τ f v failure t
-      → (Gives E nodes rules tokens τ f v failure t → X)
+      → (Gives E reading nodes rules tokens τ f v failure t → X)
       → X
   on-failure {τ} {f} {v} {t} {X} a k = by-outcome (a .outcome) (a .gives) (a .alike)
     where
-      by-outcome : (o : Outcome (E .Columns)) → Gives E nodes rules tokens τ f v o t → AlikeOutcome D E failure o → X
+      by-outcome : (o : Outcome (E .Columns)) → Gives E reading nodes rules tokens τ f v o t → AlikeOutcome D E failure o → X
       by-outcome o g alike-failure = k g
 
-  fails : {τ : ℕ} {f : Form} {v : State (E .Columns)} {t : Trace} → Gives E nodes rules tokens τ f v failure t → Follows τ f v failure t
+  fails : {τ : ℕ} {f : Form} {v : State (E .Columns)} {t : Trace} → Gives E reading nodes rules tokens τ f v failure t → Follows τ f v failure t
   fails g = record { outcome = failure; gives = g; alike = alike-failure }
 
   succeeds :
       {τ : ℕ} {f : Form} {v : State (E .Columns)} {s : State (D .Columns)} {S : E .Columns} {t : Trace}
       → Alike D E (s .1) S
-      → Gives E nodes rules tokens τ f v (success (s .0, S, s .2)) t
+      → Gives E reading nodes rules tokens τ f v (success (s .0, S, s .2)) t
       → Follows τ f v (success s) t
   succeeds {s = s} {S = S} h g = record { outcome = success (s .0, S, s .2); gives = g; alike = alike-success h }
 
   -- What is made of an outcome, whatever it is.
   made :
       {τ τ' : ℕ} {f g : Form} {v v' : State (E .Columns)} {o : Outcome (D .Columns)} {t t' : Trace}
-      → ((p : Outcome (E .Columns)) → Gives E nodes rules tokens τ f v p t → Gives E nodes rules tokens τ' g v' p t')
+      → ((p : Outcome (E .Columns)) → Gives E reading nodes rules tokens τ f v p t → Gives E reading nodes rules tokens τ' g v' p t')
       → Follows τ f v o t
       → Follows τ' g v' o t'
   made k a = record { outcome = a .outcome; gives = k (a .outcome) (a .gives); alike = a .alike }
@@ -76,9 +77,9 @@ module _ {ℓ κ ℓ' κ'} (D : Domain {ℓ, κ}) (E : Domain {ℓ', κ'}) (L : 
 
   -- The theorem: every run in D is followed by one in E.
   pub alike-run :
-      {τ : ℕ} {f : Form} {s : State (D .Columns)} {o : Outcome (D .Columns)} {S : E .Columns} (d : Run D nodes rules tokens τ f s o)
+      {τ : ℕ} {f : Form} {s : State (D .Columns)} {o : Outcome (D .Columns)} {S : E .Columns} (d : Run D reading nodes rules tokens τ f s o)
       → Alike D E (s .1) S
-      → Follows τ f (s .0, S, s .2) o (trace D nodes rules tokens d)
+      → Follows τ f (s .0, S, s .2) o (trace D reading nodes rules tokens d)
   unfolding trace
   alike-run empty h = succeeds h give.empty
   alike-run (terminal-clear {τ = τ} {i = i} {I = I} n m) h =
@@ -94,17 +95,18 @@ module _ {ℓ κ ℓ' κ'} (D : Domain {ℓ, κ}) (E : Domain {ℓ', κ'}) (L : 
   alike-run (not-fails d) h = on-success (alike-run d h) (λ S g r. fails (give.not-fails r))
   alike-run (repeat-ends d) h = on-failure (alike-run d h) (λ r. succeeds h (give.repeat-ends r))
   alike-run (repeat-again d e) h = on-success (alike-run d h) (λ S g r. made (λ p x. give.repeat-again r x) (alike-run e g))
-  alike-run (indent {ρ = ρ} {I = I} d) h =
+  alike-run (indent {ρ = ρ} {I = I} c d) h =
       on-success (alike-run d (alike-inner D E L M ρ h))
-      (λ S g r. succeeds (alike-leave D E L M ρ h g (narrows D nodes rules tokens L (inner-some D L ρ I (h .some)) d .columns)) (give.indent r))
-  alike-run (indent-fails {ρ = ρ} d) h = on-failure (alike-run d (alike-inner D E L M ρ h)) (λ r. fails (give.indent-fails r))
+      (λ S g r. succeeds (alike-leave D E L M ρ h g (narrows D reading nodes rules tokens L (inner-some D L ρ I (h .some)) d .columns)) (give.indent c r))
+  alike-run (indent-fails {ρ = ρ} c d) h = on-failure (alike-run d (alike-inner D E L M ρ h)) (λ r. fails (give.indent-fails c r))
+  alike-run (indent-through c d) h = made (λ p r. give.indent-through c r) (alike-run d h)
   alike-run (position d) h = made (λ p r. give.position r) (alike-run d h)
   alike-run (align d) h = on-success (alike-run d h) (λ S g r. succeeds g (give.align r))
   alike-run (align-fails d) h = on-failure (alike-run d h) (λ r. fails (give.align-fails r))
 
   pub alike-given :
       {τ : ℕ} {f : Form} {s : State (D .Columns)} {o : Outcome (D .Columns)} {S : E .Columns} {t : Trace}
-      → Gives D nodes rules tokens τ f s o t
+      → Gives D reading nodes rules tokens τ f s o t
       → Alike D E (s .1) S
       → Follows τ f (s .0, S, s .2) o t
   alike-given d h = rw (d .shows) at (alike-run (d .run) h)

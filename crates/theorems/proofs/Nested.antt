@@ -10,9 +10,11 @@ use Rattle.columns.specs.Intervals.{ends}
 use Rattle.columns.specs.declared.Interval.{Interval}
 use Rattle.columns.specs.declared.Start.{Start}
 use Rattle.columns.specs.declared.Capture.{Capture}
+use Rattle.columns.specs.declared.Reading.{Reading}
 use Rattle.well_formed.specs.WellFormed.{Passes}
 use Rattle.clauses.specs.Clauses.{Tokens, State, Outcome, success, Run, empty, terminal-clear, terminal-aligned, rule, sequence}
-use Rattle.clauses.specs.Clauses.{choice-first, choice-second, not, repeat-ends, repeat-again, indent, position, align}
+use Rattle.clauses.specs.Clauses.{choice-first, choice-second, not, repeat-ends, repeat-again, indent, indent-through, position}
+use Rattle.clauses.specs.Clauses.{align}
 use Rattle.clauses.specs.Trace.{Trace, trace, Gives, listed}
 use Rattle.clauses.specs.Limits.{tokensOf, WithinLimits}
 use Rattle.clauses.specs.RunAnswer.{ourOutcome, ourTrace}
@@ -56,38 +58,39 @@ around : {k x v v' : ℕ} {inside : List Capture} → v ≤ v' → Nested (k + 1
 around {k} {x} {v} {v'} {inside} h i =
     subst (λ (l : List Capture). Nested k v v' (capture x v v' k ∷ l)) (append-nil inside) (one (let l : v ≤ v = omega arith in l) h i stays)
 
-module _ {ℓ κ} (D : Domain {ℓ, κ}) (nodes rules : List ℕ) (tokens : Tokens) where
+module _ {ℓ κ} (D : Domain {ℓ, κ}) (reading : Reading) (nodes rules : List ℕ) (tokens : Tokens) where
   pub nested :
-      {τ : ℕ} {f : Form} {s s' : State (D .Columns)} (d : Run D nodes rules tokens τ f s (success s')) (k : ℕ)
-      → Nested k (s .0) (s' .0) (trace D nodes rules tokens d .captures k)
+      {τ : ℕ} {f : Form} {s s' : State (D .Columns)} (d : Run D reading nodes rules tokens τ f s (success s')) (k : ℕ)
+      → Nested k (s .0) (s' .0) (trace D reading nodes rules tokens d .captures k)
   unfolding trace
   nested empty k = stays
   nested (terminal-clear n i) k = token
   nested (terminal-aligned n i) k = token
-  nested (rule d) k = around (onward D nodes rules tokens d) (nested d (k + 1))
+  nested (rule d) k = around (onward D reading nodes rules tokens d) (nested d (k + 1))
   nested (sequence d e) k = joined (nested d k) (nested e k)
   nested (choice-first d) k = nested d k
   nested (choice-second d e) k = nested e k
   nested (not d) k = stays
   nested (repeat-ends d) k = stays
   nested (repeat-again d e) k = joined (nested d k) (nested e k)
-  nested (indent d) k = nested d k
+  nested (indent c d) k = nested d k
+  nested (indent-through c d) k = nested d k
   nested (position d) k = nested d k
   nested (align d) k = nested d k
 
 -- So stand the captures that a run lists, with none around the outermost.
 pub our-captures-nested :
-    (nodes rules words : List ℕ) (start : Start) (limits : WithinLimits nodes rules words start) (well : Passes nodes rules) (s : State Interval)
-    → ourOutcome nodes rules words start ≡ success s
-    → Nested 0 (start .place) (s .0) (ourCaptures nodes rules words start)
-our-captures-nested nodes rules words start limits well s e =
-    by-outcome (ourOutcome nodes rules words start) (ourTrace nodes rules words start) (run-given nodes rules words start limits well) e
+    (reading : Reading) (nodes rules words : List ℕ) (start : Start) (limits : WithinLimits reading nodes rules words start) (well : Passes nodes rules) (s : State Interval)
+    → ourOutcome reading nodes rules words start ≡ success s
+    → Nested 0 (start .place) (s .0) (ourCaptures reading nodes rules words start)
+our-captures-nested reading nodes rules words start limits well s e =
+    by-outcome (ourOutcome reading nodes rules words start) (ourTrace reading nodes rules words start) (run-given reading nodes rules words start limits well) e
   where
     by-outcome :
         (o : Outcome Interval) (t : Trace)
-        → Gives ends nodes rules (tokensOf words) (start .mode) (form nodes (start .node)) (start .place, start .interval, start .flag) o t
+        → Gives ends reading nodes rules (tokensOf words) (start .mode) (form nodes (start .node)) (start .place, start .interval, start .flag) o t
         → o ≡ success s
         → Nested 0 (start .place) (s .0) (listed o t)
     by-outcome o t g q =
-        let h : Gives ends nodes rules (tokensOf words) (start .mode) (form nodes (start .node)) (start .place, start .interval, start .flag) (success s) t = rw q at g in
-        rw q (subst (λ (u : Trace). Nested 0 (start .place) (s .0) (u .captures 0)) (h .shows) (nested ends nodes rules (tokensOf words) (h .run) 0))
+        let h : Gives ends reading nodes rules (tokensOf words) (start .mode) (form nodes (start .node)) (start .place, start .interval, start .flag) (success s) t = rw q at g in
+        rw q (subst (λ (u : Trace). Nested 0 (start .place) (s .0) (u .captures 0)) (h .shows) (nested ends reading nodes rules (tokensOf words) (h .run) 0))

@@ -14,9 +14,10 @@ use Rattle.columns.specs.Intervals.{isUpTo}
 use Rattle.columns.specs.declared.Interval.{Interval}
 use Rattle.columns.specs.declared.Start.{Start}
 use Rattle.columns.specs.declared.Capture.{Capture}
+use Rattle.columns.specs.declared.Reading.{Reading}
 use Rattle.well_formed.specs.Check.{checkAnswer}
 use Rattle.clauses.specs.Clauses.{Tokens, State, Outcome}
-use Rattle.clauses.specs.Limits.{tokensOf, fails11, fails12, finiteOver}
+use Rattle.clauses.specs.Limits.{tokensOf, fails11, fails12, fails16, finiteOver}
 use Rattle.clauses.specs.Trace.{listed}
 use Rattle.clauses.specs.Evaluation.{outcomeFor, traceFor}
 use Rattle.clauses.specs.RunAnswer.{runAnswer}
@@ -38,8 +39,8 @@ same-tokens words words' l t c =
     ∙ ap (λ (f : ℕ → ℕ). made (length words' / 4) (λ w. getD words' (w * 4) 0) f) (fun-ext c)
 
 -- A run looks at the tokens and at how many words there are.
-answerBy : List ℕ → List ℕ → Start → ℕ → Tokens → Answer (Outcome Interval)
-answerBy nodes rules start n tokens =
+answerBy : Reading → List ℕ → List ℕ → Start → ℕ → Tokens → Answer (Outcome Interval)
+answerBy reading nodes rules start n tokens =
     andThen (checkAnswer nodes rules)
     (refuseIf
     (not (eqb (n % 4) 0)
@@ -54,56 +55,57 @@ answerBy nodes rules start n tokens =
     || ltb mostColumn (start .interval .lower)
     || finiteOver (start .interval .upper)
     || not (isRelation (start .mode))) 12
+    (refuseIf (fails16 reading nodes start) 16
     (given
-    (outcomeFor nodes rules tokens (start .mode) (start .node)
-    (start .place, start .interval, start .flag)))))
+    (outcomeFor reading nodes rules tokens (start .mode) (start .node)
+    (start .place, start .interval, start .flag))))))
 
-answered-by : (nodes rules words : List ℕ) (start : Start) → runAnswer nodes rules words start ≡ answerBy nodes rules start (length words) (tokensOf words)
+answered-by : (reading : Reading) (nodes rules words : List ℕ) (start : Start) → runAnswer reading nodes rules words start ≡ answerBy reading nodes rules start (length words) (tokensOf words)
 unfolding runAnswer fails11 fails12 answerBy
-answered-by nodes rules words start = refl
+answered-by reading nodes rules words start = refl
 
 -- What a run lists, by its tokens.
-abbrev capturesBy : List ℕ → List ℕ → Start → Tokens → List Capture
-capturesBy nodes rules start tokens =
+abbrev capturesBy : Reading → List ℕ → List ℕ → Start → Tokens → List Capture
+capturesBy reading nodes rules start tokens =
     let state : State Interval = (start .place, start .interval, start .flag) in
-    listed (outcomeFor nodes rules tokens (start .mode) (start .node) state) (traceFor nodes rules tokens (start .mode) (start .node) state)
+    listed (outcomeFor reading nodes rules tokens (start .mode) (start .node) state) (traceFor reading nodes rules tokens (start .mode) (start .node) state)
 
 -- What a run that lists answers, by what the run answers and by its tokens.
-listBy : List ℕ → List ℕ → Start → ℕ → Answer (Outcome Interval) → Tokens → Answer Listing
-listBy nodes rules start lent answer tokens =
+listBy : Reading → List ℕ → List ℕ → Start → ℕ → Answer (Outcome Interval) → Tokens → Answer Listing
+listBy reading nodes rules start lent answer tokens =
     andThen answer
-    (refuseIf (ltb (lent / 4) (length (capturesBy nodes rules start tokens))) 13
+    (refuseIf (ltb (lent / 4) (length (capturesBy reading nodes rules start tokens))) 13
     (given
     (record {
-      outcome = outcomeFor nodes rules tokens (start .mode) (start .node) (start .place, start .interval, start .flag);
-      count = length (capturesBy nodes rules start tokens);
+      outcome = outcomeFor reading nodes rules tokens (start .mode) (start .node) (start .place, start .interval, start .flag);
+      count = length (capturesBy reading nodes rules start tokens);
     })))
 
 listed-by :
-    (nodes rules words : List ℕ) (start : Start) (lent : ℕ)
-    → listAnswer nodes rules words start lent ≡ listBy nodes rules start lent (runAnswer nodes rules words start) (tokensOf words)
+    (reading : Reading) (nodes rules words : List ℕ) (start : Start) (lent : ℕ)
+    → listAnswer reading nodes rules words start lent ≡ listBy reading nodes rules start lent (runAnswer reading nodes rules words start) (tokensOf words)
 unfolding listAnswer fails13 listBy
-listed-by nodes rules words start lent = refl
+listed-by reading nodes rules words start lent = refl
 
 -- "The interpreter uses only the first two words" of a token: offsets and lengths change nothing.
-module _ (nodes rules words words' : List ℕ) (start : Start) (l : length words ≡ length words')
+module _ (reading : Reading) (nodes rules words words' : List ℕ) (start : Start) (l : length words ≡ length words')
     (t : (w : ℕ) → getD words (w * 4) 0 ≡ getD words' (w * 4) 0)
     (c : (w : ℕ) → getD words (w * 4 + 1) 0 ≡ getD words' (w * 4 + 1) 0) where
   -- A run answers the same,
-  pub offsets-unread : runAnswer nodes rules words start ≡ runAnswer nodes rules words' start
+  pub offsets-unread : runAnswer reading nodes rules words start ≡ runAnswer reading nodes rules words' start
   offsets-unread =
-      answered-by nodes rules words start ∙ ap₂ (answerBy nodes rules start) l (same-tokens words words' l t c) ∙ sym (answered-by nodes rules words' start)
+      answered-by reading nodes rules words start ∙ ap₂ (answerBy reading nodes rules start) l (same-tokens words words' l t c) ∙ sym (answered-by reading nodes rules words' start)
 
   -- a run that lists does too,
-  pub offsets-unread-listing : (lent : ℕ) → listAnswer nodes rules words start lent ≡ listAnswer nodes rules words' start lent
+  pub offsets-unread-listing : (lent : ℕ) → listAnswer reading nodes rules words start lent ≡ listAnswer reading nodes rules words' start lent
   offsets-unread-listing lent =
-      listed-by nodes rules words start lent
-      ∙ ap₂ (listBy nodes rules start lent) offsets-unread (same-tokens words words' l t c)
-      ∙ sym (listed-by nodes rules words' start lent)
+      listed-by reading nodes rules words start lent
+      ∙ ap₂ (listBy reading nodes rules start lent) offsets-unread (same-tokens words words' l t c)
+      ∙ sym (listed-by reading nodes rules words' start lent)
 
   -- and leaves the same words.
-  pub offsets-unread-words : (before : List ℕ) → listAfter nodes rules words start before ≡ listAfter nodes rules words' start before
+  pub offsets-unread-words : (before : List ℕ) → listAfter reading nodes rules words start before ≡ listAfter reading nodes rules words' start before
   unfolding listAfter
   offsets-unread-words before =
       ap₂ (λ (answer : Answer Listing) (captures : List Capture). afterwards answer (listWords captures (length before)) before)
-      (offsets-unread-listing (length before)) (ap (capturesBy nodes rules start) (same-tokens words words' l t c))
+      (offsets-unread-listing (length before)) (ap (capturesBy reading nodes rules start) (same-tokens words words' l t c))

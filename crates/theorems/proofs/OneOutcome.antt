@@ -2,18 +2,19 @@
 -- two derivations of the same run have the same captures.
 use Prim.Native.Nat.{ℕ, _+_}
 use mathlib.Core.Path.{_≡_, refl, sym, ap, ap₂, subst, _∙_}
-use mathlib.Core.Bool.{false, _&&_}
+use mathlib.Core.Bool.{false, true≢false}
 use mathlib.Core.List.{List}
 use native.Mathlib.Omega.{arith}
 use Rattle.table.specs.Form.{Form}
 use Rattle.columns.specs.Domain.{Domain}
-use Rattle.clauses.specs.Clauses.{Tokens, State, Outcome, success, failure, clear, aligned, Run, empty}
+use Rattle.columns.specs.declared.Reading.{Reading}
+use Rattle.clauses.specs.Clauses.{Tokens, State, Outcome, success, failure, clear, aligned, handedOn, Run, empty}
 use Rattle.clauses.specs.Clauses.{terminal-clear, terminal-aligned, terminal-fails, rule, sequence, sequence-fails}
 use Rattle.clauses.specs.Clauses.{choice-first, choice-second, not, not-fails, repeat-ends, repeat-again, indent}
-use Rattle.clauses.specs.Clauses.{indent-fails, position, align, align-fails}
+use Rattle.clauses.specs.Clauses.{indent-fails, indent-through, position, align, align-fails}
 use Rattle.clauses.specs.Trace.{Trace, _then_, dropped, captured, trace, Gives}
 
-module _ {ℓ κ} (D : Domain {ℓ, κ}) (nodes rules : List ℕ) (tokens : Tokens) where
+module _ {ℓ κ} (D : Domain {ℓ, κ}) (reading : Reading) (nodes rules : List ℕ) (tokens : Tokens) where
   same-state : {s t : State (D .Columns)} → success s ≡ success t → s ≡ t
   same-state e = cc
 
@@ -24,9 +25,9 @@ module _ {ℓ κ} (D : Domain {ℓ, κ}) (nodes rules : List ℕ) (tokens : Toke
   moved :
       {τ : ℕ} {f : Form} {s t : State (D .Columns)} {o : Outcome (D .Columns)} {u : Trace}
       → success s ≡ success t
-      → Gives D nodes rules tokens τ f t o u
-      → Gives D nodes rules tokens τ f s o u
-  moved {τ} {f} {o = o} {u = u} e d = subst (λ (v : State (D .Columns)). Gives D nodes rules tokens τ f v o u) (sym (same-state e)) d
+      → Gives D reading nodes rules tokens τ f t o u
+      → Gives D reading nodes rules tokens τ f s o u
+  moved {τ} {f} {o = o} {u = u} e d = subst (λ (v : State (D .Columns)). Gives D reading nodes rules tokens τ f v o u) (sym (same-state e)) d
 
   -- The same outcome, and the same trace.
   pub record Same (o o' : Outcome (D .Columns)) (t t' : Trace) : Type ℓ where
@@ -37,9 +38,9 @@ module _ {ℓ κ} (D : Domain {ℓ, κ}) (nodes rules : List ℕ) (tokens : Toke
   showing e = record { outcome = refl; shown = e }
 
   pub one-run :
-      {τ : ℕ} {f : Form} {s : State (D .Columns)} {o o' : Outcome (D .Columns)} (d : Run D nodes rules tokens τ f s o)
-      (e : Run D nodes rules tokens τ f s o')
-      → Same o o' (trace D nodes rules tokens d) (trace D nodes rules tokens e)
+      {τ : ℕ} {f : Form} {s : State (D .Columns)} {o o' : Outcome (D .Columns)} (d : Run D reading nodes rules tokens τ f s o)
+      (e : Run D reading nodes rules tokens τ f s o')
+      → Same o o' (trace D reading nodes rules tokens d) (trace D reading nodes rules tokens e)
   unfolding trace
   one-run empty empty = showing refl
   one-run (terminal-clear {τ = τ} {w = w} {I = I} n m) (terminal-clear n' m') =
@@ -80,16 +81,21 @@ module _ {ℓ κ} (D : Domain {ℓ, κ}) (nodes rules : List ℕ) (tokens : Toke
       let x = moved (q .outcome) (record { run = e'; shows = refl }) in
       let r = one-run {o' = o'} d' (x .run) in
       record { outcome = r .outcome; shown = ap₂ _then_ (q .shown) (r .shown ∙ x .shows) }
-  one-run (indent {ρ = ρ} {I = I} d) (indent e) =
+  one-run (indent {ρ = ρ} {I = I} c d) (indent c' e) =
       let q = one-run d e in
       record { outcome = ap (λ (t : State (D .Columns)). success (t .0, D .meet I (D .outer ρ (t .1)), t .2)) (same-state (q .outcome)); shown = q .shown }
-  one-run (indent d) (indent-fails e) = absurd (apart (one-run d e .outcome))
-  one-run (indent-fails d) (indent e) = absurd (apart (sym (one-run d e .outcome)))
-  one-run (indent-fails d) (indent-fails e) = showing (one-run d e .shown)
+  one-run (indent c d) (indent-fails c' e) = absurd (apart (one-run d e .outcome))
+  one-run (indent c d) (indent-through c' e) = absurd (true≢false (sym c ∙ c'))
+  one-run (indent-fails c d) (indent c' e) = absurd (apart (sym (one-run d e .outcome)))
+  one-run (indent-fails c d) (indent-fails c' e) = showing (one-run d e .shown)
+  one-run (indent-fails c d) (indent-through c' e) = absurd (true≢false (sym c ∙ c'))
+  one-run (indent-through c d) (indent c' e) = absurd (true≢false (sym c' ∙ c))
+  one-run (indent-through c d) (indent-fails c' e) = absurd (true≢false (sym c' ∙ c))
+  one-run (indent-through c d) (indent-through c' e) = one-run d e
   one-run (position d) (position e) = one-run d e
   one-run (align {b = b} d) (align e) =
       let q = one-run d e in
-      record { outcome = ap (λ (t : State (D .Columns)). success (t .0, t .1, b && t .2)) (same-state (q .outcome)); shown = q .shown }
+      record { outcome = ap (λ (t : State (D .Columns)). success (t .0, t .1, handedOn reading b (t .2))) (same-state (q .outcome)); shown = q .shown }
   one-run (align d) (align-fails e) = absurd (apart (one-run d e .outcome))
   one-run (align-fails d) (align e) = absurd (apart (sym (one-run d e .outcome)))
   one-run (align-fails d) (align-fails e) = record { outcome = refl; shown = one-run d e .shown }
@@ -97,15 +103,15 @@ module _ {ℓ κ} (D : Domain {ℓ, κ}) (nodes rules : List ℕ) (tokens : Toke
   -- So the clauses give at most one outcome,
   pub one-outcome :
       {τ : ℕ} {f : Form} {s : State (D .Columns)} {o o' : Outcome (D .Columns)}
-      → Run D nodes rules tokens τ f s o
-      → Run D nodes rules tokens τ f s o'
+      → Run D reading nodes rules tokens τ f s o
+      → Run D reading nodes rules tokens τ f s o'
       → o ≡ o'
   one-outcome d e = one-run d e .outcome
 
   -- and one trace with it.
   pub one-trace :
       {τ : ℕ} {f : Form} {s : State (D .Columns)} {o o' : Outcome (D .Columns)} {t t' : Trace}
-      → Gives D nodes rules tokens τ f s o t
-      → Gives D nodes rules tokens τ f s o' t'
+      → Gives D reading nodes rules tokens τ f s o t
+      → Gives D reading nodes rules tokens τ f s o' t'
       → Same o o' t t'
   one-trace d e = let q = one-run (d .run) (e .run) in record { outcome = q .outcome; shown = sym (d .shows) ∙ q .shown ∙ e .shows }

@@ -4,8 +4,8 @@ use super::grammars::{self, Grammar, LAST};
 use super::letters::{damaged, letter};
 use super::Rng;
 use crate::second::kind::{INDENT, POSITION};
-use crate::second::read;
 use crate::second::relation::{ANY, COUNT, EQUAL};
+use crate::second::{read, Reading};
 
 /// A file and the lengths, in words, of the two lent slices.
 #[derive(Debug, Clone, PartialEq, Eq)]
@@ -72,7 +72,7 @@ pub(super) fn source(rng: &mut Rng) -> Source {
     for _ in 0..count.min(4) {
         alphabet.push(3 + rng.below(count) as u16);
     }
-    let mut grammar = grammars::grammar(rng, &alphabet);
+    let mut grammar = grammars::grammar(rng, Reading::By2017, &alphabet);
     if rng.chance(4) {
         grammars::spoil(rng, &mut grammar);
     }

@@ -1,10 +1,12 @@
 //! Grammars: well formed by construction, of several shapes, and wild ones. About half of
-//! them have steps, and more than half rules over many of their nodes.
+//! them have steps, and more than half rules over many of their nodes. Those for the 2014
+//! reading have no position, and aligns in its stead, many of them over what reads nothing.
 
 use super::Rng;
 use crate::second::kind::*;
 use crate::second::relation::{self, amount, ANY, AT_LEAST, EQUAL, GREATER};
 use crate::second::run::{Interval, State};
+use crate::second::Reading::{self, By2014, By2017};
 use crate::second::{MOST_NODES, MOST_RULES};
 
 /// The last relation, a step by the largest amount.
@@ -13,6 +15,8 @@ pub(super) const LAST: u16 = relation::COUNT - 1;
 /// A table and its rules.
 #[derive(Debug, Clone)]
 pub(super) struct Grammar {
+    /// The reading that it is drawn for.
+    pub reading: Reading,
     pub nodes: Vec<[u16; 4]>,
     pub rules: Vec<u16>,
     /// Whether about half of its relations are steps.
@@ -24,8 +28,9 @@ pub(super) struct Grammar {
 impl Grammar {
     /// No nodes yet, drawn with steps or without. Some that are drawn with them come to no
     /// indent and no position, so more than half are.
-    fn new(rng: &mut Rng, rules: Vec<u16>) -> Self {
+    fn new(rng: &mut Rng, reading: Reading, rules: Vec<u16>) -> Self {
         Grammar {
+            reading,
             nodes: Vec::new(),
             rules,
             steps: rng.chance(60),
@@ -70,8 +75,11 @@ fn step(rng: &mut Rng) -> u16 {
 }
 
 /// A grammar of any shape over the terminals of `alphabet`, mostly well formed.
-pub(super) fn grammar(rng: &mut Rng, alphabet: &[u16]) -> Grammar {
-    let shaped = shaped(rng, alphabet);
+pub(super) fn grammar(rng: &mut Rng, reading: Reading, alphabet: &[u16]) -> Grammar {
+    let shaped = match reading {
+        By2014 if rng.chance(50) => carried(rng, alphabet),
+        _ => shaped(rng, reading, alphabet),
+    };
     if rng.chance(70) {
         ruled(rng, &shaped)
     } else {
@@ -113,16 +121,16 @@ fn ruled(rng: &mut Rng, grammar: &Grammar) -> Grammar {
     over
 }
 
-fn shaped(rng: &mut Rng, alphabet: &[u16]) -> Grammar {
+fn shaped(rng: &mut Rng, reading: Reading, alphabet: &[u16]) -> Grammar {
     match rng.below(100) {
         0..=28 => {
             let size = rng.between(1, 12);
-            grown(rng, size, alphabet)
+            grown(rng, reading, size, alphabet)
         }
-        29..=37 => forks(rng, alphabet),
+        29..=37 => forks(rng, reading, alphabet),
         38..=54 => {
             let size = rng.between(13, 60);
-            grown(rng, size, alphabet)
+            grown(rng, reading, size, alphabet)
         }
         55..=60 => {
             let size = if rng.chance(25) {
@@ -130,11 +138,11 @@ fn shaped(rng: &mut Rng, alphabet: &[u16]) -> Grammar {
             } else {
                 rng.between(61, 512)
             };
-            grown(rng, size, alphabet)
+            grown(rng, reading, size, alphabet)
         }
-        61..=83 => blocks(rng, alphabet),
-        84..=93 => chain(rng, alphabet),
-        _ => wild(rng, alphabet),
+        61..=83 => blocks(rng, reading, alphabet),
+        84..=93 => chain(rng, reading, alphabet),
+        _ => wild(rng, reading, alphabet),
     }
 }
 
@@ -153,7 +161,7 @@ struct Known {
 /// to read something or not, and its node is chosen at the end so that the promise
 /// holds and that before the first token it enters rules of lower number only. So no
 /// rule comes back to itself without a token read.
-pub(super) fn grown(rng: &mut Rng, size: usize, alphabet: &[u16]) -> Grammar {
+pub(super) fn grown(rng: &mut Rng, reading: Reading, size: usize, alphabet: &[u16]) -> Grammar {
     let rule_count = match rng.below(10) {
         0..=3 => 0,
         4..=7 => rng.between(1, 3),
@@ -161,7 +169,7 @@ pub(super) fn grown(rng: &mut Rng, size: usize, alphabet: &[u16]) -> Grammar {
         _ => *rng.pick(&[40, 127, 128]),
     };
     let promises: Vec<bool> = (0..rule_count).map(|_| rng.chance(75)).collect();
-    let mut grammar = Grammar::new(rng, Vec::new());
+    let mut grammar = Grammar::new(rng, reading, Vec::new());
     let mut known: Vec<Known> = Vec::new();
     // One leaf is a terminal, so that every promise can be kept.
     let sure_terminal = rng.below(size.min(4));
@@ -234,6 +242,7 @@ fn grow(
     let rule_weight = if promises.is_empty() { 0 } else { 12 };
     let first = known.is_empty();
     let over = |weight| if first { 0 } else { weight };
+    let positions = grammar.reading == By2017;
     let mut kind = rng.weighted(&[
         5,
         20,
@@ -243,8 +252,8 @@ fn grow(
         over(3),
         over(8),
         over(14),
-        over(8),
-        over(9),
+        over(if positions { 8 } else { 0 }),
+        over(if positions { 9 } else { 17 }),
     ]) as u16;
     if kind <= RULE {
         return leaf(rng, kind, alphabet, promises);
@@ -306,7 +315,10 @@ fn child(rng: &mut Rng, known: &[Known]) -> usize {
 fn wrapped(rng: &mut Rng, grammar: &mut Grammar, node: u16, layers: usize) -> u16 {
     let mut node = node;
     for _ in 0..layers {
-        let kind = *rng.pick(&[INDENT, INDENT, POSITION, ALIGN]);
+        let kind = *rng.pick(match grammar.reading {
+            By2017 => &[INDENT, INDENT, POSITION, ALIGN],
+            By2014 => &[INDENT, INDENT, ALIGN, ALIGN],
+        });
         let relation = if kind == ALIGN {
             0
         } else {
@@ -319,8 +331,8 @@ fn wrapped(rng: &mut Rng, grammar: &mut Grammar, node: u16, layers: usize) -> u1
 
 /// Blocks of statements, as in 001's example: a statement is a head and perhaps a
 /// block, a block is a row of statements under an indent, each of them aligned.
-fn blocks(rng: &mut Rng, alphabet: &[u16]) -> Grammar {
-    let mut grammar = Grammar::new(rng, vec![0, 0]);
+fn blocks(rng: &mut Rng, reading: Reading, alphabet: &[u16]) -> Grammar {
+    let mut grammar = Grammar::new(rng, reading, vec![0, 0]);
     let head = grammar.push(TERMINAL, *rng.pick(alphabet), 0, 0);
     let tail = grammar.push(TERMINAL, *rng.pick(alphabet), 0, 0);
     let empty = grammar.push(EMPTY, 0, 0, 0);
@@ -356,8 +368,13 @@ fn blocks(rng: &mut Rng, alphabet: &[u16]) -> Grammar {
     let relation = grammar.relation_of(rng, &mostly_greater);
     let mut rows = grammar.push(INDENT, row, 0, relation);
     if rng.chance(40) {
-        let mode = grammar.relation(rng);
-        rows = grammar.push(POSITION, rows, 0, mode);
+        rows = match reading {
+            By2017 => {
+                let mode = grammar.relation(rng);
+                grammar.push(POSITION, rows, 0, mode)
+            }
+            By2014 => grammar.push(ALIGN, rows, 0, 0),
+        };
     }
     grammar.rules[1] = rows;
     grammar
@@ -365,8 +382,8 @@ fn blocks(rng: &mut Rng, alphabet: &[u16]) -> Grammar {
 
 /// A row of entries with alternatives that begin alike, so that rules succeed on ways that
 /// are given up, and inside nots: with p for the level below, p a, or p b, or p alone.
-fn forks(rng: &mut Rng, alphabet: &[u16]) -> Grammar {
-    let mut grammar = Grammar::new(rng, Vec::new());
+fn forks(rng: &mut Rng, reading: Reading, alphabet: &[u16]) -> Grammar {
+    let mut grammar = Grammar::new(rng, reading, Vec::new());
     let [a, b] = [0, 1].map(|_| grammar.push(TERMINAL, *rng.pick(alphabet), 0, 0));
     let mut level = *rng.pick(&[a, b]);
     for rule in 0..rng.between(1, 3) as u16 {
@@ -394,8 +411,8 @@ fn forks(rng: &mut Rng, alphabet: &[u16]) -> Grammar {
 
 /// A rule that reads one token a round, or a repeat of one token, with layout around
 /// each round: deep or long runs.
-fn chain(rng: &mut Rng, alphabet: &[u16]) -> Grammar {
-    let mut grammar = Grammar::new(rng, vec![0]);
+fn chain(rng: &mut Rng, reading: Reading, alphabet: &[u16]) -> Grammar {
+    let mut grammar = Grammar::new(rng, reading, vec![0]);
     if grammar.steps && rng.chance(15) {
         return steep(rng, grammar, alphabet);
     }
@@ -423,12 +440,16 @@ fn chain(rng: &mut Rng, alphabet: &[u16]) -> Grammar {
 }
 
 /// A chain whose rounds are steps alone, mostly by the largest amount, so that a row of
-/// tokens takes both ends past every column. Tokens are read in mode any there, and the
-/// last round reads nothing.
+/// tokens takes both ends past every column. Tokens are read in mode any there, or under an
+/// indent by any, which does the same while the flag is clear. The last round reads nothing.
 fn steep(rng: &mut Rng, mut grammar: Grammar, alphabet: &[u16]) -> Grammar {
     grammar.steep = true;
     let letter = grammar.push(TERMINAL, *rng.pick(alphabet), 0, 0);
-    let read = grammar.push(POSITION, letter, 0, ANY);
+    let any_column = match grammar.reading {
+        By2017 => POSITION,
+        By2014 => INDENT,
+    };
+    let read = grammar.push(any_column, letter, 0, ANY);
     let mut rest = grammar.push(RULE, 0, 0, 0);
     let by = if rng.chance(70) { LAST } else { step(rng) };
     // The odd one among them takes the upper end away.
@@ -451,8 +472,124 @@ fn steep(rng: &mut Rng, mut grammar: Grammar, alphabet: &[u16]) -> Grammar {
     grammar
 }
 
+/// For the 2014 reading, under which a flag that is set stays so until a token is read: rows
+/// of pieces, some of which read nothing and set it, under indents and aligns.
+fn carried(rng: &mut Rng, alphabet: &[u16]) -> Grammar {
+    let mut grammar = Grammar::new(rng, By2014, Vec::new());
+    let mut row = pieces(rng, &mut grammar, alphabet, 4).0;
+    match rng.below(10) {
+        // A repeat, whose rounds read a token.
+        0..=2 => {
+            let letter = letter(rng, &mut grammar, alphabet);
+            let layers = rng.below(3);
+            let last = wrapped(rng, &mut grammar, letter, layers);
+            row = grammar.push(SEQUENCE, row, last, 0);
+            row = grammar.push(REPEAT, row, 0, 0);
+        }
+        // X = (a row X) / row
+        3 | 4 => {
+            grammar.rules.push(0);
+            let again = grammar.push(RULE, 0, 0, 0);
+            let layers = rng.below(4);
+            let rest = wrapped(rng, &mut grammar, again, layers);
+            let rest = grammar.push(SEQUENCE, row, rest, 0);
+            let letter = letter(rng, &mut grammar, alphabet);
+            let round = grammar.push(SEQUENCE, letter, rest, 0);
+            row = grammar.push(CHOICE, round, row, 0);
+            grammar.rules[0] = row;
+        }
+        _ => {}
+    }
+    let layers = rng.below(3);
+    wrapped(rng, &mut grammar, row, layers);
+    grammar
+}
+
+fn letter(rng: &mut Rng, grammar: &mut Grammar, alphabet: &[u16]) -> u16 {
+    grammar.push(TERMINAL, *rng.pick(alphabet), 0, 0)
+}
+
+/// Some pieces in a row, and whether they may all succeed reading nothing.
+fn pieces(rng: &mut Rng, grammar: &mut Grammar, alphabet: &[u16], depth: usize) -> (u16, bool) {
+    let (mut row, mut nothing) = piece(rng, grammar, alphabet, depth);
+    for _ in 0..rng.below(4) {
+        let (next, next_nothing) = piece(rng, grammar, alphabet, depth);
+        row = grammar.push(SEQUENCE, row, next, 0);
+        nothing &= next_nothing;
+    }
+    (row, nothing)
+}
+
+/// A piece with no more than so many forms one over the other, and whether it may succeed
+/// reading nothing.
+fn piece(rng: &mut Rng, grammar: &mut Grammar, alphabet: &[u16], depth: usize) -> (u16, bool) {
+    let inner = if depth == 0 { 0 } else { 1 };
+    match rng.weighted(&[7, 6, 5 * inner, 4 * inner, inner, inner, inner]) {
+        0 => (letter(rng, grammar, alphabet), false),
+        1 => (idle(rng, grammar, alphabet), true),
+        2 => {
+            let (row, nothing) = pieces(rng, grammar, alphabet, depth - 1);
+            let relation = grammar.relation(rng);
+            (grammar.push(INDENT, row, 0, relation), nothing)
+        }
+        3 => {
+            let (row, nothing) = pieces(rng, grammar, alphabet, depth - 1);
+            (grammar.push(ALIGN, row, 0, 0), nothing)
+        }
+        4 => {
+            let (one, one_nothing) = pieces(rng, grammar, alphabet, depth - 1);
+            let (two, two_nothing) = piece(rng, grammar, alphabet, depth - 1);
+            let either = grammar.push(CHOICE, one, two, 0);
+            (either, one_nothing || two_nothing)
+        }
+        5 => {
+            let (row, _) = pieces(rng, grammar, alphabet, depth - 1);
+            (grammar.push(NOT, row, 0, 0), true)
+        }
+        _ => {
+            let (mut row, nothing) = pieces(rng, grammar, alphabet, depth - 1);
+            if nothing {
+                let letter = letter(rng, grammar, alphabet);
+                row = grammar.push(SEQUENCE, row, letter, 0);
+            }
+            (grammar.push(REPEAT, row, 0, 0), true)
+        }
+    }
+}
+
+/// A piece that may read nothing, mostly an align, which then hands on the flag that it set,
+/// some under an indent or within two aligns.
+fn idle(rng: &mut Rng, grammar: &mut Grammar, alphabet: &[u16]) -> u16 {
+    let mut node = match rng.below(8) {
+        0..=3 => grammar.push(EMPTY, 0, 0, 0),
+        4 => {
+            let letter = letter(rng, grammar, alphabet);
+            grammar.push(NOT, letter, 0, 0)
+        }
+        5 => {
+            let letter = letter(rng, grammar, alphabet);
+            grammar.push(REPEAT, letter, 0, 0)
+        }
+        _ => {
+            let letter = letter(rng, grammar, alphabet);
+            let empty = grammar.push(EMPTY, 0, 0, 0);
+            grammar.push(CHOICE, letter, empty, 0)
+        }
+    };
+    if rng.chance(30) {
+        node = wrapped(rng, grammar, node, 1);
+    }
+    if rng.chance(85) {
+        node = grammar.push(ALIGN, node, 0, 0);
+    }
+    if rng.chance(30) {
+        node = wrapped(rng, grammar, node, 1);
+    }
+    node
+}
+
 /// A table that keeps to checks 3 to 5 and to nothing else, often not well formed.
-pub(super) fn wild(rng: &mut Rng, alphabet: &[u16]) -> Grammar {
+pub(super) fn wild(rng: &mut Rng, reading: Reading, alphabet: &[u16]) -> Grammar {
     let size = match rng.below(10) {
         0..=6 => rng.between(1, 8),
         7 | 8 => rng.between(9, 40),
@@ -460,7 +597,7 @@ pub(super) fn wild(rng: &mut Rng, alphabet: &[u16]) -> Grammar {
     };
     let rules = if rng.chance(30) { 0 } else { rng.between(1, 4) };
     let nodes_of_rules = (0..rules).map(|_| rng.below(size) as u16).collect();
-    let mut grammar = Grammar::new(rng, nodes_of_rules);
+    let mut grammar = Grammar::new(rng, reading, nodes_of_rules);
     for number in 0..size {
         let over = |weight| if number == 0 { 0 } else { weight };
         let rule_weight = if rules == 0 { 0 } else { 8 };
@@ -473,8 +610,8 @@ pub(super) fn wild(rng: &mut Rng, alphabet: &[u16]) -> Grammar {
             over(6),
             over(4),
             over(6),
-            over(5),
-            over(6),
+            over(if reading == By2017 { 5 } else { 0 }),
+            over(if reading == By2017 { 6 } else { 11 }),
         ]) as u16;
         let mut below = || rng.below(number.max(1)) as u16;
         let (a, b) = (below(), below());
@@ -529,6 +666,7 @@ pub(super) fn spoil(rng: &mut Rng, grammar: &mut Grammar) {
 pub(super) struct Walk<'w> {
     pub rng: &'w mut Rng,
     pub grammar: &'w Grammar,
+    pub reading: Reading,
     /// Terminal and column.
     pub tokens: Vec<[u32; 2]>,
     pub most: usize,
@@ -579,6 +717,9 @@ impl Walk<'_> {
                 }
                 Some(state)
             }
+            INDENT if self.reading == By2014 && state.flag => {
+                self.expression(a, mode, state, depth)
+            }
             INDENT => {
                 let inside = State {
                     interval: state.interval.inner(relation),
@@ -598,7 +739,7 @@ impl Walk<'_> {
                 };
                 let end = self.expression(a, mode, inside, depth)?;
                 Some(State {
-                    flag: state.flag && end.flag,
+                    flag: end.flag && (state.flag || self.reading == By2014),
                     ..end
                 })
             }

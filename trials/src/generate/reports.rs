@@ -5,7 +5,7 @@ use super::grammars::Walk;
 use super::letters::{advance, cut, is_continuation, Letters};
 use super::Rng;
 use crate::second::run::{Interval, State};
-use crate::second::scan;
+use crate::second::{scan, Reading};
 
 /// A file, a report and the length, in words, of the lent slice.
 #[derive(Debug, Clone, PartialEq, Eq)]
@@ -102,6 +102,7 @@ fn walked(rng: &mut Rng, source: &Source) -> Vec<[u32; 2]> {
     let mut walk = Walk {
         rng,
         grammar: &source.grammar,
+        reading: Reading::By2017,
         tokens: Vec::new(),
         most: 60,
         fuel: 2_000,

@@ -3,54 +3,80 @@
 use super::grammars::{self, Grammar, Walk, LAST};
 use super::Rng;
 use crate::second::kind::*;
-use crate::second::relation::{ANY, COUNT};
+use crate::second::relation::{ANY, COUNT, EQUAL, GREATER};
 use crate::second::run::{Interval, State};
-use crate::second::{list_within, run_within, Listed, Ran, Start};
+use crate::second::Reading::{self, By2014, By2017};
+use crate::second::{list_within, run_within, Listed, Ran, Start, MOST_NODES};
 
-/// Lent words and a start, and the length, in words, of the slice lent for captures.
+/// Lent words, a reading and a start, and the length, in words, of the slice lent for captures.
 #[derive(Debug, Clone, PartialEq, Eq)]
 pub struct RunInput {
     pub nodes: Vec<u16>,
     pub rules: Vec<u16>,
     pub tokens: Vec<u32>,
+    pub reading: Reading,
     pub start: Start,
     pub room: usize,
 }
 
 impl RunInput {
-    pub fn parts(&self) -> (&[u16], &[u16], &[u32], &Start) {
-        (&self.nodes, &self.rules, &self.tokens, &self.start)
+    pub fn parts(&self) -> (&[u16], &[u16], &[u32], Reading, &Start) {
+        let reading = self.reading;
+        (&self.nodes, &self.rules, &self.tokens, reading, &self.start)
     }
 }
 
-/// An input for the interpreter; its tables serve the check as well. The stack must do for
-/// a run.
+/// An input for the interpreter by 2017; its tables serve the check as well. The stack must
+/// do for a run.
 pub fn run_input(rng: &mut Rng) -> RunInput {
+    let mut input = whole_input(rng, By2017);
+    broken(rng, &mut input, 15);
+    input.room = room(rng, &input);
+    input
+}
+
+/// An input for the interpreter by 2014, mostly without positions and in mode equal. The stack
+/// must do for a run.
+pub fn run_input_by_2014(rng: &mut Rng) -> RunInput {
+    let mut input = whole_input(rng, By2014);
+    // Where 16 is to refuse the run, another number does so more often.
+    let sixteen = rng.chance(14);
+    if sixteen {
+        break_reading(rng, &mut input);
+    }
+    broken(rng, &mut input, if sixteen { 25 } else { 12 });
+    input.room = room(rng, &input);
+    input
+}
+
+/// An input in which nothing is broken but a grammar here and there.
+fn whole_input(rng: &mut Rng, reading: Reading) -> RunInput {
     let alphabet = alphabet(rng);
     let mut grammar = if rng.chance(3) {
-        grammars::wild(rng, &alphabet)
+        grammars::wild(rng, reading, &alphabet)
     } else {
-        grammars::grammar(rng, &alphabet)
+        grammars::grammar(rng, reading, &alphabet)
     };
     if rng.chance(5) {
         grammars::spoil(rng, &mut grammar);
     }
-    let mut input = good_input(rng, &grammar, &alphabet);
-    // Mostly one thing is broken, sometimes several.
-    if rng.chance(15) {
+    good_input(rng, &grammar, &alphabet)
+}
+
+/// Breaks an input in so many of a hundred cases: mostly one thing, sometimes several.
+fn broken(rng: &mut Rng, input: &mut RunInput, percent: usize) {
+    if rng.chance(percent) {
         loop {
             match rng.below(10) {
                 0..=5 => break_table(rng, &mut input.nodes, &mut input.rules),
                 6 | 7 => break_tokens(rng, &mut input.tokens),
-                _ => break_start(rng, &mut input),
+                _ => break_start(rng, input),
             }
             if rng.chance(80) {
                 break;
             }
         }
     }
-    input.room = room(rng, &input);
-    input
 }
 
 /// Room for the captures: as many words as their list needs, a few less or more, hardly any
@@ -68,13 +94,21 @@ fn room(rng: &mut Rng, input: &RunInput) -> usize {
     }
 }
 
-/// The words of a success's list. `None` for what lists nothing, or takes many steps.
+/// The words of a success's list, by 2017 for a run that 16 refuses, so that it could be
+/// refused by 13 as well. `None` for what lists nothing, or takes many steps.
 fn needed(input: &RunInput) -> Option<usize> {
-    let (nodes, rules, tokens, start) = input.parts();
+    let (nodes, rules, tokens, reading, start) = input.parts();
+    let list = |reading, words: &mut [u32]| {
+        list_within(nodes, rules, tokens, reading, start, words, 200_000)
+    };
     // Most lists are short, and there are no more captures than steps.
     for room in [256, 16_384, 4 * 200_000] {
         let mut words = vec![0; room];
-        match list_within(nodes, rules, tokens, start, &mut words, 200_000)? {
+        let mut listed = list(reading, &mut words)?;
+        if listed == Listed::Refused(16) {
+            listed = list(By2017, &mut words)?;
+        }
+        match listed {
             Listed::Refused(13) => {}
             Listed::Success { captures, .. } => return Some(4 * captures as usize),
             _ => return None,
@@ -102,31 +136,65 @@ fn good_input(rng: &mut Rng, grammar: &Grammar, alphabet: &[u16]) -> RunInput {
         nodes,
         rules: grammar.rules.clone(),
         tokens: Vec::new(),
+        reading: grammar.reading,
         start: start(rng, grammar),
         room: 0,
     };
+    if grammar.reading == By2014 {
+        return telling_input(rng, grammar, alphabet, input);
+    }
     // Some tries for tokens that are read, two of them at least.
     for _ in 0..rng.between(1, 3) {
         input.start = start(rng, grammar);
         input.tokens = tokens(rng, grammar, &mut input.start, alphabet);
-        let ran = run_within(
-            &input.nodes,
-            &input.rules,
-            &input.tokens,
-            &input.start,
-            3_000,
-        );
-        if matches!(ran, Some(Ran::Success { read: 2.., .. })) {
+        if reads_two(run_of(&input, By2017)) {
             break;
         }
     }
     input
 }
 
+/// Some tries for tokens and a start that tell the readings apart where one of them reads two
+/// tokens at least, or else of which two are read.
+fn telling_input(rng: &mut Rng, grammar: &Grammar, alphabet: &[u16], input: RunInput) -> RunInput {
+    let (mut best, mut reached) = (input, 0);
+    for _ in 0..rng.between(1, 4) {
+        let mut input = RunInput {
+            start: start(rng, grammar),
+            ..best.clone()
+        };
+        input.tokens = tokens(rng, grammar, &mut input.start, alphabet);
+        let both = [By2014, By2017].map(|reading| run_of(&input, reading));
+        let telling = match both {
+            [one, two] if one != two && both.into_iter().any(reads_two) => 3,
+            [one, _] if reads_two(one) => 2,
+            _ => 1,
+        };
+        if telling > reached {
+            (best, reached) = (input, telling);
+        }
+        if reached == 3 {
+            break;
+        }
+    }
+    best
+}
+
+/// A run by a reading, in few steps.
+fn run_of(input: &RunInput, reading: Reading) -> Option<Ran> {
+    let (nodes, rules, tokens, _, start) = input.parts();
+    run_within(nodes, rules, tokens, reading, start, 3_000)
+}
+
+fn reads_two(ran: Option<Ran>) -> bool {
+    matches!(ran, Some(Ran::Success { read: 2.., .. }))
+}
+
 /// A start within the limits, at place 0.
 fn start(rng: &mut Rng, grammar: &Grammar) -> Start {
     let count = grammar.nodes.len();
     let node = match rng.below(10) {
+        5..=6 if grammar.reading == By2014 => count - 1,
         0..=4 => count - 1 - rng.below(count.min(3)),
         5..=7 if !grammar.rules.is_empty() => usize::from(*rng.pick(&grammar.rules)),
         _ => rng.below(count),
@@ -147,13 +215,17 @@ fn start(rng: &mut Rng, grammar: &Grammar) -> Start {
             (lower, Some(rng.between(lower as usize, 65_535) as u32))
         }
     };
+    let flags = if grammar.reading == By2017 { 25 } else { 40 };
     Start {
         node: node as u16,
         place: 0,
         lower,
         upper,
-        flag: rng.chance(25),
-        mode: grammar.relation(rng),
+        flag: rng.chance(flags),
+        mode: match grammar.reading {
+            By2017 => grammar.relation(rng),
+            By2014 => EQUAL,
+        },
     }
 }
 
@@ -170,9 +242,15 @@ fn tokens(rng: &mut Rng, grammar: &Grammar, start: &mut Start, alphabet: &[u16])
                 1..=3 => 300,
                 _ => 40,
             };
+            // By 2014 some tokens are those that the other reading could read.
+            let reading = match grammar.reading {
+                By2014 if rng.chance(75) => By2014,
+                _ => By2017,
+            };
             let mut walk = Walk {
                 rng,
                 grammar,
+                reading,
                 tokens: Vec::new(),
                 most,
                 fuel: 40 * most,
@@ -365,6 +443,54 @@ pub(super) fn break_tokens(rng: &mut Rng, tokens: &mut Vec<u32>) {
         }
         _ => tokens.extend([0, 65_536, 0, 0]),
     }
+}
+
+/// Breaks check 16: a position, in reach of the start or not, or a mode, and some of check 12
+/// by a mode.
+fn break_reading(rng: &mut Rng, input: &mut RunInput) {
+    let kind = rng.below(10);
+    if kind <= 5 && put_position(rng, input) && rng.chance(85) {
+        return;
+    }
+    input.start.mode = match rng.below(10) {
+        0..=2 => rng.between(usize::from(GREATER), usize::from(LAST)) as u16,
+        3 => GREATER,
+        4 => LAST,
+        5 => COUNT,
+        6 => rng.between(usize::from(COUNT), 65_535) as u16,
+        _ => rng.between(1, 4) as u16,
+    };
+}
+
+/// Puts a position into the table, if it can: as its last node, which the start may be, or in
+/// place of a form with one child.
+fn put_position(rng: &mut Rng, input: &mut RunInput) -> bool {
+    let relation = rng.below(usize::from(COUNT)) as u16;
+    let count = input.nodes.len() / 4;
+    let (table, _) = input.nodes.as_chunks_mut::<4>();
+    let mut forms: Vec<&mut [u16; 4]> = table
+        .iter_mut()
+        .filter(|node| matches!(node[0], NOT | REPEAT | INDENT | ALIGN))
+        .collect();
+    if !forms.is_empty() && rng.chance(50) {
+        let form = rng.below(forms.len());
+        let child = forms[form][1];
+        *forms[form] = [POSITION, child, 0, relation];
+        return true;
+    }
+    if count >= MOST_NODES {
+        return false;
+    }
+    let child = if rng.chance(50) {
+        input.start.node
+    } else {
+        rng.below(count) as u16
+    };
+    input.nodes.extend([POSITION, child, 0, relation]);
+    if rng.chance(20) {
+        input.start.node = count as u16;
+    }
+    true
 }
 
 /// Breaks check 12, or goes to its limits.

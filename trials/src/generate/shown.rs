@@ -5,7 +5,7 @@ use super::files::file_input;
 use super::reports::{report_input, ReportInput};
 use super::runs::break_tokens;
 use super::Rng;
-use crate::second::{list_within, read, scan, Listed, Start};
+use crate::second::{list_within, read, scan, Listed, Reading, Start};
 
 /// A file, a report, tokens, and a capture of these.
 #[derive(Debug, Clone, PartialEq, Eq)]
@@ -76,7 +76,15 @@ fn listed(rng: &mut Rng, file: &[u8], tokens: &[u32]) -> Option<[u32; 4]> {
     let file = read(file, usize::MAX, usize::MAX).ok()?;
     let start = Start::from_first(file.start, file.mode);
     let mut words = vec![0; 4_096];
-    match list_within(&file.nodes, &file.rules, tokens, &start, &mut words, 20_000)? {
+    match list_within(
+        &file.nodes,
+        &file.rules,
+        tokens,
+        Reading::By2017,
+        &start,
+        &mut words,
+        20_000,
+    )? {
         Listed::Success { captures, .. } if captures > 0 => {
             Some(*rng.pick(&words.as_chunks().0[..captures as usize]))
         }

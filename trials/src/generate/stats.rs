@@ -2,8 +2,9 @@
 
 use super::{ReportInput, RunInput, ShownInput, WriteInput};
 use crate::second::kind::*;
-use crate::second::relation::{ANY, COUNT};
+use crate::second::relation::{ANY, COUNT, EQUAL};
 use crate::second::run::{Interval, State};
+use crate::second::Reading::{self, By2014, By2017};
 use crate::second::{check, read, FileRead, Listed, Ran, Shown, Verdict, MOST_COLUMN};
 use std::collections::BTreeMap;
 use std::fmt;
@@ -28,64 +29,128 @@ impl Stats {
     /// Notes a run's answer, `None` for one that ran out of steps. The stack must do
     /// for a run.
     pub fn note_run(&mut self, input: &RunInput, ran: Option<&Ran>) {
-        *self.totals.entry("run").or_default() += 1;
-        let mut also = |class: &str| self.note("run", class.to_string());
+        let part = run_part(input.reading);
+        *self.totals.entry(part).or_default() += 1;
+        let mut also = |class: &str| self.note(part, class.to_string());
         if with_steps(input) {
             also("with steps");
         }
         let class = match ran {
             None => "out of steps".to_string(),
             Some(Ran::Failure) => {
-                if traced(input).1 {
+                let (_, seen) = traced(input);
+                if seen.past {
                     also("failure, an upper end past 65,535");
                 }
+                self.note_flags(input, "failure", &seen);
                 "failure".to_string()
             }
             Some(Ran::IllFormed(_)) => "refused 7".to_string(),
-            Some(Ran::Refused(number)) => format!("refused {number}"),
-            Some(Ran::Success { read, .. }) => {
+            Some(Ran::Refused(number)) => {
+                if *number == 16 {
+                    self.note_sixteen(input);
+                }
+                format!("refused {number}")
+            }
+            Some(Ran::Success { read, flag, .. }) => {
                 self.note_success(input, *read);
+                if *flag && input.reading == By2014 {
+                    self.note(part, "success, the flag set at the end".to_string());
+                }
                 "success".to_string()
             }
         };
-        self.note("run", class);
+        self.note(part, class);
+    }
+
+    /// Notes of a run by 2014 what the two readings take differently.
+    fn note_flags(&mut self, input: &RunInput, class: &str, seen: &Seen) {
+        if input.reading == By2017 {
+            return;
+        }
+        for (holds, what) in [
+            (seen.set_indent, "an indent under a set flag"),
+            (seen.handed, "an align that handed on its own flag"),
+        ] {
+            if holds {
+                self.note(run_part(By2014), format!("{class}, {what}"));
+            }
+        }
+    }
+
+    /// Notes why a run by 2014 was refused by 16.
+    fn note_sixteen(&mut self, input: &RunInput) {
+        let (nodes, _) = input.nodes.as_chunks::<4>();
+        let position = nodes.iter().any(|node| node[0] == POSITION);
+        let why = match (position, reaches_position(input), input.start.mode) {
+            (false, _, _) => "the mode",
+            (true, true, EQUAL) => "a position in reach",
+            (true, false, EQUAL) => "a position out of reach",
+            (true, _, _) => "a position and the mode",
+        };
+        self.note(run_part(By2014), format!("refused 16: {why}"));
+    }
+
+    /// Notes how the answers of the two readings to one input stand to each other.
+    pub fn note_readings(&mut self, by_2014: &Ran, by_2017: &Ran) {
+        let part = "readings";
+        *self.totals.entry(part).or_default() += 1;
+        let class = match (by_2014, by_2017) {
+            _ if by_2014 == by_2017 => {
+                self.note(part, "the same".to_string());
+                return;
+            }
+            (Ran::Success { .. }, Ran::Failure) => "success by 2014 alone",
+            (Ran::Failure, Ran::Success { .. }) => "success by 2017 alone",
+            (Ran::Success { read, .. }, Ran::Success { read: other, .. }) if read != other => {
+                "in the tokens read"
+            }
+            (Ran::Success { flag, .. }, Ran::Success { flag: other, .. }) if flag == other => {
+                "in the ends alone"
+            }
+            _ => "in the flag",
+        };
+        self.note(part, "differ".to_string());
+        self.note(part, format!("differ, {class}"));
     }
 
     /// Notes how a run with so many tokens read succeeded.
     fn note_success(&mut self, input: &RunInput, read: u32) {
-        let (way, past, rules) = traced(input);
+        let (way, seen) = traced(input);
+        self.note_flags(input, "success", &seen);
         for (holds, class) in [
             (read >= 2, "2 or more read"),
             (read >= 2 && way.in_layout >= 2, "2 or more read in layout"),
             (read >= 100, "100 or more read"),
             (way.steps, "through a step"),
             (way.steps && way.by_steps >= 1, "a token read by a step"),
-            (past, "an upper end past 65,535"),
-            (way.rules < rules, "a rule succeeded off the way"),
+            (seen.past, "an upper end past 65,535"),
+            (way.rules < seen.rules, "a rule succeeded off the way"),
         ] {
             if holds {
-                self.note("run", format!("success, {class}"));
+                self.note(run_part(input.reading), format!("success, {class}"));
             }
         }
     }
 
     /// Notes what a run that lists answered, with its lent words.
-    pub fn note_list(&mut self, listed: &Listed, words: &[u32]) {
-        *self.totals.entry("list").or_default() += 1;
+    pub fn note_list(&mut self, reading: Reading, listed: &Listed, words: &[u32]) {
+        let part = list_part(reading);
+        *self.totals.entry(part).or_default() += 1;
         let class = match listed {
             Listed::Failure => "failure".to_string(),
             Listed::IllFormed(_) => "refused 7".to_string(),
             Listed::Refused(number) => format!("refused {number}"),
             Listed::Success { captures: 0, .. } => "no capture".to_string(),
             Listed::Success { captures, .. } => {
-                self.note_captures(&words.as_chunks().0[..*captures as usize]);
+                self.note_captures(part, &words.as_chunks().0[..*captures as usize]);
                 "captures".to_string()
             }
         };
-        self.note("list", class);
+        self.note(part, class);
     }
 
-    fn note_captures(&mut self, captures: &[[u32; 4]]) {
+    fn note_captures(&mut self, part: &'static str, captures: &[[u32; 4]]) {
         let around = captures.iter().map(|capture| capture[3]).max().unwrap_or(0);
         self.most_captures = self.most_captures.max(captures.len() as u32);
         self.most_around = self.most_around.max(around);
@@ -97,7 +162,7 @@ impl Stats {
             (no_token, "one that read no token"),
         ] {
             if holds {
-                self.note("list", format!("captures, {class}"));
+                self.note(part, format!("captures, {class}"));
             }
         }
     }
@@ -233,17 +298,59 @@ impl fmt::Display for Stats {
     fn fmt(&self, f: &mut fmt::Formatter<'_>) -> fmt::Result {
         for ((part, class), count) in &self.counts {
             let share = self.share(part, class);
-            writeln!(f, "{part:>6}: {share:6.2} %  {count:>7}  {class}")?;
+            writeln!(f, "{part:>12}: {share:6.2} %  {count:>7}  {class}")?;
         }
         if self.most_captures > 0 {
             let (most, around) = (self.most_captures, self.most_around);
-            writeln!(f, "  list: {most} captures at most, {around} around one")?;
+            writeln!(
+                f,
+                "{:>12}: {most} captures at most, {around} around one",
+                "list"
+            )?;
         }
         if self.most_written > 0 {
-            writeln!(f, " write: {} bytes at most", self.most_written)?;
+            writeln!(f, "{:>12}: {} bytes at most", "write", self.most_written)?;
         }
         Ok(())
     }
+}
+
+/// The runs of a reading.
+fn run_part(reading: Reading) -> &'static str {
+    match reading {
+        By2017 => "run",
+        By2014 => "run by 2014",
+    }
+}
+
+/// The lists of a reading.
+fn list_part(reading: Reading) -> &'static str {
+    match reading {
+        By2017 => "list",
+        By2014 => "list by 2014",
+    }
+}
+
+/// Whether a position of a table that passes is the start's node or inside it, through rules
+/// too.
+fn reaches_position(input: &RunInput) -> bool {
+    let (nodes, _) = input.nodes.as_chunks::<4>();
+    let mut met = vec![false; nodes.len()];
+    let mut left = vec![input.start.node];
+    while let Some(node) = left.pop() {
+        let node = usize::from(node);
+        if std::mem::replace(&mut met[node], true) {
+            continue;
+        }
+        match nodes[node] {
+            [POSITION, ..] => return true,
+            [EMPTY | TERMINAL, ..] => {}
+            [RULE, rule, ..] => left.push(input.rules[usize::from(rule)]),
+            [SEQUENCE | CHOICE, a, b, _] => left.extend([a, b]),
+            [_, a, ..] => left.push(a),
+        }
+    }
+    false
 }
 
 /// Whether a report's tokens have a keyword with a byte over 127.
@@ -329,9 +436,21 @@ struct Around {
     step: bool,
 }
 
-/// The way to a run's success, none after a failure, whether a finite upper end was past
-/// 65,535 somewhere in the run, and how many rules succeeded, on the way or off it.
-fn traced(input: &RunInput) -> (Way, bool, u64) {
+/// What was met somewhere in a run, on the way or off it.
+#[derive(Clone, Copy, Default)]
+struct Seen {
+    /// Whether a finite upper end was past 65,535.
+    past: bool,
+    /// The rules that succeeded.
+    rules: u64,
+    /// Whether an indent was met under a set flag.
+    set_indent: bool,
+    /// Whether an align was met under a clear flag and its child left it set.
+    handed: bool,
+}
+
+/// The way to a run's success, none after a failure, and what was met.
+fn traced(input: &RunInput) -> (Way, Seen) {
     let start = &input.start;
     let state = State {
         interval: Interval {
@@ -343,19 +462,17 @@ fn traced(input: &RunInput) -> (Way, bool, u64) {
     };
     let mut trace = Trace {
         input,
-        past: false,
-        rules: 0,
+        seen: Seen::default(),
     };
     let begin = (state, Way::default());
     let end = trace.expression(start.node, start.mode, begin, Around::default());
-    (end.unwrap_or(begin).1, trace.past, trace.rules)
+    (end.unwrap_or(begin).1, trace.seen)
 }
 
 /// The clauses once more, to see what lies on the way.
 struct Trace<'i> {
     input: &'i RunInput,
-    past: bool,
-    rules: u64,
+    seen: Seen,
 }
 
 impl Trace<'_> {
@@ -378,7 +495,7 @@ impl Trace<'_> {
             RULE => {
                 let node = self.input.rules[usize::from(a)];
                 let (end, mut way) = self.expression(node, mode, at, around)?;
-                self.rules += 1;
+                self.seen.rules += 1;
                 way.rules += 1;
                 Some((end, way))
             }
@@ -406,7 +523,8 @@ impl Trace<'_> {
             _ => {
                 let inside = State { flag: true, ..at.0 };
                 let (end, way) = self.expression(a, mode, (inside, at.1), in_layout)?;
-                let flag = at.0.flag && end.flag;
+                self.seen.handed |= end.flag && !at.0.flag;
+                let flag = end.flag && (at.0.flag || self.input.reading == By2014);
                 Some((State { flag, ..end }, way))
             }
         }
@@ -438,8 +556,16 @@ impl Trace<'_> {
         (state, way): (State, Way),
         around: Around,
     ) -> Option<(State, Way)> {
+        self.seen.set_indent |= state.flag;
+        if state.flag && self.input.reading == By2014 {
+            let in_layout = Around {
+                layout: true,
+                ..around
+            };
+            return self.expression(a, mode, (state, way), in_layout);
+        }
         let interval = state.interval.inner(relation);
-        self.past |= interval.upper.is_some_and(|upper| upper > MOST_COLUMN);
+        self.seen.past |= interval.upper.is_some_and(|upper| upper > MOST_COLUMN);
         let inside = State { interval, ..state };
         let by_step = Around {
             layout: true,

@@ -8,7 +8,7 @@ use super::runs::{alphabet, break_table};
 use super::Rng;
 use crate::second::kind::{EMPTY, RULE};
 use crate::second::relation::{COUNT, EQUAL};
-use crate::second::{MOST_KEYWORDS, MOST_NODES, MOST_RULES};
+use crate::second::{Reading, MOST_KEYWORDS, MOST_NODES, MOST_RULES};
 
 /// The length of the longest file.
 const LONGEST: usize = 18_209;
@@ -107,7 +107,7 @@ fn long_word(rng: &mut Rng) -> Vec<u8> {
 fn large(rng: &mut Rng) -> Grammar {
     let size = MOST_NODES - rng.below(2);
     let alphabet = alphabet(rng);
-    grammars::grown(rng, size, &alphabet)
+    grammars::grown(rng, Reading::By2017, size, &alphabet)
 }
 
 /// What is to be written: often the tables of the lending file itself, mostly with its
@@ -120,7 +120,7 @@ fn made(rng: &mut Rng, lending: &Source) -> Source {
             large(rng)
         } else {
             let alphabet = alphabet(rng);
-            grammars::grammar(rng, &alphabet)
+            grammars::grammar(rng, Reading::By2017, &alphabet)
         };
         with_rules(rng, &mut made.grammar, lending.names.len());
         if rng.chance(5) {

@@ -1,8 +1,9 @@
-//! The program over the four parts, as a function from its two inputs to its line.
+//! The program over the four parts, as a function from its two inputs to its line. It
+//! runs by 2017.
 
 use super::{
-    check, read, run, run_within, scan, FileRead, Ran, Start, Verdict, MOST_NODES, MOST_RULES,
-    MOST_TOKENS,
+    check, read, run, run_within, scan, FileRead, Ran, Reading, Start, Verdict, MOST_NODES,
+    MOST_RULES, MOST_TOKENS,
 };
 
 /// The program's line for a grammar file and a report, with its line break.
@@ -10,7 +11,13 @@ pub fn line(file: &[u8], report: &[u8]) -> Vec<u8> {
     match parts(file, report) {
         Ok((grammar, tokens)) => {
             let start = Start::from_first(grammar.start, grammar.mode);
-            line_of(&run(&grammar.nodes, &grammar.rules, &tokens, &start))
+            line_of(&run(
+                &grammar.nodes,
+                &grammar.rules,
+                &tokens,
+                Reading::By2017,
+                &start,
+            ))
         }
         Err(refused) => line_of(&refused),
     }
@@ -21,7 +28,14 @@ pub fn line_within(file: &[u8], report: &[u8], steps: u64) -> Option<Vec<u8>> {
     match parts(file, report) {
         Ok((grammar, tokens)) => {
             let start = Start::from_first(grammar.start, grammar.mode);
-            let ran = run_within(&grammar.nodes, &grammar.rules, &tokens, &start, steps)?;
+            let ran = run_within(
+                &grammar.nodes,
+                &grammar.rules,
+                &tokens,
+                Reading::By2017,
+                &start,
+                steps,
+            )?;
             Some(line_of(&ran))
         }
         Err(refused) => Some(line_of(&refused)),

@@ -1,7 +1,7 @@
 //! The run that lists its captures, 02 Note 2: the interpreter's walk, and number 13.
 
 use super::run::{run_metered, Lister, Meter, Steps, Unmetered};
-use super::{Ran, Start};
+use super::{Ran, Reading, Start};
 
 /// What a run that lists answers.
 #[derive(Debug, Clone, Copy, PartialEq, Eq)]
@@ -16,7 +16,7 @@ pub enum Listed {
         captures: u32,
     },
     Failure,
-    /// 3, 4, 5, 11, 12 or 13.
+    /// 3, 4, 5, 11, 12, 13 or 16; 16 comes before 13.
     Refused(u8),
     /// 7, with the lowest node that is not well formed.
     IllFormed(u16),
@@ -30,10 +30,11 @@ pub fn list(
     nodes: &[u16],
     rules: &[u16],
     tokens: &[u32],
+    reading: Reading,
     start: &Start,
     captures: &mut [u32],
 ) -> Listed {
-    match list_metered(nodes, rules, tokens, start, captures, Unmetered) {
+    match list_metered(nodes, rules, tokens, reading, start, captures, Unmetered) {
         Ok(listed) => listed,
         Err(never) => match never {},
     }
@@ -45,17 +46,19 @@ pub fn list_within(
     nodes: &[u16],
     rules: &[u16],
     tokens: &[u32],
+    reading: Reading,
     start: &Start,
     captures: &mut [u32],
     steps: u64,
 ) -> Option<Listed> {
-    list_metered(nodes, rules, tokens, start, captures, Steps(steps)).ok()
+    list_metered(nodes, rules, tokens, reading, start, captures, Steps(steps)).ok()
 }
 
 fn list_metered<M: Meter>(
     nodes: &[u16],
     rules: &[u16],
     tokens: &[u32],
+    reading: Reading,
     start: &Start,
     captures: &mut [u32],
     meter: M,
@@ -66,8 +69,8 @@ fn list_metered<M: Meter>(
         count: 0,
         open: Vec::new(),
     };
-    let listed = match run_metered(nodes, rules, tokens, start, meter, &mut found)? {
-        // Check 13: "fewer capture places than the list needs".
+    let listed = match run_metered(nodes, rules, tokens, reading, start, meter, &mut found)? {
+        // Check 13: "fewer capture places than the list needs", after all the others.
         Ran::Success { .. } if found.count > found.room => return Ok(Listed::Refused(13)),
         Ran::Success {
             read,

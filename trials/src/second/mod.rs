@@ -1,16 +1,19 @@
 //! The indentation grammar reader, written from document 01, which orders the work,
-//! Notes 1 to 4 of 02, and the papers alone. 001 below is Nestra 2017.
+//! Notes 1 to 5 of 02, and the papers alone. 001 below is Nestra 2017, 000 is Adams
+//! and Ağacan 2014.
 //!
 //! Four parts: the file reader (`read`), the scanner (`scan`, `next_token`), the
 //! check (`check`) and the interpreter (`run`); `line` is the program over them.
 //! `list` is the run that also lists its captures, `shown` and `text` give the text
 //! shown for a capture. `write` writes the grammar file of tables and a start. `sets`
-//! holds the same clauses over sets of natural numbers.
+//! holds the same clauses over sets of natural numbers. Every run names its `Reading`.
 
 mod check;
 mod file;
 mod line;
 mod list;
+#[cfg(test)]
+mod readings;
 pub(crate) mod run;
 mod scan;
 pub mod sets;
@@ -21,7 +24,7 @@ pub use check::{check, Verdict};
 pub use file::{read, FileRead};
 pub use line::{line, line_of, line_within};
 pub use list::{list, list_within, Listed};
-pub use run::{run, run_within, Ran, Start};
+pub use run::{run, run_within, Ran, Reading, Start};
 pub use scan::{next_token, scan, Handed, Value};
 pub use shown::{shown, text, Shown};
 pub use write::write;

@@ -1,9 +1,21 @@
 //! The interpreter, with two ends for the column interval: 01 "Columns and states",
-//! the steps of 02 Note 1, and the ten clauses of 001. A run may list its captures,
-//! which is `list`'s; the walk is the same.
+//! the steps of 02 Note 1, and the ten clauses of 001, or of 02 Note 5 where a run
+//! names the 2014 reading. A run may list its captures, which is `list`'s; the walk is
+//! the same.
 
 use super::{check, kind, relation, Verdict, MOST_COLUMN, MOST_TOKENS};
 use std::convert::Infallible;
+
+/// The rules by which a run reads, 02 Note 5: "A run may name that reading".
+#[derive(Debug, Clone, Copy, PartialEq, Eq)]
+pub enum Reading {
+    /// Those of 001.
+    By2017,
+    /// Those of 000, figure 6: "under a set flag an indent passes the interval through
+    /// unchanged both ways, and an align hands on the flag as its child left it; all
+    /// else is as before".
+    By2014,
+}
 
 /// "A start gives a node, a token place, an interval .."
 #[derive(Debug, Clone, Copy, PartialEq, Eq)]
@@ -42,7 +54,7 @@ pub enum Ran {
         flag: bool,
     },
     Failure,
-    /// 3, 4, 5, 11 or 12.
+    /// 3, 4, 5, 11, 12 or 16.
     Refused(u8),
     /// 7, with the lowest node that is not well formed.
     IllFormed(u16),
@@ -50,8 +62,8 @@ pub enum Ran {
 
 /// Runs the start on the tokens. The recursion may be some millions of calls deep:
 /// the caller lends the stack.
-pub fn run(nodes: &[u16], rules: &[u16], tokens: &[u32], start: &Start) -> Ran {
-    match run_metered(nodes, rules, tokens, start, Unmetered, Unlisted) {
+pub fn run(nodes: &[u16], rules: &[u16], tokens: &[u32], reading: Reading, start: &Start) -> Ran {
+    match run_metered(nodes, rules, tokens, reading, start, Unmetered, Unlisted) {
         Ok(ran) => ran,
         Err(never) => match never {},
     }
@@ -62,17 +74,19 @@ pub fn run_within(
     nodes: &[u16],
     rules: &[u16],
     tokens: &[u32],
+    reading: Reading,
     start: &Start,
     steps: u64,
 ) -> Option<Ran> {
-    run_metered(nodes, rules, tokens, start, Steps(steps), Unlisted).ok()
+    run_metered(nodes, rules, tokens, reading, start, Steps(steps), Unlisted).ok()
 }
 
-/// Checks 3, 4, 5, 7, 11 and 12, in this order.
+/// Checks 3, 4, 5, 7, 11, 12 and 16, in this order.
 pub(super) fn refusal(
     nodes: &[u16],
     rules: &[u16],
     tokens: &[u32],
+    reading: Reading,
     start: &Start,
 ) -> Result<(), Ran> {
     match check::check(nodes, rules) {
@@ -90,6 +104,13 @@ pub(super) fn refusal(
         || start.mode >= relation::COUNT
     {
         return Err(Ran::Refused(12));
+    }
+    // Check 16: "under 2014 a position node anywhere in the table or a mode ..".
+    let (table, _) = nodes.as_chunks::<4>();
+    if reading == Reading::By2014
+        && (table.iter().any(|&[kind, ..]| kind == kind::POSITION) || start.mode != relation::EQUAL)
+    {
+        return Err(Ran::Refused(16));
     }
     Ok(())
 }
@@ -112,11 +133,12 @@ pub(super) fn run_metered<M: Meter, L: Lister>(
     nodes: &[u16],
     rules: &[u16],
     tokens: &[u32],
+    reading: Reading,
     start: &Start,
     meter: M,
     lister: L,
 ) -> Result<Ran, M::Stop> {
-    if let Err(refused) = refusal(nodes, rules, tokens, start) {
+    if let Err(refused) = refusal(nodes, rules, tokens, reading, start) {
         return Ok(refused);
     }
     let begin = State {
@@ -132,6 +154,7 @@ pub(super) fn run_metered<M: Meter, L: Lister>(
         nodes: nodes.as_chunks().0,
         rules,
         tokens: tokens.as_chunks().0,
+        reading,
         state: begin,
         meter,
         lister,
@@ -205,8 +228,9 @@ impl Lister for Unlisted {
 }
 
 /// "a lower column and an upper end ..", `None` if without end. It is never empty
-/// (001, theorem 2.1). An end rises by at most 31 an indent, and at most 512 * 4,097
-/// expressions lie around one another, so an end is at most 65,535 + 31 * 512 * 4,097.
+/// (001, theorem 2.1; by 2014 too, where an indent does as in 001 or leaves it alone).
+/// An end rises by at most 31 an indent, and at most 512 * 4,097 expressions lie around
+/// one another, so an end is at most 65,535 + 31 * 512 * 4,097.
 #[derive(Debug, Clone, Copy, PartialEq, Eq)]
 pub(crate) struct Interval {
     pub lower: u32,
@@ -304,12 +328,13 @@ impl State {
     }
 }
 
-/// The tables, and the state reached. The state is held here and not handed from call
-/// to call, which keeps the calls small on the stack.
+/// The tables, the reading, and the state reached. The state is held here and not
+/// handed from call to call, which keeps the calls small on the stack.
 struct Reader<'t, M, L> {
     nodes: &'t [[u16; 4]],
     rules: &'t [u16],
     tokens: &'t [[u32; 4]],
+    reading: Reading,
     state: State,
     meter: M,
     lister: L,
@@ -392,7 +417,10 @@ impl<M: Meter, L: Lister> Reader<'_, M, L> {
                         return Ok(true);
                     }
                 },
-                // Clause 8, under a set flag too.
+                // By 2014, "under a set flag": the interval goes "through unchanged
+                // both ways", so the child's outcome is the indent's.
+                kind::INDENT if self.reading == Reading::By2014 && self.state.flag => node = a,
+                // Clause 8, by 2017 under a set flag too.
                 kind::INDENT => {
                     let old = self.state.interval;
                     self.state.interval = old.inner(relation);
@@ -405,6 +433,11 @@ impl<M: Meter, L: Lister> Reader<'_, M, L> {
                 // Clause 9.
                 kind::POSITION => {
                     mode = relation;
+                    node = a;
+                }
+                // By 2014 an align "hands on the flag as its child left it".
+                kind::ALIGN if self.reading == Reading::By2014 => {
+                    self.state.flag = true;
                     node = a;
                 }
                 // Clause 10: "set exactly if .. both before and at the inner end".

@@ -1,8 +1,9 @@
 //! 01 "The clauses over sets": the ten clauses with a set of natural numbers in the
-//! state, and nothing of the two ends; and the captures that "the clauses' own
+//! state, and nothing of the two ends; the two by which the 2014 reading differs, 02
+//! Note 5: "sets under its own clauses"; and the captures that "the clauses' own
 //! derivation gives", 02 Note 2.
 
-use super::{kind, relation, run::refusal, Ran, Start};
+use super::{kind, relation, run::refusal, Ran, Reading, Start};
 
 /// What a run over sets answers.
 #[derive(Debug, Clone, PartialEq, Eq)]
@@ -13,7 +14,7 @@ pub enum SetRan {
         flag: bool,
     },
     Failure,
-    /// 3, 4, 5, 11 or 12.
+    /// 3, 4, 5, 11, 12 or 16.
     Refused(u8),
     /// 7, with the lowest node that is not well formed.
     IllFormed(u16),
@@ -158,6 +159,7 @@ struct Clauses<'t> {
     nodes: &'t [u16],
     rules: &'t [u16],
     tokens: &'t [u32],
+    reading: Reading,
     steps_left: u64,
     /// Those listed on the way to a state are its first `listed`; what stands behind is
     /// of a derivation given up. `None` if the run lists none.
@@ -167,9 +169,15 @@ struct Clauses<'t> {
 }
 
 /// Runs the clauses over sets; the caller lends the stack.
-pub fn run(nodes: &[u16], rules: &[u16], tokens: &[u32], start: &Start) -> SetRan {
+pub fn run(
+    nodes: &[u16],
+    rules: &[u16],
+    tokens: &[u32],
+    reading: Reading,
+    start: &Start,
+) -> SetRan {
     // So many steps are never taken in the lifetime of a machine.
-    run_within(nodes, rules, tokens, start, u64::MAX).expect("the steps do not run out")
+    run_within(nodes, rules, tokens, reading, start, u64::MAX).expect("the steps do not run out")
 }
 
 /// As `run`, but `None` once more than `steps` expressions were entered.
@@ -177,10 +185,11 @@ pub fn run_within(
     nodes: &[u16],
     rules: &[u16],
     tokens: &[u32],
+    reading: Reading,
     start: &Start,
     steps: u64,
 ) -> Option<SetRan> {
-    let (ran, _) = listed_within(nodes, rules, tokens, start, steps, None)?;
+    let (ran, _) = listed_within(nodes, rules, tokens, reading, start, steps, None)?;
     Some(ran)
 }
 
@@ -190,21 +199,31 @@ pub fn list_within(
     nodes: &[u16],
     rules: &[u16],
     tokens: &[u32],
+    reading: Reading,
     start: &Start,
     steps: u64,
 ) -> Option<(SetRan, Vec<[u32; 4]>)> {
-    listed_within(nodes, rules, tokens, start, steps, Some(Vec::new()))
+    listed_within(
+        nodes,
+        rules,
+        tokens,
+        reading,
+        start,
+        steps,
+        Some(Vec::new()),
+    )
 }
 
 fn listed_within(
     nodes: &[u16],
     rules: &[u16],
     tokens: &[u32],
+    reading: Reading,
     start: &Start,
     steps: u64,
     captures: Option<Vec<[u32; 4]>>,
 ) -> Option<(SetRan, Vec<[u32; 4]>)> {
-    match refusal(nodes, rules, tokens, start) {
+    match refusal(nodes, rules, tokens, reading, start) {
         Err(Ran::IllFormed(node)) => return Some((SetRan::IllFormed(node), Vec::new())),
         Err(Ran::Refused(number)) => return Some((SetRan::Refused(number), Vec::new())),
         _ => {}
@@ -213,6 +232,7 @@ fn listed_within(
         nodes,
         rules,
         tokens,
+        reading,
         steps_left: steps,
         captures,
         around: 0,
@@ -333,8 +353,12 @@ impl Clauses<'_> {
         Ok(end)
     }
 
-    /// "the child gets the inner set of S; after its success .."
+    /// "the child gets the inner set of S; after its success .." By 2014 "under a set
+    /// flag" the child gets S, and what it leaves stands.
     fn indent(&mut self, child: u16, relation: u16, mode: u16, state: State) -> Outcome {
+        if self.reading == Reading::By2014 && state.flag {
+            return self.expression(child, mode, state);
+        }
         let inside = State {
             set: state.set.inner(relation),
             ..state
@@ -346,7 +370,8 @@ impl Clauses<'_> {
         }))
     }
 
-    /// "Align sets the flag inside; after success it is set .."
+    /// "Align sets the flag inside; after success it is set .." By 2014 it "hands on the
+    /// flag as its child left it".
     fn align(&mut self, child: u16, mode: u16, state: State) -> Outcome {
         let before = state.flag;
         let inside = State {
@@ -355,7 +380,10 @@ impl Clauses<'_> {
         };
         let end = self.expression(child, mode, inside)?;
         Ok(end.map(|end| State {
-            flag: before && end.flag,
+            flag: match self.reading {
+                Reading::By2017 => before && end.flag,
+                Reading::By2014 => end.flag,
+            },
             ..end
         }))
     }

@@ -1,26 +1,62 @@
 -- `interpreter::list` meets its contract.
 use borrow.Author.Needs.{needs}
+use native.Mathlib.Omega.{arith}
+use Rattle.interpreter.proofs.RunLaws.{told, run-refused, run-named, shown, success-onward}
+use Rattle.interpreter.proofs.RunLaws.{list-refused, list-named, list-13, list-failure, list-success}
 use Rattle.interpreter.proofs.list.Statement.{statement}
 use Rattle.interpreter.proofs.list.Tie as tie
-use mathlib.Core.Path.{subst}
-use Rattle.interpreter.specs.InternalRun.{Admits}
-use Rattle.interpreter.proofs.RunLaws.{list-refused, list-named}
-
-begin-list-requires : tie.Need-begin-list-requires
-begin-list-requires c κs = subst (Admits _ _ _ _) (c .before .enum-told .given .1) (c .before .before .before .admitted .ensures)
 
 returns : tie.Need-returns
 returns c =
-    let x = list-refused _ _ _ _ _ (subst (Admits _ _ _ _) (c .before .number .given .1) (c .before .before .before .admitted .ensures)) in
+    let start = c .before .before .before .before .before .before .before .before .before .before .before .before in
+    let x =
+    list-13 (start .args .reading) (start .args .nodes .now) (start .args .rules .now) (start .args .tokens .now) (start .args .start)
+    (start .args .captures .now) (c .before .before .before .before .before .before .from-start .ensures .1) (start .good .1 .1 .1 .1 .1 .0 .0) (c .before .before .before .before .before .before .from-start .kept .1 .1 .1 .1 .1 .0)
+    (shown _ _ _ _ _ (told _ _ _ _ _ (c .before .before .w3 .given .1) (c .before .before .before .before .before .before .from-start .ensures .0))) (omega (arith, c .if1 .taken)) in
     (x .0, (x .1, tt))
+
+sub-read : tie.Need-sub-read
+sub-read c =
+    let start = c .before .before .before .before .before .before .before .before .before .before .before .before .before .before in
+    omega (
+      arith,
+      success-onward (start .args .reading) (start .args .nodes .now) (start .args .rules .now) (start .args .tokens .now) (start .args .start)
+          (c .before .before .before .before .w3 .given .0 .0) (shown _ _ _ _ _ (told _ _ _ _ _ (c .before .before .before .before .w3 .given .1) (c .before .before .before .before .before .before .before .before .from-start .ensures .0))),
+    )
 
 returns-2 : tie.Need-returns-2
 returns-2 c =
-    let x = list-named _ _ _ _ _ (subst (Admits _ _ _ _) (c .before .node .given .1) (c .before .before .before .admitted .ensures)) in
+    let start = c .before .before .before .before .before .before .before .before .before .before .before in
+    let x =
+    list-refused (start .args .reading) (start .args .nodes .now) (start .args .rules .now) (start .args .tokens .now) (start .args .start)
+    (start .args .captures .now) (c .before .before .before .before .before .from-start .ensures .1) (run-refused _ _ _ _ _ (told _ _ _ _ _ (c .before .w .given .1) (c .before .before .before .before .before .from-start .ensures .0))) in
     (x .0, (x .1, tt))
+
+returns-3 : tie.Need-returns-3
+returns-3 c =
+    let start = c .before .before .before .before .before .before .before .before .before .before .before in
+    let x =
+    list-named (start .args .reading) (start .args .nodes .now) (start .args .rules .now) (start .args .tokens .now) (start .args .start)
+    (start .args .captures .now) (c .before .before .before .before .before .from-start .ensures .1) (run-named _ _ _ _ _ (told _ _ _ _ _ (c .before .w2 .given .1) (c .before .before .before .before .before .from-start .ensures .0))) in
+    (x .0, (x .1, tt))
+
+returns-4 : tie.Need-returns-4
+returns-4 c =
+    let start = c .before .before .before .before .before .before .before .before .before .before in
+    list-failure (start .args .reading) (start .args .nodes .now) (start .args .rules .now) (start .args .tokens .now) (start .args .start)
+    (start .args .captures .now) (c .before .before .before .before .from-start .ensures .1) (start .good .1 .1 .1 .1 .1 .0 .0) (c .before .before .before .before .from-start .kept .1 .1 .1 .1 .1 .0)
+    (shown _ _ _ _ _ (told _ _ _ _ _ (c .enum-told .given .1) (c .before .before .before .before .from-start .ensures .0)))
+
+returns-5 : tie.Need-returns-5
+returns-5 c =
+    let start = c .before .before .before .before .before .before .before .before .before .before .before .before .before .before in
+    list-success (start .args .reading) (start .args .nodes .now) (start .args .rules .now) (start .args .tokens .now) (start .args .start)
+    (start .args .captures .now) (c .before .before .before .before .before .before .before .before .from-start .ensures .1) (start .good .1 .1 .1 .1 .1 .0 .0) (c .before .before .before .before .before .before .before .before .from-start .kept .1 .1 .1 .1 .1 .0)
+    (c .before .before .before .before .w3 .given .0 .0) (shown _ _ _ _ _ (told _ _ _ _ _ (c .before .before .before .before .w3 .given .1) (c .before .before .before .before .before .before .before .before .from-start .ensures .0))) (omega (arith, c .before .before .if1 .left))
 
 pub list-spec : {M : Type 1} → statement M
 list-spec =
     tie.close
-    (tie.spec (λ c κs. tt) (λ c. search needs) (λ c. search needs) (λ c. search needs) begin-list-requires returns
-    returns-2 (λ c. search needs) (λ c. search needs))
+    (tie.spec (λ c κs. search needs) (λ c. search needs) (λ c. search needs) (λ c. search needs) (λ c. search needs)
+    (λ c. search needs) returns sub-read (λ c. search needs) returns-2 (λ c. search needs) returns-3 (λ c. search needs)
+    returns-4 (λ c. search needs) returns-5)

@@ -1,21 +1,39 @@
 -- `interpreter::run` meets its contract.
 use borrow.Author.Needs.{needs}
+use native.Mathlib.Omega.{arith}
+use Rattle.interpreter.proofs.RunLaws.{told, run-refused, run-named, shown, answer-failure, success-onward, answer-success}
 use Rattle.interpreter.proofs.run.Statement.{statement}
 use Rattle.interpreter.proofs.run.Tie as tie
-use mathlib.Core.Path.{subst}
-use Rattle.interpreter.specs.InternalRun.{Admits}
 
-begin-requires : tie.Need-begin-requires
-begin-requires c κs = subst (Admits _ _ _ _) (c .enum-told .given .1) (c .before .before .admitted .ensures)
+sub-read : tie.Need-sub-read
+sub-read c =
+    let start = c .before .before .before .before .before .before .before .before .before .before .before in
+    omega (
+      arith,
+      success-onward (start .args .reading) (start .args .nodes .now) (start .args .rules .now) (start .args .tokens .now) (start .args .start)
+          (c .before .before .before .w3 .given .0 .0) (shown _ _ _ _ _ (told _ _ _ _ _ (c .before .before .before .w3 .given .1) (c .before .before .before .before .before .before .from-start .ensures .0))),
+    )
 
 returns : tie.Need-returns
-returns c = (subst (Admits _ _ _ _) (c .before .number .given .1) (c .before .before .before .admitted .ensures), tt)
+returns c = (run-refused _ _ _ _ _ (told _ _ _ _ _ (c .before .w .given .1) (c .before .before .before .before .from-start .ensures .0)), tt)
 
 returns-2 : tie.Need-returns-2
-returns-2 c = (subst (Admits _ _ _ _) (c .before .node .given .1) (c .before .before .before .admitted .ensures), tt)
+returns-2 c = (run-named _ _ _ _ _ (told _ _ _ _ _ (c .before .w2 .given .1) (c .before .before .before .before .from-start .ensures .0)), tt)
+
+returns-3 : tie.Need-returns-3
+returns-3 c =
+    let start = c .before .before .before .before .before .before .before .before in
+    answer-failure (start .args .reading) (start .args .nodes .now) (start .args .rules .now) (start .args .tokens .now) (start .args .start)
+    (shown _ _ _ _ _ (told _ _ _ _ _ (c .enum-told .given .1) (c .before .before .before .from-start .ensures .0)))
+
+returns-4 : tie.Need-returns-4
+returns-4 c =
+    let start = c .before .before .before .before .before .before .before .before .before .before .before in
+    answer-success (start .args .reading) (start .args .nodes .now) (start .args .rules .now) (start .args .tokens .now) (start .args .start)
+    (c .before .before .before .w3 .given .0 .0) (shown _ _ _ _ _ (told _ _ _ _ _ (c .before .before .before .w3 .given .1) (c .before .before .before .before .before .before .from-start .ensures .0)))
 
 pub run-spec : {M : Type 1} → statement M
 run-spec =
     tie.close
-    (tie.spec (λ c κs. tt) (λ c. search needs) (λ c. search needs) (λ c. search needs) begin-requires returns
-    returns-2 (λ c. c .begin .ensures))
+    (tie.spec (λ c. search needs) (λ c κs. search needs) (λ c. search needs) (λ c. search needs) (λ c. search needs)
+    (λ c. search needs) sub-read returns returns-2 returns-3 returns-4)

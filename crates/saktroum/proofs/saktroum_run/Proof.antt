@@ -3,23 +3,17 @@ use borrow.Author.Needs.{needs}
 use Rattle.saktroum.proofs.saktroum_run.Statement.{statement}
 use Rattle.saktroum.proofs.saktroum_run.Tie as tie
 
-start-from-requires : tie.Need-start-from-requires
-start-from-requires c κs = search needs
-
-run-requires : tie.Need-run-requires
-run-requires c κs = search needs
-
-report-requires : tie.Need-report-requires
-report-requires c κs = search needs
-
 returns : tie.Need-returns
 returns c =
     let at-run = c .before .before in
-    let start = at-run .before .start-from .result in
-    let begun = at-run .before .start-from .ensures in
+    let named = at-run .before .reading .ensures in
+    let start = at-run .before .before .start-from .result in
+    let begun = at-run .before .before .start-from .ensures in
     let answered = at-run .run .ensures .0 in
     let handed = c .report .ensures in
-    (rw (answered, begun) at (handed .0 (start .place)), rw (answered, begun) at (handed .1 (start .place)))
+    (rw (answered, begun, named) at (handed .0 (start .place)), rw (answered, begun, named) at (handed .1 (start .place)))
 
 pub saktroum-run-spec : {M : Type 1} → statement M
-saktroum-run-spec = tie.close (tie.spec start-from-requires run-requires report-requires returns)
+saktroum-run-spec =
+    tie.close
+    (tie.spec (λ c κs. search needs) (λ c κs. search needs) (λ c κs. search needs) (λ c κs. search needs) returns)

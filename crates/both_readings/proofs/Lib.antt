@@ -1,0 +1,4 @@
+pub mod SameRuns
+pub mod SameAnswers
+pub mod HeldForms
+pub mod AlikeCasesHold

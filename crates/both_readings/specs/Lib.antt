@@ -1,0 +1,2 @@
+pub mod BothReadings
+pub mod AlikeCases

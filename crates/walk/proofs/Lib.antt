@@ -1,0 +1,4 @@
+pub mod LeafLaws
+pub mod HighLaws
+pub mod WalkLaws
+pub mod RunLaws

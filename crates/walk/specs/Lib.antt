@@ -1,0 +1,3 @@
+pub mod WalkAnswer
+pub mod InternalWalk
+pub mod InternalRun
