@@ -1,11 +1,11 @@
--- The state after an indent and after an align, by a reading: s is the state before it, u the one that its child ended in.
+-- The state after an indent and after an align: s is the state before it, u the one that its child ended in.
 use Prim.Native.Nat.{ℕ}
-use mathlib.Core.Bool.{Bool, cond}
+use mathlib.Core.Bool.{Bool}
 use Rattle.columns.specs.Intervals.{outerEnds, meetEnds}
 use Rattle.columns.specs.declared.Interval.{Interval}
 use Rattle.columns.specs.declared.State.{State}
 use Rattle.columns.specs.declared.Reading.{Reading}
-use Rattle.clauses.specs.Clauses.{counts, handedOn}
+use Rattle.clauses.specs.Clauses.{handedOn}
 
 -- A state with another interval.
 abbrev pub withInterval : State → Interval → State
@@ -15,10 +15,9 @@ withInterval s c = record { place = s .place; interval = c; flag = s .flag }
 abbrev pub withFlag : State → Bool → State
 withFlag s b = record { place = s .place; interval = s .interval; flag = b }
 
--- Clause 8, success: where indentation counts, the old interval met with the outer set, by relation r, of the child's.
-abbrev pub leftState : Reading → ℕ → State → State → State
-leftState reading r s u =
-    cond (counts reading (s .flag)) (withInterval u (meetEnds (s .interval) (outerEnds r (u .interval)))) u
+-- Clause 8, success: the old interval met with the outer set, by relation r, of the child's.
+abbrev pub leftState : ℕ → State → State → State
+leftState r s u = withInterval u (meetEnds (s .interval) (outerEnds r (u .interval)))
 
 -- Clause 10, success: the flag that the reading hands on.
 abbrev pub alignedState : Reading → State → State → State

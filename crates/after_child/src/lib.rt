@@ -1,20 +1,15 @@
-// The state after an indent and after an align, from the one before it and the one that its child ended in, by a reading.
+// The state after an indent and after an align, from the one before it and the one that its child ended in.
 use columns::State;
 use intervals::leave;
-use readings::counts;
 use readings::handed_on;
 ghost use mathlib.Core.Path.{_≡_};
 ghost use Rattle.readings.specs.Readings.{readingOf};
 ghost use Rattle.after_child.specs.AfterChild.{leftState, alignedState};
 
-// After an indent that counts: the old interval met with the outer set of the child's, the rest as the child left it. After
-// one that does not, all is as the child left it.
-pub fn left(by_2014: bool, r: u16, s: State, u: State) -> State
-    ensures { λ x. ⌜ x ≡ leftState (readingOf by_2014) r s u ⌝ }
+// After an indent: the old interval met with the outer set of the child's, the rest as the child left it.
+pub fn left(r: u16, s: State, u: State) -> State
+    ensures { λ x. ⌜ x ≡ leftState r s u ⌝ }
 {
-    if !counts(by_2014, s.flag) {
-        return u;
-    }
     let out = leave(r, s.interval, u.interval);
     State {
         place: u.place,

@@ -1,9 +1,10 @@
-// The reading of a run (02, Note 5), and what it decides: whether an indent counts, and the flag that an align hands on. A
-// walk has it as a flag, set for 2014, and so has the C interface.
+// The reading of a run (02, Note 5), and what it decides: the relation that an indent is walked by, and the flag that an
+// align hands on. A walk has it as a flag, set for 2014, and so has the C interface.
 use columns::Reading;
+use table::relations;
 ghost use mathlib.Core.Path.{_≡_};
-ghost use Rattle.clauses.specs.Clauses.{counts as indentCounts, handedOn};
-ghost use Rattle.readings.specs.Readings.{readingOf};
+ghost use Rattle.clauses.specs.Clauses.{handedOn};
+ghost use Rattle.readings.specs.Readings.{readingOf, inForce};
 
 // The reading that a flag names.
 pub fn reading(by_2014: bool) -> Reading
@@ -25,11 +26,15 @@ pub fn is_by_2014(reading: Reading) -> bool
     }
 }
 
-// Whether an indent counts, under the flag before it.
-pub fn counts(by_2014: bool, flag: bool) -> bool
-    ensures { λ r. ⌜ r ≡ indentCounts (readingOf by_2014) flag ⌝ }
+// The relation that an indent is walked by, under the flag before it: its own where it counts, else equal.
+pub fn in_force(by_2014: bool, flag: bool, r: u16) -> u16
+    ensures { λ x. ⌜ x ≡ inForce (readingOf by_2014) flag r ⌝ }
 {
-    if by_2014 { !flag } else { true }
+    if by_2014 {
+        if flag { relations::EQUAL } else { r }
+    } else {
+        r
+    }
 }
 
 // The flag that an align hands on, from the one before it and the one that its child left.

@@ -1,7 +1,7 @@
 -- What the walk's leaf functions show, over plain values.
 use Prim.Native.Nat.{ℕ, zero, suc, _+_, _*_, _/_, _%_, _≤_, _<_, _^_}
 use mathlib.Core.Path.{_≡_, refl}
-use mathlib.Core.Bool.{Bool, true, false}
+use mathlib.Core.Bool.{true}
 use mathlib.Core.List.{List}
 use lib.ListN.{length, getD}
 use native.Mathlib.Omega.{arith}
@@ -14,24 +14,19 @@ use Rattle.columns.specs.declared.Interval.{Interval}
 use Rattle.columns.specs.declared.State.{State}
 use Rattle.columns.specs.declared.Outcome.the-variants.{Failure}
 use Rattle.columns.specs.declared.Reading.{Reading}
-use Rattle.clauses.specs.Clauses.{counts}
+use Rattle.readings.specs.Readings.{inForce}
 use Rattle.after_child.specs.AfterChild.{withInterval, withFlag}
 use Rattle.walk.specs.InternalWalk.{childState, tokenOutcome, columnOutcome}
 
 -- The state of a first child.
 pub child-indent :
-    (reading : Reading) (q r : ℕ) (s : State) (c : Interval) {x : Bool}
+    (reading : Reading) (q r : ℕ) (s : State) (c : Interval) {ρ : ℕ}
     → q ≡ 7
-    → x ≡ counts reading (s .flag)
-    → x ≡ true
-    → c ≡ innerEnds r (s .interval)
+    → ρ ≡ inForce reading (s .flag) r
+    → c ≡ innerEnds ρ (s .interval)
     → withInterval s c ≡ childState reading q r s
 unfolding childState
-child-indent reading q r s c e f t d = rw (e, ← f, t, d) refl
-
-pub child-through : (reading : Reading) (q r : ℕ) (s : State) {x : Bool} → q ≡ 7 → x ≡ counts reading (s .flag) → x ≡ false → s ≡ childState reading q r s
-unfolding childState
-child-through reading q r s e f t = rw (e, ← f, t) refl
+child-indent reading q r s c e g d = rw (e, d, g) refl
 
 pub child-align : (reading : Reading) (q r : ℕ) (s : State) → q ≡ 9 → withFlag s true ≡ childState reading q r s
 unfolding childState

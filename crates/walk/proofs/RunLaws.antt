@@ -155,7 +155,7 @@ module _ (reading : Reading) (nodes rules words : List ℕ) (start : Start) wher
         let l = b .lower in
         let u = upper-in (start .interval .upper) (upper-right nodes words start (admitted .start-right)) in
         let w = weight-most nodes rules words (start .node) from checked (b .node) in
-        record { checked = checked; node = b .node; place = b .place; room = omega arith }
+        record { checked = checked; node = b .node; place = b .place; some = b .some; room = omega arith }
 
     pub begin-room : {l : List ℕ} → length l < 2 ^ 64 → Room (weight nodes rules words (start .node) from) (0 ∷ 0 ∷ []) l
     begin-room h =

@@ -14,9 +14,14 @@ use Rattle.table.specs.Form as table
 use Rattle.table.specs.Form.{Form, form, decode, kindOf, aOf, bOf, relationOf, nodeCount, standsFor}
 use Rattle.table.specs.InternalInside.{Inside}
 use Rattle.table.proofs.Inside.{inside-table, counts-inside, rule-there, relation-there}
-use Rattle.columns.specs.Intervals.{ends, innerEnds, outerEnds, meetEnds, afterToken}
+use Rattle.columns.specs.Relations.{equal}
+use Rattle.columns.specs.Lawful.{Some}
+use Rattle.columns.specs.Intervals.{ends, innerEnds, meetEnds, afterToken}
 use Rattle.columns.specs.InternalHighest.{highest}
 use Rattle.columns.proofs.HighestLaws.{rise-most, inner-high}
+use Rattle.columns.proofs.EndLaws.{ends-lawful, same-ends}
+use Rattle.columns.proofs.LawfulLaws.{inner-some}
+use Rattle.columns.specs.declared.Interval.{Interval}
 use Rattle.columns.specs.declared.State.{State}
 use Rattle.columns.specs.declared.Outcome.{Outcome}
 use Rattle.columns.specs.declared.Outcome.the-variants.{Success, Failure}
@@ -33,10 +38,11 @@ use Rattle.theorems.proofs.GiveLaws as give
 use Rattle.clauses.specs.Evaluation.{reads}
 use Rattle.clauses.specs.Limits.{tokensOf}
 use Rattle.clauses.proofs.Sound.{terminal-read, terminal-unread}
-use Rattle.theorems.proofs.Narrows.{onward, within}
+use Rattle.theorems.proofs.Narrows.{onward, within, narrows}
 use Rattle.theorems.proofs.ShownFacts.{shown, at-once}
 use Rattle.theorems.proofs.Existence.{outweighs}
 use Rattle.theorems.proofs.LimitLaws.{in-limits}
+use Rattle.readings.specs.Readings.{inForce}
 use Rattle.after_child.specs.AfterChild.{withInterval, leftState, alignedState}
 use Rattle.capture_list.specs.Put.{oneMore, putsBack, capturePut}
 use Rattle.capture_list.specs.InternalList.{aroundOf, soFar, Room, Lists, Leaves, lists, keeps}
@@ -51,6 +57,14 @@ formed : (nodes : List ℕ) (n q : ℕ) → kindOf nodes n ≡ q → form nodes 
 unfolding form
 formed nodes n q e = rw e refl
 
+-- The relation in force is one.
+in-force : (reading : Reading) (b : Bool) (r : ℕ) → r < relationCount → inForce reading b r < relationCount
+in-force reading b r l = by-counts (counts reading b)
+  where
+    by-counts : (c : Bool) → cond c r equal < relationCount
+    by-counts true = l
+    by-counts false = omega arith
+
 -- A first child's state is at the same place, with the ends higher by at most the largest amount.
 child-place : (reading : Reading) (q r : ℕ) (s : State) → childState reading q r s .place ≡ s .place
 unfolding childState
@@ -61,11 +75,7 @@ child-place reading (suc (suc (suc zero))) r s = refl
 child-place reading (suc (suc (suc (suc zero)))) r s = refl
 child-place reading (suc (suc (suc (suc (suc zero))))) r s = refl
 child-place reading (suc (suc (suc (suc (suc (suc zero)))))) r s = refl
-child-place reading (suc (suc (suc (suc (suc (suc (suc zero))))))) r s = by-counts (counts reading (s .flag))
-  where
-    by-counts : (c : Bool) → cond c (withInterval s (innerEnds r (s .interval))) s .place ≡ s .place
-    by-counts true = refl
-    by-counts false = refl
+child-place reading (suc (suc (suc (suc (suc (suc (suc zero))))))) r s = refl
 child-place reading (suc (suc (suc (suc (suc (suc (suc (suc zero)))))))) r s = refl
 child-place reading (suc (suc (suc (suc (suc (suc (suc (suc (suc zero))))))))) r s = refl
 child-place reading (suc (suc (suc (suc (suc (suc (suc (suc (suc (suc q)))))))))) r s = refl
@@ -79,14 +89,30 @@ child-high reading (suc (suc (suc zero))) r s l = omega arith
 child-high reading (suc (suc (suc (suc zero)))) r s l = omega arith
 child-high reading (suc (suc (suc (suc (suc zero))))) r s l = omega arith
 child-high reading (suc (suc (suc (suc (suc (suc zero)))))) r s l = omega arith
-child-high reading (suc (suc (suc (suc (suc (suc (suc zero))))))) r s l = by-counts (counts reading (s .flag))
-  where
-    by-counts : (c : Bool) → highest (cond c (withInterval s (innerEnds r (s .interval))) s .interval) ≤ highest (s .interval) + mostAmount
-    by-counts true = let h = inner-high r (s .interval) in let m = rise-most r in omega arith
-    by-counts false = omega arith
+child-high reading (suc (suc (suc (suc (suc (suc (suc zero))))))) r s l =
+    let ρ = inForce reading (s .flag) r in
+    let k = in-force reading (s .flag) r l in
+    let h = inner-high ρ (s .interval) in
+    let m = rise-most ρ in
+    omega arith
 child-high reading (suc (suc (suc (suc (suc (suc (suc (suc zero)))))))) r s l = omega arith
 child-high reading (suc (suc (suc (suc (suc (suc (suc (suc (suc zero))))))))) r s l = omega arith
 child-high reading (suc (suc (suc (suc (suc (suc (suc (suc (suc (suc q)))))))))) r s l = omega arith
+
+-- Its columns are not none.
+child-some : (reading : Reading) (q r : ℕ) (s : State) → Some ends (s .interval) → Some ends (childState reading q r s .interval)
+unfolding childState
+child-some reading zero r s h = h
+child-some reading (suc zero) r s h = h
+child-some reading (suc (suc zero)) r s h = h
+child-some reading (suc (suc (suc zero))) r s h = h
+child-some reading (suc (suc (suc (suc zero)))) r s h = h
+child-some reading (suc (suc (suc (suc (suc zero))))) r s h = h
+child-some reading (suc (suc (suc (suc (suc (suc zero)))))) r s h = h
+child-some reading (suc (suc (suc (suc (suc (suc (suc zero))))))) r s h = inner-some ends ends-lawful (inForce reading (s .flag) r) (s .interval) h
+child-some reading (suc (suc (suc (suc (suc (suc (suc (suc zero)))))))) r s h = h
+child-some reading (suc (suc (suc (suc (suc (suc (suc (suc (suc zero))))))))) r s h = h
+child-some reading (suc (suc (suc (suc (suc (suc (suc (suc (suc (suc q)))))))))) r s h = h
 
 -- A node whose kind is none of 0, 1, 2 and 8 enters a.
 enters-a :
@@ -142,22 +168,37 @@ module _ (reading : Reading) (nodes rules words : List ℕ) where
       → Gives reading nodes rules words τ f s o t
   made d = record { derived = d }
 
-  -- An indent, by what its child gave: where it counts, and where it does not.
+  -- An indent by the relation in force, by what its child gave: where it counts, and where it does not.
   indent-failed :
       {t : Trace} {τ a r : ℕ} {s : State} (c : Bool)
       → counts reading (s .flag) ≡ c
-      → Gives reading nodes rules words τ (form nodes a) (cond c (withInterval s (innerEnds r (s .interval))) s) Failure t
+      → Gives reading nodes rules words τ (form nodes a) (withInterval s (innerEnds (cond c r equal) (s .interval))) Failure t
       → Gives reading nodes rules words τ (table.indent a r) s Failure t
   indent-failed true e d = made (give.indent-fails e (d .derived))
   indent-failed false e d = made (give.indent-through e (d .derived))
 
+  -- By equal the columns that a child left pass through, as they lie in those that it was given.
+  through-read :
+      {t : Trace} {τ : ℕ} {f : Form} {s u : State}
+      → Some ends (s .interval)
+      → Gives reading nodes rules words τ f s (Success u) t
+      → u .interval ≡ meetEnds (s .interval) (u .interval)
+  through-read {s = s} {u = u} n d =
+      let h = narrows ends reading nodes rules (tokensOf words) ends-lawful n (d .derived .run) in
+      same-ends (u .interval) (meetEnds (s .interval) (u .interval)) (h .some)
+      (λ k m. ends-lawful .met (s .interval) (u .interval) k .1 (h .columns k m, m))
+      (λ k m. ends-lawful .met (s .interval) (u .interval) k .0 m .1)
+
   indent-read :
       {t : Trace} {τ a r : ℕ} {s u : State} (c : Bool)
+      → Some ends (s .interval)
       → counts reading (s .flag) ≡ c
-      → Gives reading nodes rules words τ (form nodes a) (cond c (withInterval s (innerEnds r (s .interval))) s) (Success u) t
-      → Gives reading nodes rules words τ (table.indent a r) s (Success (cond c (withInterval u (meetEnds (s .interval) (outerEnds r (u .interval)))) u)) t
-  indent-read true e d = made (give.indent e (d .derived))
-  indent-read false e d = made (give.indent-through e (d .derived))
+      → Gives reading nodes rules words τ (form nodes a) (withInterval s (innerEnds (cond c r equal) (s .interval))) (Success u) t
+      → Gives reading nodes rules words τ (table.indent a r) s (Success (leftState (cond c r equal) s u)) t
+  indent-read true n e d = made (give.indent e (d .derived))
+  indent-read {t} {τ} {a} {r} {s} {u} false n e d =
+      let x : Gives reading nodes rules words τ (table.indent a r) s (Success u) t = made (give.indent-through e (d .derived)) in
+      subst (λ (I : Interval). Gives reading nodes rules words τ (table.indent a r) s (Success (withInterval u I)) t) (through-read n d) x
 
   -- Where what is walked first failed, so do a terminal, a sequence, an indent and an align.
   failed :
@@ -232,9 +273,10 @@ module _ (nodes rules words : List ℕ) where
         → (u : State)
         → u .place ≡ s .place
         → highest (u .interval) ≤ highest (s .interval) + mostAmount
+        → Some ends (u .interval)
         → Lighter (weight nodes rules words n s) c u
     unfolding weight
-    entered c i enter u p l =
+    entered c i enter u p l some =
         let q = rank-falls nodes rules (h .checked .table) (h .checked .well) n c (h .node) enter in
         let b = h .place in
         let m = h .room in
@@ -244,7 +286,7 @@ module _ (nodes rules words : List ℕ) where
         rw p (omega arith) in
         record {
           less = less;
-          ready = record { checked = h .checked; node = i; place = omega arith; room = omega arith };
+          ready = record { checked = h .checked; node = i; place = omega arith; some = some; room = omega arith };
         }
 
     -- A child that is entered after a success of another, at the same place or after a token, weighs less.
@@ -277,7 +319,12 @@ module _ (nodes rules words : List ℕ) where
         let w = weight-most c u (h .checked) i in
         let m = h .room in
         let l = lighter a c τ u i d q in
-        record { less = l; ready = record { checked = h .checked; node = i; place = within ends reading nodes rules (tokensOf words) (h .place) (d .derived .run); room = omega arith } }
+        let some = narrows ends reading nodes rules (tokensOf words) ends-lawful (h .some) (d .derived .run) .some in
+        record {
+          less = l;
+          ready =
+              record { checked = h .checked; node = i; place = within ends reading nodes rules (tokensOf words) (h .place) (d .derived .run); some = some; room = omega arith };
+        }
 
 -- A node's four words, and the tokens' words, are there.
 module _ {nodes rules words : List ℕ} {n : ℕ} {s : State} (h : Ready nodes rules words n s) where
@@ -373,7 +420,7 @@ module _ {reading : Reading} {nodes rules words : List ℕ} {τ₀ n₀ : ℕ} {
     rule-next : Lighter nodes rules words (weight nodes rules words n s) (standsFor rules a) i
     rule-next =
         rw e
-        (entered nodes rules words n s (h .ready) (standsFor rules a) (inside 2 p) (enters 2 (standsFor rules a) p enters-rule) s refl (omega arith))
+        (entered nodes rules words n s (h .ready) (standsFor rules a) (inside 2 p) (enters 2 (standsFor rules a) p enters-rule) s refl (omega arith) (h .ready .some))
 
     pub rule-less : {T : ℕ} → 2 * weight nodes rules words n₀ s₀ + 1 ≡ T → 2 * weight nodes rules words (standsFor rules a) i + 2 < T
     rule-less q = let l = rule-next .less in let k = h .low in omega arith
@@ -389,7 +436,7 @@ module _ {reading : Reading} {nodes rules words : List ℕ} {τ₀ n₀ : ℕ} {
 
   -- A position.
   position-next : kind ≡ 8 → Lighter nodes rules words (weight nodes rules words n s) a s
-  position-next p = entered nodes rules words n s (h .ready) a (inside 8 p) (enters 8 a p enters-position) s refl (omega arith)
+  position-next p = entered nodes rules words n s (h .ready) a (inside 8 p) (enters 8 a p enters-position) s refl (omega arith) (h .ready .some)
 
   pub position-less : kind ≡ 8 → weight nodes rules words a s < weight nodes rules words n s
   position-less p = position-next p .less
@@ -408,6 +455,7 @@ module _ {reading : Reading} {nodes rules words : List ℕ} {τ₀ n₀ : ℕ} {
     call h1 =
         let x = enters-a nodes rules (nodeCount nodes) kind a b r (inside kind refl) h0 h1 h2 h8 in
         entered nodes rules words n s (h .ready) a (x .0) (enters kind a refl (x .1)) (childState reading kind r s) (child-place reading kind r s) (child-high reading kind r s relation-in)
+        (child-some reading kind r s (h .ready .some))
 
     -- A terminal is walked in the state as it is.
     own : kind ≡ 1 → childState reading kind r s ≡ s
@@ -433,7 +481,7 @@ module _ {reading : Reading} {nodes rules words : List ℕ} {τ₀ n₀ : ℕ} {
         record {
           ready = by-kind (λ (m : ℕ). Ready nodes rules words m (childState reading kind r s)) (λ p. rw (own p) (h .ready)) (λ h1. call h1 .ready);
           terminal = λ p. by-kind (λ (m : ℕ). kindOf nodes m ≡ 1) (λ q. q) (λ h1. absurd (h1 p));
-          room = let m = h .ready .room in let l = relation-in in let n = rise-most r in omega arith;
+          room = let m = h .ready .room in let l = in-force reading (s .flag) r relation-in in let n = rise-most (inForce reading (s .flag) r) in omega arith;
         }
 
     pub call-room : Room (weight nodes rules words k (childState reading kind r s)) c l
@@ -475,7 +523,7 @@ module _ {reading : Reading} {nodes rules words : List ℕ} {τ₀ n₀ : ℕ} {
     -- The child failed.
     module _ (z : x ≡ Failure) where
       choice-next : kind ≡ 4 → Lighter nodes rules words (weight nodes rules words n s) b s
-      choice-next p = entered nodes rules words n s (h .ready) b (inside 4 p .1) (enters 4 b p enters-other) s refl (omega arith)
+      choice-next p = entered nodes rules words n s (h .ready) b (inside 4 p .1) (enters 4 b p enters-other) s refl (omega arith) (h .ready .some)
 
       pub choice-less : kind ≡ 4 → weight nodes rules words b s < weight nodes rules words n s
       choice-less p = choice-next p .less
@@ -585,12 +633,18 @@ module _ {reading : Reading} {nodes rules words : List ℕ} {τ₀ n₀ : ℕ} {
             left = then-left (h .room) (k .left) (g .left);
           })
 
-      indented : kind ≡ 7 → Here 7 (Success (leftState reading r s u)) c' l'
+      indented : kind ≡ 7 → Here 7 (Success (leftState (inForce reading (s .flag) r) s u)) c' l'
       unfolding childState
-      indented p = let k = gave 7 p z in record { shown = k .shown; gives = indent-read reading nodes rules words (counts reading (s .flag)) refl (k .gives); left = lists (k .left) }
+      indented p =
+          let k = gave 7 p z in
+          record {
+            shown = k .shown;
+            gives = indent-read reading nodes rules words (counts reading (s .flag)) (h .ready .some) refl (k .gives);
+            left = lists (k .left);
+          }
 
-      pub out-indent : kind ≡ 7 → {v : State} → v ≡ leftState reading r s u → Whole (Success v) c' l'
-      out-indent p {v} y = rw y (out (Success (leftState reading r s u)) 7 p (indented p))
+      pub out-indent : kind ≡ 7 → {ρ : ℕ} → ρ ≡ inForce reading (s .flag) r → {v : State} → v ≡ leftState ρ s u → Whole (Success v) c' l'
+      out-indent p g {v} y = rw (y, g) (out (Success (leftState (inForce reading (s .flag) r) s u)) 7 p (indented p))
 
       aligned : kind ≡ 9 → Here 9 (Success (alignedState reading s u)) c' l'
       unfolding childState

@@ -10,6 +10,7 @@ use Rattle.table.specs.Answer.{given}
 use Rattle.table.specs.Checks.{tableAnswer}
 use Rattle.table.specs.Form.{Form, rule, kindOf, nodeCount, standsFor}
 use Rattle.columns.specs.Relations.{amount}
+use Rattle.columns.specs.Lawful.{Some}
 use Rattle.columns.specs.Intervals.{ends, innerEnds, fits, afterToken}
 use Rattle.columns.specs.InternalHighest.{highest, rise}
 use Rattle.columns.specs.declared.Interval.{Interval}
@@ -20,11 +21,11 @@ use Rattle.columns.specs.declared.Reading.{Reading}
 use Rattle.well_formed.specs.WellFormed.{Passes}
 use Rattle.well_formed.specs.InternalRank.{rank}
 use Rattle.clauses.specs.Clauses as clauses
-use Rattle.clauses.specs.Clauses.{counts}
 use Rattle.clauses.specs.Trace as trace
 use Rattle.clauses.specs.Trace.{Trace, dropped}
 use Rattle.clauses.specs.Evaluation.{reads}
 use Rattle.clauses.specs.Limits.{tokensOf, fails11}
+use Rattle.readings.specs.Readings.{inForce}
 use Rattle.after_child.specs.AfterChild.{withInterval, withFlag}
 use Rattle.capture_list.specs.Put.{putsBack}
 use Rattle.capture_list.specs.InternalList.{Lists, Leaves}
@@ -47,7 +48,7 @@ childState reading (suc (suc (suc (suc zero)))) r s = s  -- 4 choice
 childState reading (suc (suc (suc (suc (suc zero))))) r s = s  -- 5 not
 childState reading (suc (suc (suc (suc (suc (suc zero)))))) r s = s  -- 6 repeat
 childState reading (suc (suc (suc (suc (suc (suc (suc zero))))))) r s =  -- 7 indent
-    cond (counts reading (s .flag)) (withInterval s (innerEnds r (s .interval))) s
+    withInterval s (innerEnds (inForce reading (s .flag) r) (s .interval))
 childState reading (suc (suc (suc (suc (suc (suc (suc (suc zero)))))))) r s = s  -- 8 position
 childState reading (suc (suc (suc (suc (suc (suc (suc (suc (suc zero))))))))) r s = withFlag s true  -- 9 align
 childState reading (suc (suc (suc (suc (suc (suc (suc (suc (suc (suc k)))))))))) r s = s  -- over 9
@@ -95,11 +96,13 @@ pub record Checked (nodes rules words : List ℕ) : Type 0 where
   pub well : Passes nodes rules
   pub tokens : fails11 words ≡ false
 
--- What the expression walk asks: a node and a place that are there, and room for both ends to rise.
+-- What the expression walk asks: a node and a place that are there, columns that are not none, and room for both ends to
+-- rise.
 pub record Ready (nodes rules words : List ℕ) (n : ℕ) (s : State) : Type 0 where
   pub checked : Checked nodes rules words
   pub node : n < nodeCount nodes
   pub place : s .place ≤ tokensOf words .count
+  pub some : Some ends (s .interval)
   pub room : highest (s .interval) + mostAmount * weight nodes rules words n s ≤ mostEnd
 
 -- The node that is walked first in a node n of a kind: a terminal's own, else its first child a.
@@ -110,7 +113,7 @@ firstNode q n a = cond (eqb q 1) n a
 pub record ReadyFirst (reading : Reading) (nodes rules words : List ℕ) (n q r : ℕ) (s : State) : Type 0 where
   pub ready : Ready nodes rules words n (childState reading q r s)
   pub terminal : q ≡ 1 → kindOf nodes n ≡ 1
-  pub room : highest (s .interval) + rise r < 2 ^ 32
+  pub room : highest (s .interval) + rise (inForce reading (s .flag) r) < 2 ^ 32
 
 -- What the rule walk asks.
 pub record ReadyRule (nodes rules words : List ℕ) (x : ℕ) (s : State) : Type 0 where

@@ -2,8 +2,9 @@
 // a node, as a sequence's second part or a repeat's next round, is the loop's next turn; the first child of every other form
 // is walked by one call, or by none if it is a terminal. So a nested call needs little of the stack.
 //
-// The reading is a flag, set for 2014. Captures go into a lent list. counts[0] is the number of captures around, counts[1] the
-// number so far: a failure may leave it too high, and the walk of a first child puts it back.
+// The reading is a flag, set for 2014: an indent that does not count by it is walked as one by equal. Captures go into a lent
+// list. counts[0] is the number of captures around, counts[1] the number so far: a failure may leave it too high, and the walk
+// of a first child puts it back.
 use crate::states::anew;
 use crate::states::entered;
 use crate::states::fresh;
@@ -16,6 +17,7 @@ use capture_list::puts_back;
 use columns::Capture;
 use columns::Outcome;
 use columns::State;
+use readings::in_force;
 use table::kinds;
 ghost use mathlib.Core.Path.{_≡_};
 ghost use Prim.Native.Nat.{_+_};
@@ -114,7 +116,8 @@ pub(crate) fn expression(
                                 s = u; // the next round
                             }
                             kinds::INDENT => {
-                                let v = left(by_2014, r, s, u);
+                                let q = in_force(by_2014, s.flag, r);
+                                let v = left(q, s, u);
                                 return Outcome::Success(v);
                             }
                             _ => {

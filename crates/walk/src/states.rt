@@ -6,29 +6,26 @@ use columns::Upper;
 use intervals::after_token;
 use intervals::amount;
 use intervals::fits;
-use readings::counts;
+use readings::in_force;
 use table::kinds;
 use table::relations;
 ghost use mathlib.Core.Path.{_≡_};
 ghost use Prim.Native.Nat.{_+_, _<_, _^_};
 ghost use Rattle.columns.specs.Intervals.{plus as plusEnd, innerEnds};
 ghost use Rattle.columns.specs.InternalHighest.{finite, highest, rise};
-ghost use Rattle.readings.specs.Readings.{readingOf};
+ghost use Rattle.readings.specs.Readings.{readingOf, inForce};
 ghost use Rattle.walk.specs.InternalWalk.{childState, ReadyToken, tokenOutcome, columnOutcome};
 
-// The state in which the first child of a node is walked: an indent's in its inner set where it counts, an align's with the
-// flag set.
+// The state in which the first child of a node is walked: an indent's in its inner set, an align's with the flag set.
 pub(crate) fn entered(by_2014: bool, kind: u16, r: u16, s: State) -> State
-    requires { ⌜ highest (s .interval) + rise r < 2 ^ 32 ⌝ }
+    requires { ⌜ highest (s .interval) + rise (inForce (readingOf by_2014) (s .flag) r) < 2 ^ 32 ⌝ }
     ensures { λ x. ⌜ x ≡ childState (readingOf by_2014) kind r s ⌝ }
 {
     let c = s.interval;
     match kind {
         kinds::INDENT => {
-            if !counts(by_2014, s.flag) {
-                return s;
-            }
-            let narrowed = inner(r, c);
+            let q = in_force(by_2014, s.flag, r);
+            let narrowed = inner(q, c);
             State {
                 place: s.place,
                 interval: narrowed,

@@ -17,6 +17,7 @@ use Rattle.walk.proofs.states.anew.Reads as anew-reads
 use Rattle.walk.proofs.states.entered.Reads as entered-reads
 use Rattle.walk.proofs.states.fresh.Reads as fresh-reads
 use Rattle.walk.proofs.cycle.first_node.Reads as first-node-reads
+use Rattle.readings.proofs.in_force.Reads as in-force-reads
 use Rattle.after_child.proofs.left.Reads as left-reads
 use Rattle.walk.proofs.states.token.Reads as token-reads
 use Rattle.capture_list.proofs.more.Reads as more-reads
@@ -86,6 +87,8 @@ claims t = (
   first-node-reads.Learnt,
   first-below t,
   first.Post,
+  in-force-reads.Asked,
+  in-force-reads.Learnt,
   left-reads.Asked,
   left-reads.Learnt,
   aligned-reads.Asked,
@@ -343,15 +346,15 @@ module _ (t : ℕ) where
 
   expression-same-length-9 : At expression-lts.Need-same-length-9
   expression-same-length-9 c =
-      let first = c .before .before .before .before .before .before .before in
+      let first = c .before .before .before .before .before .before .before .before in
       call-long (turn-of first .loop .inv) (node-of first .first-node .ensures) (first .first .ensures)
 
   expression-returns-9 : At expression-lts.Need-returns-9
   expression-returns-9 c =
-      let ended = c .before .before in
+      let ended = c .before .before .before in
       let first = ended .before .before .before .before .before in
       out-indent (turn-of first .loop .inv) (node-of first .first-node .ensures) (first .first .ensures) (ended .before .x .given .0 .0)
-      (ended .before .x .given .1) (c .before .match4 .keys6) (c .left .ensures)
+      (ended .before .x .given .1) (c .before .before .match4 .keys6) (c .before .in-force .ensures) (c .left .ensures)
 
   expression-same-length-10 : At expression-lts.Need-same-length-10
   expression-same-length-10 c =
@@ -501,7 +504,7 @@ pub +expression+first+rule-spec : {M : Type 1} → statement M
     (expression-same-length-4 t) (expression-returns-4 t) (expression-same-length-5 t) (expression-returns-5 t)
     (λ c. search needs) (expression-same-length-6 t) (expression-returns-6 t) (expression-loop-less-3 t)
     (expression-loop-again-3 t) (expression-same-length-7 t) (expression-returns-7 t) (expression-same-length-8 t)
-    (expression-returns-8 t) (expression-loop-less-4 t) (expression-loop-again-4 t) (λ c κs. search needs)
+    (expression-returns-8 t) (expression-loop-less-4 t) (expression-loop-again-4 t) (λ c κs. search needs) (λ c κs. search needs)
     (expression-same-length-9 t) (expression-returns-9 t) (λ c κs. search needs) (expression-same-length-10 t)
     (expression-returns-10 t))
     (λ t.
