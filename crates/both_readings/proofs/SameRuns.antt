@@ -1,17 +1,18 @@
 -- Where a grammar reads alike, each derivation by one reading is one by the other, with the same outcome and the same trace: in
 -- any column domain, for any tokens, whether or not the grammar is well formed.
 use Prim.Native.Nat.{ℕ}
-use mathlib.Core.Path.{_≡_, refl, sym, subst, subst⁻¹}
-use mathlib.Core.Bool.{Bool, true, false, _&&_, true≢false}
+use mathlib.Core.Path.{_≡_, refl, sym, subst, _∙_}
+use mathlib.Core.Bool.{Bool, true, false, true≢false}
 use mathlib.Core.List.{List}
 use mathlib.Core.Logic.{_↔_, ⊎-elim}
 use native.Mathlib.Nat.{eq-or-lt-of-le}
 use Rattle.table.specs.Form as table
 use Rattle.table.specs.Form.{Form, form}
 use Rattle.columns.specs.Domain.{Domain}
+use Rattle.columns.specs.declared.Reading.{Reading}
 use Rattle.columns.specs.declared.Reading.the-variants.{By2017, By2014}
 use Rattle.well_formed.specs.Facts.{nothing, something, fails}
-use Rattle.clauses.specs.Clauses.{Tokens, State, Outcome, success, Run, empty, terminal-clear}
+use Rattle.clauses.specs.Clauses.{Tokens, State, Outcome, success, counts, handedOn, Run, empty, terminal-clear}
 use Rattle.clauses.specs.Clauses.{terminal-aligned, terminal-fails, rule, sequence, sequence-fails, choice-first}
 use Rattle.clauses.specs.Clauses.{choice-second, not, not-fails, repeat-ends, repeat-again, indent, indent-fails}
 use Rattle.clauses.specs.Clauses.{indent-through, position, align, align-fails}
@@ -22,10 +23,22 @@ use Rattle.theorems.proofs.ShownFacts.{shown, at-once, further, not-at-all}
 use Rattle.both_readings.specs.BothReadings.{Entered, ReadAlike}
 use Rattle.both_readings.specs.BothReadings as entered
 
+-- The other reading.
+abbrev other : Reading → Reading
+other By2017 = By2014
+other By2014 = By2017
+
+-- Under a clear flag an indent counts by both.
+counts-clear : (r : Reading) → counts r false ≡ true
+counts-clear By2017 = refl
+counts-clear By2014 = refl
+
 -- What an align hands on is the same by both, if no flag is left set where there was none.
-handed : (b b' : Bool) → (b ≡ false → b' ≡ false) → b && b' ≡ b'
-handed true b' h = refl
-handed false b' h = sym (h refl)
+handed : (r : Reading) (b b' : Bool) → (b ≡ false → b' ≡ false) → handedOn (other r) b b' ≡ handedOn r b b'
+handed By2017 true b' h = refl
+handed By2017 false b' h = h refl
+handed By2014 true b' h = refl
+handed By2014 false b' h = sym (h refl)
 
 module _ {ℓ κ} (D : Domain {ℓ, κ}) (nodes rules : List ℕ) (tokens : Tokens) (f₀ : Form) (b₀ : Bool) where
   -- A form is entered under a flag that is the same.
@@ -54,6 +67,15 @@ module _ {ℓ κ} (D : Domain {ℓ, κ}) (nodes rules : List ℕ) (tokens : Toke
       ⊎-elim (λ e. under (k .unread (sym e)) h)
       (λ l. under (k .read l) (entered.repeat-again h (shown D By2017 nodes rules tokens d something (further l)))) (eq-or-lt-of-le (onward D By2017 nodes rules tokens d))
 
+  -- Of a run by a reading and one by the other, that by 2017.
+  by-2017 :
+      (r : Reading) {τ : ℕ} {f : Form} {s : State (D .Columns)} {o : Outcome (D .Columns)}
+      → Run D r nodes rules tokens τ f s o
+      → Run D (other r) nodes rules tokens τ f s o
+      → Run D By2017 nodes rules tokens τ f s o
+  by-2017 By2017 d e = d
+  by-2017 By2014 d e = e
+
   module _ (alike : ReadAlike nodes rules f₀ b₀) where
     -- An align that is entered under a clear flag leaves it clear.
     left-clear :
@@ -66,70 +88,39 @@ module _ {ℓ κ} (D : Domain {ℓ, κ}) (nodes rules : List ℕ) (tokens : Toke
         ⊎-elim (λ e. absurd (alike .aligns p (under (sym c) h) (shown D By2017 nodes rules tokens d nothing (at-once (sym e))))) (λ l. settles D nodes rules tokens d .read l)
         (eq-or-lt-of-le (onward D By2017 nodes rules tokens d))
 
-    -- A derivation by 2017 is one by 2014, with its trace,
-    to-2014 :
-        {τ : ℕ} {f : Form} {s : State (D .Columns)} {o : Outcome (D .Columns)} (d : Run D By2017 nodes rules tokens τ f s o)
-        → Entered nodes rules f₀ b₀ f (s .2)
-        → Gives D By2014 nodes rules tokens τ f s o (trace D By2017 nodes rules tokens d)
-    unfolding trace
-    to-2014 empty h = give.empty
-    to-2014 (terminal-clear n m) h = give.terminal-clear n m
-    to-2014 (terminal-aligned n m) h = give.terminal-aligned n m
-    to-2014 (terminal-fails k) h = give.terminal-fails k
-    to-2014 (rule d) h = give.rule (to-2014 d (entered.rule-node h))
-    to-2014 (sequence d e) h = give.sequence (to-2014 d (entered.sequence-first h)) (to-2014 e (second d h))
-    to-2014 (sequence-fails d) h = give.sequence-fails (to-2014 d (entered.sequence-first h))
-    to-2014 (choice-first d) h = give.choice-first (to-2014 d (entered.choice-first h))
-    to-2014 (choice-second d e) h =
-        give.choice-second (to-2014 d (entered.choice-first h)) (to-2014 e (entered.choice-second h (shown D By2017 nodes rules tokens d fails not-at-all)))
-    to-2014 (not d) h = give.not (to-2014 d (entered.not-child h))
-    to-2014 (not-fails d) h = give.not-fails (to-2014 d (entered.not-child h))
-    to-2014 (repeat-ends d) h = give.repeat-ends (to-2014 d (entered.repeat-round h))
-    to-2014 (repeat-again d e) h = give.repeat-again (to-2014 d (entered.repeat-round h)) (to-2014 e (again d h))
-    to-2014 (indent {p = p} {ρ = ρ} {b = true} c d) h = absurd (alike .indents p ρ h)
-    to-2014 (indent {b = false} c d) h = give.indent refl (to-2014 d (entered.indent-child h))
-    to-2014 (indent-fails {p = p} {ρ = ρ} {b = true} c d) h = absurd (alike .indents p ρ h)
-    to-2014 (indent-fails {b = false} c d) h = give.indent-fails refl (to-2014 d (entered.indent-child h))
-    to-2014 (indent-through c d) h = absurd (true≢false c)
-    to-2014 (position d) h = give.position (to-2014 d (entered.position-child h))
-    to-2014 (align {τ = τ} {p = p} {w = w} {w' = w'} {I = I} {I' = I'} {b = b} {b' = b'} d) h =
-        subst⁻¹
-        (λ (c : Bool). Gives D By2014 nodes rules tokens τ (table.align p) (w, I, b) (success (w', I', c)) (trace D By2017 nodes rules tokens d))
-        (handed b b' (left-clear d h)) (give.align (to-2014 d (entered.align-child h)))
-    to-2014 (align-fails d) h = give.align-fails (to-2014 d (entered.align-child h))
-
-    -- and one by 2014 is one by 2017.
-    to-2017 :
-        {τ : ℕ} {f : Form} {s : State (D .Columns)} {o : Outcome (D .Columns)} (d : Run D By2014 nodes rules tokens τ f s o)
-        → Entered nodes rules f₀ b₀ f (s .2)
-        → Gives D By2017 nodes rules tokens τ f s o (trace D By2014 nodes rules tokens d)
-    unfolding trace
-    to-2017 empty h = give.empty
-    to-2017 (terminal-clear n m) h = give.terminal-clear n m
-    to-2017 (terminal-aligned n m) h = give.terminal-aligned n m
-    to-2017 (terminal-fails k) h = give.terminal-fails k
-    to-2017 (rule d) h = give.rule (to-2017 d (entered.rule-node h))
-    to-2017 (sequence d e) h = let x = to-2017 d (entered.sequence-first h) in give.sequence x (to-2017 e (second (x .run) h))
-    to-2017 (sequence-fails d) h = give.sequence-fails (to-2017 d (entered.sequence-first h))
-    to-2017 (choice-first d) h = give.choice-first (to-2017 d (entered.choice-first h))
-    to-2017 (choice-second d e) h =
-        give.choice-second (to-2017 d (entered.choice-first h)) (to-2017 e (entered.choice-second h (shown D By2014 nodes rules tokens d fails not-at-all)))
-    to-2017 (not d) h = give.not (to-2017 d (entered.not-child h))
-    to-2017 (not-fails d) h = give.not-fails (to-2017 d (entered.not-child h))
-    to-2017 (repeat-ends d) h = give.repeat-ends (to-2017 d (entered.repeat-round h))
-    to-2017 (repeat-again d e) h = let x = to-2017 d (entered.repeat-round h) in give.repeat-again x (to-2017 e (again (x .run) h))
-    to-2017 (indent {b = true} c d) h = absurd (true≢false (sym c))
-    to-2017 (indent {b = false} c d) h = give.indent refl (to-2017 d (entered.indent-child h))
-    to-2017 (indent-fails {b = true} c d) h = absurd (true≢false (sym c))
-    to-2017 (indent-fails {b = false} c d) h = give.indent-fails refl (to-2017 d (entered.indent-child h))
-    to-2017 (indent-through {p = p} {ρ = ρ} {b = true} c d) h = absurd (alike .indents p ρ h)
-    to-2017 (indent-through {b = false} c d) h = absurd (true≢false c)
-    to-2017 (position d) h = give.position (to-2017 d (entered.position-child h))
-    to-2017 (align {τ = τ} {p = p} {w = w} {w' = w'} {I = I} {I' = I'} {b = b} {b' = b'} d) h =
-        let x = to-2017 d (entered.align-child h) in
-        subst (λ (c : Bool). Gives D By2017 nodes rules tokens τ (table.align p) (w, I, b) (success (w', I', c)) (trace D By2014 nodes rules tokens d))
-        (handed b b' (left-clear (x .run) h)) (give.align x)
-    to-2017 (align-fails d) h = give.align-fails (to-2017 d (entered.align-child h))
+    -- A derivation by a reading is one by the other, with its trace.
+    module _ (r : Reading) where
+      across :
+          {τ : ℕ} {f : Form} {s : State (D .Columns)} {o : Outcome (D .Columns)} (d : Run D r nodes rules tokens τ f s o)
+          → Entered nodes rules f₀ b₀ f (s .2)
+          → Gives D (other r) nodes rules tokens τ f s o (trace D r nodes rules tokens d)
+      unfolding trace
+      across empty h = give.empty
+      across (terminal-clear n m) h = give.terminal-clear n m
+      across (terminal-aligned n m) h = give.terminal-aligned n m
+      across (terminal-fails k) h = give.terminal-fails k
+      across (rule d) h = give.rule (across d (entered.rule-node h))
+      across (sequence d e) h = let x = across d (entered.sequence-first h) in give.sequence x (across e (second (by-2017 r d (x .run)) h))
+      across (sequence-fails d) h = give.sequence-fails (across d (entered.sequence-first h))
+      across (choice-first d) h = give.choice-first (across d (entered.choice-first h))
+      across (choice-second d e) h =
+          give.choice-second (across d (entered.choice-first h)) (across e (entered.choice-second h (shown D r nodes rules tokens d fails not-at-all)))
+      across (not d) h = give.not (across d (entered.not-child h))
+      across (not-fails d) h = give.not-fails (across d (entered.not-child h))
+      across (repeat-ends d) h = give.repeat-ends (across d (entered.repeat-round h))
+      across (repeat-again d e) h = let x = across d (entered.repeat-round h) in give.repeat-again x (across e (again (by-2017 r d (x .run)) h))
+      across (indent {p = p} {ρ = ρ} {b = true} c d) h = absurd (alike .indents p ρ h)
+      across (indent {b = false} c d) h = give.indent (counts-clear (other r)) (across d (entered.indent-child h))
+      across (indent-fails {p = p} {ρ = ρ} {b = true} c d) h = absurd (alike .indents p ρ h)
+      across (indent-fails {b = false} c d) h = give.indent-fails (counts-clear (other r)) (across d (entered.indent-child h))
+      across (indent-through {p = p} {ρ = ρ} {b = true} c d) h = absurd (alike .indents p ρ h)
+      across (indent-through {b = false} c d) h = absurd (true≢false (sym (counts-clear r) ∙ c))
+      across (position d) h = give.position (across d (entered.position-child h))
+      across (align {τ = τ} {p = p} {w = w} {w' = w'} {I = I} {I' = I'} {b = b} {b' = b'} d) h =
+          let x = across d (entered.align-child h) in
+          subst (λ (c : Bool). Gives D (other r) nodes rules tokens τ (table.align p) (w, I, b) (success (w', I', c)) (trace D r nodes rules tokens d))
+          (handed r b b' (left-clear (by-2017 r d (x .run)) h)) (give.align x)
+      across (align-fails d) h = give.align-fails (across d (entered.align-child h))
 
     -- What the clauses give by one reading they give by the other, outcome and trace.
     pub same-run :
@@ -137,6 +128,6 @@ module _ {ℓ κ} (D : Domain {ℓ, κ}) (nodes rules : List ℕ) (tokens : Toke
         → Entered nodes rules f₀ b₀ f (s .2)
         → Gives D By2014 nodes rules tokens τ f s o t ↔ Gives D By2017 nodes rules tokens τ f s o t
     same-run τ f s o t h = (
-      λ d. subst (λ (u : Trace). Gives D By2017 nodes rules tokens τ f s o u) (d .shows) (to-2017 (d .run) h),
-      λ d. subst (λ (u : Trace). Gives D By2014 nodes rules tokens τ f s o u) (d .shows) (to-2014 (d .run) h),
+      λ d. subst (λ (u : Trace). Gives D By2017 nodes rules tokens τ f s o u) (d .shows) (across By2014 (d .run) h),
+      λ d. subst (λ (u : Trace). Gives D By2014 nodes rules tokens τ f s o u) (d .shows) (across By2017 (d .run) h),
     )

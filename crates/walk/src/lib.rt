@@ -34,8 +34,9 @@ struct Whole {
     count: usize,
 }
 
-// Walks a grammar from a start. Where the lent words have a place for each capture, they are listed there, four words each,
-// with zeros behind them; otherwise, and where the walk is refused, nothing is written.
+// Walks a grammar from a start: first in a list without a place, which counts the captures. Where the lent words have a place
+// for each, they are listed there, four words each, with zeros behind them; otherwise, and where the walk is refused, nothing
+// is written.
 pub fn from_start(
     nodes: &[u16],
     rules: &[u16],
@@ -53,9 +54,22 @@ pub fn from_start(
         ⌝ }
 {
     match admitted(nodes, rules, tokens, start, reading) {
-        Verdict::Refused(number) => Walk::Refused(number),
-        Verdict::IllFormed(node) => Walk::IllFormed(node),
-        Verdict::Passes => begin(nodes, rules, tokens, start, reading, list),
+        Verdict::Refused(number) => {
+            return Walk::Refused(number);
+        }
+        Verdict::IllFormed(node) => {
+            return Walk::IllFormed(node);
+        }
+        Verdict::Passes => {}
+    }
+    let mut none = [0u32; 1];
+    let counted = walk_once(nodes, rules, tokens, &mut none, reading, start);
+    let count = counted.count;
+    write_list(nodes, rules, tokens, start, reading, count, list);
+    let x = counted.outcome;
+    match x {
+        Outcome::Failure => Walk::Failure,
+        Outcome::Success(u) => Walk::Success(u, count),
     }
 }
 
@@ -82,35 +96,6 @@ fn admitted(nodes: &[u16], rules: &[u16], tokens: &[u32], start: Start, reading:
         return Verdict::Refused(refusals::READING);
     }
     Verdict::Passes
-}
-
-// Walks from a start that is admitted, in a list without a place, which counts the captures, and then writes them.
-fn begin(
-    nodes: &[u16],
-    rules: &[u16],
-    tokens: &[u32],
-    start: Start,
-    reading: Reading,
-    list: &mut [u32],
-) -> Walk
-    requires { ⌜ Admitted reading (now nodes) (now rules) (now tokens) start ⌝ }
-    ensures { λ r. ⌜
-        numbers r ≡ walkAnswer reading (now (nodes .entry)) (now (rules .entry)) (now (tokens .entry)) start
-        ⌝ }
-    ensures { λ r. ⌜
-        now (list .exit)
-        ≡ walkAfter reading (now (nodes .entry)) (now (rules .entry)) (now (tokens .entry)) start (now (list .entry))
-        ⌝ }
-{
-    let mut none = [0u32; 1];
-    let counted = walk_once(nodes, rules, tokens, &mut none, reading, start);
-    let count = counted.count;
-    write_list(nodes, rules, tokens, start, reading, count, list);
-    let x = counted.outcome;
-    match x {
-        Outcome::Failure => Walk::Failure,
-        Outcome::Success(u) => Walk::Success(u, count),
-    }
 }
 
 // Writes the list of so many captures where they fit: by another walk, unless there are none.
