@@ -716,7 +716,7 @@ run_2014("001 2.4 indent after an empty align with flag", "001 section 2.4 (3)",
 # The align reads nothing, and the run ends: clear and set is clear; as the child left it is set.
 run("001 2.4 empty align at the end", "001 section 2.4 (2)", "the flag is restored", "success 0 2 6 clear",
     "align !b", "a9", low=2, high=6)
-run_2014("001 2.4 empty align at the end", "001 section 2.4 (2)", "the flag is never changed at the end of |p|",
+run_2014("001 2.4 empty align at the end", "001 section 2.4 (2)", "the flag is as the child left it",
          "success 0 2 6 set", "align !b", "a9", low=2, high=6)
 # "Distributivity of indentation and alignment fails in the semantics of [3]". |p|^>: in 2.., flag: a4 4..4, b4 4..4, out
 # 1..1 with 0..3 = 1..1. |p^>|: passed, 4 is not in 1..1; a1 is, b1 too.

@@ -185,7 +185,7 @@ def read_report(library, grammar, report, as_json, by_2014):
 
 def main():
     arguments, options = sys.argv[1:4], sys.argv[4:]
-    if len(arguments) != 3 or options not in ([], ["--json"], ["--by-2014"], ["--json", "--by-2014"]):
+    if len(arguments) != 3 or sorted(options) not in ([], ["--json"], ["--by-2014"], ["--by-2014", "--json"]):
         sys.exit("usage: read_report.py LIBRARY GRAMMAR REPORT [--json] [--by-2014]")
     # A reader of the output, like `head`, may stop before its end.
     signal.signal(signal.SIGPIPE, signal.SIG_DFL)

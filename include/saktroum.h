@@ -146,9 +146,10 @@ uint32_t saktroum_run(const uint16_t *nodes, size_t node_words,
                       size_t result[6]);
 
 /* Runs a grammar as saktroum_run does and lists its captures (3, 4, 5, 7, 11, 12, 16, 13, in this order; mind the stack,
- * above): every rule that succeeded on the way to the final success, outside any not, any failed alternative and a repeat's last, failed round.
- * Writes four words a capture (rule, first token, token after the last, number of captures around it) to `captures`, an
- * outer one before those inside it, otherwise in the order in which they were read, and 0 to every word behind them.
+ * above): every rule that succeeded on the way to the final success, outside any not, any failed alternative and a repeat's
+ * last, failed round. Writes four words a capture (rule, first token, token after the last, number of captures around it) to
+ * `captures`, an outer one before those inside it, otherwise in the order in which they were read, and 0 to every word behind
+ * them.
  * result, on success: the six words of saktroum_run, then the number of captures, which tells a list of one capture with
  * the words 0 0 0 0 from an empty one. On failure: result[0] is 0, the others are as before; every word of `captures` is 0.
  * After 13 lend more words: a list may be of any length, and the answer does not say of which. */

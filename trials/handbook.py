@@ -12,8 +12,9 @@ LIBRARY is the reader as a shared library (trials/library.py says how it is made
     sh         commands; what a call of tools/build.py or of the program writes stands on the next line, behind `# `
 
 START is empty or parts with commas between them: `rule NAME`, `mode RELATION`, `from L to H`, `from L on`, `flag set`,
-`by 2014` (the reading) and `entries`. A run by 2014 that is refused has the answer `refused 16`. Below a run with `entries` stand its captures as the program `entries` prints them, a line for each, behind five
-blanks and two more for each capture around it: `NAME LINE:COLUMN TEXT`, or `NAME -` for one that read no token.
+`by 2014` (the reading) and `entries`. A run by 2014 that is refused has the answer `refused 16`. Below a run with `entries`
+stand its captures as the program `entries` prints them, a line for each, behind five blanks and two more for each capture
+around it: `NAME LINE:COLUMN TEXT`, or `NAME -` for one that read no token.
 """
 
 import itertools

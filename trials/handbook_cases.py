@@ -13,7 +13,7 @@ HEAD = """\
 -- The blocks of docs/HANDBOOK.md as cases: each run of a report by a grammar, then a check of each grammar, and the runs whose
 -- entries the handbook has once more, with their captures. This file is made from the handbook by trials/handbook.py: nodes as
 -- tools/build.py numbers them, tokens as the scanner gives them, the answers as the handbook has them, where they follow from
--- 01, "Columns and states", 02, notes 1, 2 and 5, and 001, section 2.1, by hand; the words of captures as the reader lists them,
+-- 01, "Columns and states", 02, notes 1, 2 and 5, 001, section 2.1, and 000, figure 6, by hand; the words of captures as the reader lists them,
 -- for the entries that the handbook has. `HandbookHold`, in proofs, computes them all.
 use Prim.Native.Nat.{ℕ}
 use mathlib.Core.Bool.{Bool, true, false}

@@ -80,7 +80,10 @@ fn compare_runs(seed: u64, runs: u64, reading: Reading, stats: &mut Stats) -> Re
         }
         compared += 1;
     }
-    println!("seed {seed}: {compared} runs and lists{by}, {over_sets} of them over sets too, no difference; {passed_over} passed over");
+    println!(
+        "seed {seed}: {compared} runs and lists{by}, {over_sets} of them over sets too, no difference; \
+         {passed_over} passed over"
+    );
     Ok(())
 }
 

@@ -66,7 +66,7 @@ module _ (nodes rules words : List ℕ) (start : Start) (alike : ReadAlike nodes
   -- For a well-formed grammar within the limits of both, what is computed is the same by both:
   module _ (limits : WithinLimits By2014 nodes rules words start) (well : Passes nodes rules) where
     limits-2017 : WithinLimits By2017 nodes rules words start
-    limits-2017 = record { table = limits .table; tokens = limits .tokens; start-right = limits .start-right; read-so = never-16 nodes start }
+    limits-2017 = record { table = limits .table; tokens = limits .tokens; start-right = limits .start-right; reading-right = never-16 nodes start }
 
     same :
         Same ends By2017 nodes rules (tokensOf words) (ourOutcome By2014 nodes rules words start) (ourOutcome By2017 nodes rules words start)
@@ -98,7 +98,7 @@ module _ (nodes rules words : List ℕ) (start : Start) (alike : ReadAlike nodes
         ≡ andThen c (refuseIf t 11 (refuseIf b 12 (given (ourOutcome By2017 nodes rules words start))))
     after-checks (given tt) false false p q r =
         let m = check-means nodes rules .passes .0 p in
-        ap given (same-outcome (record { table = m .0; tokens = q; start-right = r; read-so = positionless }) (m .1))
+        ap given (same-outcome (record { table = m .0; tokens = q; start-right = r; reading-right = positionless }) (m .1))
     after-checks (given tt) false true p q r = refl
     after-checks (given tt) true b p q r = refl
     after-checks (refused k) t b p q r = refl

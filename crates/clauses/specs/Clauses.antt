@@ -121,7 +121,7 @@ module _ {ℓ κ} (D : Domain {ℓ, κ}) (reading : Reading) (nodes rules : List
         → counts reading b ≡ true
         → Run τ (form nodes p) (w, D .inner ρ I, b) failure
         → Run τ (table.indent p ρ) (w, I, b) failure
-    -- 000 alone, for b = tt: p ⊢ (w, I, tt) → o ⟹ p^ρ ⊢ (w, I, tt) → o
+    -- 000 alone, for b = tt: p, τ ⊢ (w, I, tt) → o ⟹ p^ρ, τ ⊢ (w, I, tt) → o
     indent-through :
         {τ p ρ w : ℕ} {I : D .Columns} {b : Bool} {o : Outcome (D .Columns)}
         → counts reading b ≡ false
@@ -133,7 +133,7 @@ module _ {ℓ κ} (D : Domain {ℓ, κ}) (reading : Reading) (nodes rules : List
         → Run σ (form nodes p) s o
         → Run τ (table.position p σ) s o
     -- (10) p, τ ⊢ (w, I, tt) → ⊤(w', I', b') ⟹ |p|, τ ⊢ (w, I, b) → ⊤(w', I', b ∧ b')
-    -- 000: p ⊢ (w, I, tt) → ⊤(w', I', b') ⟹ |p| ⊢ (w, I, b) → ⊤(w', I', b')
+    -- 000: p, τ ⊢ (w, I, tt) → ⊤(w', I', b') ⟹ |p|, τ ⊢ (w, I, b) → ⊤(w', I', b')
     align : {τ p w w' : ℕ} {I I' : D .Columns} {b b' : Bool} → Run τ (form nodes p) (w, I, true) (success (w', I', b'))
         → Run τ (table.align p) (w, I, b) (success (w', I', handedOn reading b b'))
     -- (10) p, τ ⊢ (w, I, tt) → ⊥ ⟹ |p|, τ ⊢ (w, I, b) → ⊥

@@ -218,6 +218,10 @@ lawCases =
     ∷ runs (terminal a ∷ not 0 ∷ align 1 ∷ []) [] (b at 0 ∷ []) (from 2 equal)
     (reads 0 0 Endless false) (reads 0 0 Endless true)
     ∷ same (terminal a ∷ align 0 ∷ not 1 ∷ []) [] (b at 0 ∷ []) (from 2 equal) (reads 0 0 Endless false)
+    -- A token that an align reads clears the flag by both, also one that was set before: |a|, and |a|b^>.
+    ∷ same (terminal a ∷ align 0 ∷ []) [] (a at 5 ∷ []) (flagged 1) (reads 1 5 (At 5) false)
+    ∷ same (terminal a ∷ align 0 ∷ terminal b ∷ indent 2 greater ∷ sequence 1 3 ∷ []) [] (a at 4 ∷ b at 5 ∷ []) (flagged 4)
+    (reads 2 4 (At 4) false)
     ∷ []
 
 -- From a set flag and from an interval, under each relation: "A start gives a node, a token place, an interval, a flag ..".

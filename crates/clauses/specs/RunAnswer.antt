@@ -26,7 +26,8 @@ SetRun reading nodes rules words start o =
 -- A run of the clauses over two ends.
 abbrev pub EndsRun : Reading → List ℕ → List ℕ → List ℕ → Start → Outcome Interval → Type 0
 EndsRun reading nodes rules words start o =
-    Run ends reading nodes rules (tokensOf words) (start .mode) (form nodes (start .node)) (start .place, start .interval, start .flag) o
+    Run ends reading nodes rules (tokensOf words) (start .mode) (form nodes (start .node))
+    (start .place, start .interval, start .flag) o
 
 -- The outcome over two ends, computed.
 abbrev pub ourOutcome : Reading → List ℕ → List ℕ → List ℕ → Start → Outcome Interval

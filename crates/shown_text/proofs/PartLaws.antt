@@ -111,16 +111,16 @@ module _ (file report words : List ℕ) (c : Capture) {f : FileRead} (e : fileNu
                   ∙ rw (le-ltb (c .first) (c .after) (omega arith)) at answers
 
               module _ (h : c .first ≡ c .after → ⊥) where
-                pub read-some : c .first < c .after
-                read-some = omega (arith, right .order)
+                pub reading-rightme : c .first < c .after
+                reading-rightme = omega (arith, right .order)
 
                 pub ordered : tokenOffset words (c .first) ≤ tokenEnd words (lastToken c)
-                ordered = begins-before right read-some
+                ordered = begins-before right reading-rightme
 
                 pub from-report : {r : ShownPart} → r ≡ InReport (tokenOffset words (c .first)) (tokenEnd words (lastToken c) - tokenOffset words (c .first))
                     → numbers r ≡ shownAnswer file report words c
                 unfolding partShown
-                from-report d = ap numbers d ∙ rw (lt-ltb (c .first) (c .after) read-some) at answers
+                from-report d = ap numbers d ∙ rw (lt-ltb (c .first) (c .after) reading-rightme) at answers
 
 -- A file that is read has few keywords.
 pub few : (file : List ℕ) {f : FileRead} {n l k s m : ℕ} → KeywordsStand file f → f ≡ Read n l k s m → k ≤ mostKeywords

@@ -100,7 +100,9 @@ fn run_in(
 
 // The same over stored tokens, of at most 16,500 words of four bytes.
 pub fn run_stored(nodes: &[u8], rules: &[u8], tokens: &[u8], start: Start, reading: Reading) -> Ran
-    ensures { λ r. ⌜ StoredAnswers reading (now (nodes .entry)) (now (rules .entry)) (quads 16500 (now (tokens .entry))) start r ⌝ }
+    ensures { λ r. ⌜
+        StoredAnswers reading (now (nodes .entry)) (now (rules .entry)) (quads 16500 (now (tokens .entry))) start r
+        ⌝ }
 {
     let mut token_words = stored_cases::room_for_tokens();
     let z = least(tokens.len() / 4, 16500);

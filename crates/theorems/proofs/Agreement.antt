@@ -75,13 +75,15 @@ module _ (reading : Reading) (nodes rules words : List ℕ) (start : Start) wher
     outcome-only o d = one-outcome ends reading nodes rules (tokensOf words) d (run-given .run)
 
     -- whatever its derivation, the captures are those that are computed.
-    pub captures-only : (o : Outcome Interval) (d : EndsRun reading nodes rules words start o) → endsCaptures reading nodes rules words start o d ≡ ourCaptures reading nodes rules words start
+    pub captures-only :
+        (o : Outcome Interval) (d : EndsRun reading nodes rules words start o)
+        → endsCaptures reading nodes rules words start o d ≡ ourCaptures reading nodes rules words start
     captures-only o d = let q = one-run ends reading nodes rules (tokensOf words) d (run-given .run) in ap₂ listed (q .outcome) (q .shown ∙ run-given .shows)
 
     -- It is what a run answers,
     pub outcome-answered : runAnswer reading nodes rules words start ≡ given (ourOutcome reading nodes rules words start)
     unfolding runAnswer
-    outcome-answered = rw (check-means nodes rules .passes .1 (limits .table, well), limits .tokens, limits .start-right, limits .read-so) refl
+    outcome-answered = rw (check-means nodes rules .passes .1 (limits .table, well), limits .tokens, limits .start-right, limits .reading-right) refl
 
     -- From every number in the start's interval the clauses over sets give an alike outcome with the same trace.
     set-run :
@@ -91,12 +93,14 @@ module _ (reading : Reading) (nodes rules words : List ℕ) (start : Start) wher
         let b = begins nodes words start (limits .start-right) in
         ends-to-sets reading nodes rules (tokensOf words) run-given (record { some = b .some; members = λ k. (λ m. m, λ m. m) })
 
-    set-captures : (o : Outcome ColumnSet) (d : SetRun reading nodes rules words start o) → setCaptures reading nodes rules words start o d ≡ ourCaptures reading nodes rules words start
+    set-captures :
+        (o : Outcome ColumnSet) (d : SetRun reading nodes rules words start o)
+        → setCaptures reading nodes rules words start o d ≡ ourCaptures reading nodes rules words start
     set-captures o d =
         let q = one-run sets reading nodes rules (tokensOf words) d (set-run .gives .run) in
         ap₂ listed (q .outcome) (q .shown ∙ set-run .gives .shows) ∙ same-list (ourTrace reading nodes rules words start) (set-run .alike)
 
-    -- For every table that passes 3 to 5 and is well formed, every token list and start within the limits: a run answers an
+    -- For every table that passes 3 to 5 and is well formed, every token list and start within the limits, by either reading: a run answers an
     -- outcome, the clauses over sets give exactly one, the two are alike, and their captures are the same.
     pub third-demand : ThirdDemand reading nodes rules words start
     third-demand =
@@ -145,7 +149,9 @@ module _ (reading : Reading) (nodes rules words : List ℕ) (start : Start) wher
   unrefused : (c : Answer Unit) (t b d : Bool) (o ours : Outcome Interval) → checkAnswer nodes rules ≡ c → fails11 words ≡ t → fails12 nodes words start ≡ b
       → fails16 reading nodes start ≡ d → andThen c (refuseIf t 11 (refuseIf b 12 (refuseIf d 16 (given o)))) ≡ given ours
       → WithinLimits reading nodes rules words start × Passes nodes rules
-  unrefused (given tt) false false false o ours p q r z e = let m = check-means nodes rules .passes .0 p in (record { table = m .0; tokens = q; start-right = r; read-so = z }, m .1)
+  unrefused (given tt) false false false o ours p q r z e =
+      let m = check-means nodes rules .passes .0 p in
+      (record { table = m .0; tokens = q; start-right = r; reading-right = z }, m .1)
   unrefused (given tt) false false true o ours p q r z e = absurd (let n : _≡_ {A = ℕ} 0 1 = cc in omega arith)
   unrefused (given tt) false true d o ours p q r z e = absurd (let n : _≡_ {A = ℕ} 0 1 = cc in omega arith)
   unrefused (given tt) true b d o ours p q r z e = absurd (let n : _≡_ {A = ℕ} 0 1 = cc in omega arith)

@@ -60,7 +60,9 @@ answerBy reading nodes rules start n tokens =
     (outcomeFor reading nodes rules tokens (start .mode) (start .node)
     (start .place, start .interval, start .flag))))))
 
-answered-by : (reading : Reading) (nodes rules words : List ℕ) (start : Start) → runAnswer reading nodes rules words start ≡ answerBy reading nodes rules start (length words) (tokensOf words)
+answered-by :
+    (reading : Reading) (nodes rules words : List ℕ) (start : Start)
+    → runAnswer reading nodes rules words start ≡ answerBy reading nodes rules start (length words) (tokensOf words)
 unfolding runAnswer fails11 fails12 answerBy
 answered-by reading nodes rules words start = refl
 

@@ -139,7 +139,7 @@ module _ (reading : Reading) (nodes rules words : List ℕ) (start : Start) wher
           table = check-means nodes rules .passes .0 (admitted .table) .0;
           tokens = admitted .tokens;
           start-right = admitted .start-right;
-          read-so = admitted .read-so;
+          reading-right = admitted .reading-right;
         }
 
     checked : Checked nodes rules words

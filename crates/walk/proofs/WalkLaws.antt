@@ -315,7 +315,8 @@ module _ (nodes rules words : List ℕ) where
         → (May nodes rules (form nodes a) nothing → rank nodes rules c < rank nodes rules n)
         → Lighter (weight nodes rules words n s) c u
     after {reading} a c τ u i d q =
-        let high = ends-under reading nodes rules (tokensOf words) mostColumn (in-limits words (h .checked .tokens) .column) (highest (s .interval)) (omega arith) (d .derived .run) in
+        let columns = in-limits words (h .checked .tokens) .column in
+        let high = ends-under reading nodes rules (tokensOf words) mostColumn columns (highest (s .interval)) (omega arith) (d .derived .run) in
         let w = weight-most c u (h .checked) i in
         let m = h .room in
         let l = lighter a c τ u i d q in
@@ -454,8 +455,8 @@ module _ {reading : Reading} {nodes rules words : List ℕ} {τ₀ n₀ : ℕ} {
     call : (kind ≡ 1 → ⊥) → Lighter nodes rules words (weight nodes rules words n s) a (childState reading kind r s)
     call h1 =
         let x = enters-a nodes rules (nodeCount nodes) kind a b r (inside kind refl) h0 h1 h2 h8 in
-        entered nodes rules words n s (h .ready) a (x .0) (enters kind a refl (x .1)) (childState reading kind r s) (child-place reading kind r s) (child-high reading kind r s relation-in)
-        (child-some reading kind r s (h .ready .some))
+        entered nodes rules words n s (h .ready) a (x .0) (enters kind a refl (x .1)) (childState reading kind r s)
+        (child-place reading kind r s) (child-high reading kind r s relation-in) (child-some reading kind r s (h .ready .some))
 
     -- A terminal is walked in the state as it is.
     own : kind ≡ 1 → childState reading kind r s ≡ s

@@ -23,7 +23,7 @@ pub record Admitted (reading : Reading) (nodes rules words : List ℕ) (start : 
   pub table : checkAnswer nodes rules ≡ given tt
   pub tokens : fails11 words ≡ false
   pub start-right : fails12 nodes words start ≡ false
-  pub read-so : fails16 reading nodes start ≡ false
+  pub reading-right : fails16 reading nodes start ≡ false
 
 -- What each verdict on a run says: that one of them does, or that none does.
 abbrev pub Admits : Reading → List ℕ → List ℕ → List ℕ → Start → Verdict → Type 0

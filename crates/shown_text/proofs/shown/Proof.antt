@@ -2,7 +2,7 @@
 use borrow.Author.Needs.{needs}
 use Rattle.shown_text.proofs.shown.Statement.{statement}
 use Rattle.shown_text.proofs.shown.Tie as tie
-use Rattle.shown_text.proofs.PartLaws.{by-file, by-report, by-tokens, by-capture, few, from-file, read-some, ordered, from-report}
+use Rattle.shown_text.proofs.PartLaws.{by-file, by-report, by-tokens, by-capture, few, from-file, reading-rightme, ordered, from-report}
 
 returns : tie.Need-returns
 returns c =
@@ -67,7 +67,7 @@ in-report-requires c κs =
     let read2 = c .before .before .before .before .before .before .before .before .before .read2 in
     let check = c .before .before .before .before .before .before .before .before .before .before .before .check in
     let start = c .before .before .before .before .before .before .before .before .before .before .before .before .before .before .before in (
-      read-some (start .args .file .now) (start .args .report .now) (start .args .tokens .now)
+      reading-rightme (start .args .file .now) (start .args .report .now) (start .args .tokens .now)
           (start .args .capture) (check .ensures .0) (read2 .given .1) (refused .ensures) (if1 .left)
           (tokens-wrong .ensures) (if2 .left) (capture-wrong .ensures) (c .before .before .if3 .left) (c .if4 .left),
       ordered (start .args .file .now) (start .args .report .now) (start .args .tokens .now)

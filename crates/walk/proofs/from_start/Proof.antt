@@ -16,22 +16,35 @@ walk-once-requires : tie.Need-walk-once-requires
 walk-once-requires c κs = subst (Admits _ _ _ _ _) (c .before .enum-told .given .1) (c .before .before .before .admitted .ensures)
 
 write-list-requires : tie.Need-write-list-requires
-write-list-requires c κs = (subst (Admits _ _ _ _ _) (c .before .before .before .before .enum-told .given .1) (c .before .before .before .before .before .before .admitted .ensures), c .before .before .walk-once .ensures .count)
+write-list-requires c κs =
+    let at-walk-once = c .before .before in
+    let at-enum-told = at-walk-once .before .before in
+    let at-admitted = at-enum-told .before .before in
+    (subst (Admits _ _ _ _ _) (at-enum-told .enum-told .given .1) (at-admitted .admitted .ensures), at-walk-once .walk-once .ensures .count)
 
 returns-3 : tie.Need-returns-3
 returns-3 c =
-    let start = c .before .before .before .before .before .before .before .before .before .before .before .before .before .before .before .before in (
+    let at-write-list = c .before .before .before .before in
+    let at-walk-once = at-write-list .before .before .before in
+    let at-enum-told = at-walk-once .before .before in
+    let at-admitted = at-enum-told .before .before in
+    let start = at-admitted .before .before .before .before .before in (
       walk-failure (start .args .reading) (start .args .nodes .now) (start .args .rules .now) (start .args .tokens .now) (start .args .start)
-          (subst (Admits _ _ _ _ _) (c .before .before .before .before .before .before .before .before .before .enum-told .given .1) (c .before .before .before .before .before .before .before .before .before .before .before .admitted .ensures)) (c .before .before .before .before .before .before .before .walk-once .ensures) (c .enum-told2 .given .1),
-      c .before .before .before .before .write-list .ensures,
+          (subst (Admits _ _ _ _ _) (at-enum-told .enum-told .given .1) (at-admitted .admitted .ensures)) (at-walk-once .walk-once .ensures) (c .enum-told2 .given .1),
+      at-write-list .write-list .ensures,
     )
 
 returns-4 : tie.Need-returns-4
 returns-4 c =
-    let start = c .before .before .before .before .before .before .before .before .before .before .before .before .before .before .before .before .before in (
+    let at-write-list = c .before .before .before .before .before in
+    let at-walk-once = at-write-list .before .before .before in
+    let at-enum-told = at-walk-once .before .before in
+    let at-admitted = at-enum-told .before .before in
+    let start = at-admitted .before .before .before .before .before in (
       walk-success (start .args .reading) (start .args .nodes .now) (start .args .rules .now) (start .args .tokens .now) (start .args .start)
-          (subst (Admits _ _ _ _ _) (c .before .before .before .before .before .before .before .before .before .before .enum-told .given .1) (c .before .before .before .before .before .before .before .before .before .before .before .before .admitted .ensures)) (c .before .before .before .before .before .before .before .before .walk-once .ensures) (c .before .x .given .0 .0) (c .before .x .given .1),
-      c .before .before .before .before .before .write-list .ensures,
+          (subst (Admits _ _ _ _ _) (at-enum-told .enum-told .given .1) (at-admitted .admitted .ensures))
+          (at-walk-once .walk-once .ensures) (c .before .x .given .0 .0) (c .before .x .given .1),
+      at-write-list .write-list .ensures,
     )
 
 pub from-start-spec : {M : Type 1} → statement M

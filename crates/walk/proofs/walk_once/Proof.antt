@@ -14,15 +14,19 @@ expression-requires c κs =
 
 returns : tie.Need-returns
 returns c =
-    let start = c .before .before .before .before .before .before .before .before .before .before .before .before .before in
+    let at-expression = c .before .before .before .before in
+    let at-is-by-2014 = at-expression .before .before .before .before in
+    let start = at-is-by-2014 .before .before .before .before .before in
     whole-failed (start .args .reading) (start .args .nodes .now) (start .args .rules .now) (start .args .tokens .now) (start .args .start) (start .pre)
-    (c .before .before .before .before .before .before .before .before .is-by-2014 .ensures) (c .before .before .before .before .expression .ensures) (c .enum-told .given .1)
+    (at-is-by-2014 .is-by-2014 .ensures) (at-expression .expression .ensures) (c .enum-told .given .1)
 
 returns-2 : tie.Need-returns-2
 returns-2 c =
-    let start = c .before .before .before .before .before .before .before .before .before .before .before .before .before .before in
+    let at-expression = c .before .before .before .before .before in
+    let at-is-by-2014 = at-expression .before .before .before .before in
+    let start = at-is-by-2014 .before .before .before .before .before in
     whole-read (start .args .reading) (start .args .nodes .now) (start .args .rules .now) (start .args .tokens .now) (start .args .start) (start .pre)
-    (c .before .x .given .0 .0) (c .before .before .before .before .before .before .before .before .before .is-by-2014 .ensures) (c .before .before .before .before .before .expression .ensures) (c .before .x .given .1)
+    (c .before .x .given .0 .0) (at-is-by-2014 .is-by-2014 .ensures) (at-expression .expression .ensures) (c .before .x .given .1)
 
 pub walk-once-spec : {M : Type 1} → statement M
 walk-once-spec =

@@ -8,10 +8,15 @@ use Rattle.walk.proofs.states.entered.Tie as tie
 use Rattle.walk.proofs.LeafLaws.{child-indent, child-align, child-same}
 
 inner-requires : tie.Need-inner-requires
-inner-requires c κs = subst (λ (ρ : ℕ). highest (c .before .before .before .args .s .interval) + rise ρ < 2 ^ 32) (sym (c .in-force .ensures)) (c .before .before .before .pre)
+inner-requires c κs =
+    let start = c .before .before .before in
+    subst (λ (ρ : ℕ). highest (start .args .s .interval) + rise ρ < 2 ^ 32) (sym (c .in-force .ensures)) (start .pre)
 
 returns : tie.Need-returns
-returns c = child-indent _ _ (c .before .before .before .before .args .r) (c .before .before .before .before .args .s) _ (c .before .before .match .keys1) (c .before .in-force .ensures) (c .inner .ensures)
+returns c =
+    let at-match = c .before .before in
+    let start = at-match .before .before in
+    child-indent _ _ (start .args .r) (start .args .s) _ (at-match .match .keys1) (c .before .in-force .ensures) (c .inner .ensures)
 
 returns-2 : tie.Need-returns-2
 returns-2 c = child-align _ _ (c .before .before .args .r) (c .before .before .args .s) (c .match .keys2)
