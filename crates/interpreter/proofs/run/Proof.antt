@@ -5,17 +5,6 @@ use Rattle.interpreter.proofs.RunLaws.{told, run-refused, run-named, sh
 use Rattle.interpreter.proofs.run.Statement.{statement}
 use Rattle.interpreter.proofs.run.Tie as tie
 
-sub-read : tie.Need-sub-read
-sub-read c =
-    let at-w3 = c .before .before .before in
-    let at-from-start = at-w3 .before .before .before in
-    let start = at-from-start .before .before .before .before .before in
-    omega (
-      arith,
-      success-onward (start .args .reading) (start .args .nodes .now) (start .args .rules .now) (start .args .tokens .now) (start .args .start)
-          (at-w3 .w3 .given .0 .0) (shown _ _ _ _ _ (told _ _ _ _ _ (at-w3 .w3 .given .1) (at-from-start .from-start .ensures .0))),
-    )
-
 returns : tie.Need-returns
 returns c = (run-refused _ _ _ _ _ (told _ _ _ _ _ (c .before .w .given .1) (c .before .before .before .before .from-start .ensures .0)), tt)
 
@@ -36,6 +25,17 @@ returns-4 c =
     let start = at-from-start .before .before .before .before .before in
     answer-success (start .args .reading) (start .args .nodes .now) (start .args .rules .now) (start .args .tokens .now) (start .args .start)
     (at-w3 .w3 .given .0 .0) (shown _ _ _ _ _ (told _ _ _ _ _ (at-w3 .w3 .given .1) (at-from-start .from-start .ensures .0)))
+
+sub-read : tie.Need-sub-read
+sub-read c =
+    let at-w3 = c .before .before .before in
+    let at-from-start = at-w3 .before .before .before in
+    let start = at-from-start .before .before .before .before .before in
+    omega (
+      arith,
+      success-onward (start .args .reading) (start .args .nodes .now) (start .args .rules .now) (start .args .tokens .now) (start .args .start)
+          (at-w3 .w3 .given .0 .0) (shown _ _ _ _ _ (told _ _ _ _ _ (at-w3 .w3 .given .1) (at-from-start .from-start .ensures .0))),
+    )
 
 pub run-spec : {M : Type 1} → statement M
 run-spec =

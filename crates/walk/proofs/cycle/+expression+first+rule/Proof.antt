@@ -330,18 +330,18 @@ module _ (t : ℕ) where
       out-not-fails (turn-of first .loop .inv) (node-of first .first-node .ensures) (first .first .ensures) (x .given .0 .0) (x .given .1)
       (c .match4 .keys4)
 
-  expression-loop-less-4 : At expression-lts.Need-loop-less-4
-  expression-loop-less-4 c =
-      let x = c .before .before .x in
-      let first = c .before .before .before .before .before .before in
-      repeat-less (turn-of first .loop .inv) (node-of first .first-node .ensures) (first .first .ensures) (x .given .0 .0) (x .given .1)
-      (c .match4 .keys5)
-
   expression-loop-again-4 : At expression-lts.Need-loop-again-4
   expression-loop-again-4 c =
       let x = c .before .before .x in
       let first = c .before .before .before .before .before .before in
       repeat-again (turn-of first .loop .inv) (node-of first .first-node .ensures) (first .first .ensures) (x .given .0 .0) (x .given .1)
+      (c .match4 .keys5)
+
+  expression-loop-less-4 : At expression-lts.Need-loop-less-4
+  expression-loop-less-4 c =
+      let x = c .before .before .x in
+      let first = c .before .before .before .before .before .before in
+      repeat-less (turn-of first .loop .inv) (node-of first .first-node .ensures) (first .first .ensures) (x .given .0 .0) (x .given .1)
       (c .match4 .keys5)
 
   expression-same-length-9 : At expression-lts.Need-same-length-9
