@@ -575,6 +575,21 @@ reads_apart("keywords side by side", TWO, (3, b"ab"), (4, b"cd"), (1, b"abcd"), 
 NAMED = VERSION + keyword(b"loss") + rule(0, b"note") + rule(0, b":") + rule(0, b"loss") + TAIL
 reads_apart("names are no keywords", NAMED, (3, b"loss"), (1, b"note"), (1, b":"), (1, b"rule"))
 
+# Note 6: "200 keywords of 32 bytes that differ only in the last", and so in the middle and in the first. "It still says
+# yes exactly where all bytes are the same": what is nearly one of them is a word.
+for said, place in (("last", 31), ("middle", 16), ("first", 0)):
+    ALIKE = [b"k" * place + bytes([byte]) + b"k" * (31 - place) for byte in RUN[:200]]
+    ALIKE_FILE = with_keywords(*ALIKE)
+    scan_apart(f"200 keywords, {said} byte, all", ALIKE_FILE, *[(3 + k, text) for k, text in enumerate(ALIKE)])
+    reads_apart(f"200 keywords, {said} byte, some and near ones", ALIKE_FILE,
+                (3, ALIKE[0]), (202, ALIKE[199]), (102, ALIKE[99]),
+                (1, ALIKE[0][:-1]), (1, ALIKE[0][1:]), (1, ALIKE[199] + b"k"), (1, b"k" + ALIKE[199]),
+                (1, b"k" * place + bytes([RUN[200]]) + b"k" * (31 - place)),
+                (1, ALIKE[0][:8] + b"j" + ALIKE[0][9:]), (1, ALIKE[0][16:] + ALIKE[99][:16]), (1, ALIKE[0] + ALIKE[1]))
+    TEXT, TOKENS = laid(b" ", ((202, ALIKE[199]), (1, ALIKE[199][:-1]), (3, ALIKE[0])))
+    value(f"200 keywords, {said} byte", ALIKE_FILE, TEXT, *TOKENS, None)
+    refused(f"200 keywords, {said} byte, the last the first", 2, with_keywords(*ALIKE[:199], ALIKE[0]), b"k")
+
 # Files of every kind of node, the largest one, and one that is not well formed: 7 is not asked here.
 FULL = grammar_fields.file(EVERY_KIND[:10], 9, 1, (b"loss", b":"), ((9, b"report"), (3, b"line"), (0, b"loss")))
 LARGEST = grammar_fields.largest([(0, 0, 0, 0)] * 512)

@@ -98,6 +98,17 @@ fn spellings(count: usize) -> Vec<Vec<u8>> {
         .collect()
 }
 
+/// 200 spellings of 32 bytes that differ in the one at a place.
+fn alike(place: usize) -> Vec<Vec<u8>> {
+    let letters = (33..=255).filter(|byte| *byte != 127 && !b":,()[]=;%".contains(byte));
+    let one = |byte| {
+        (0..32)
+            .map(|i| if i == place { byte } else { b'k' })
+            .collect()
+    };
+    letters.take(200).map(one).collect()
+}
+
 /// A report of lines of eight words each and no more than 4,096 tokens.
 fn report(words: &[Vec<u8>]) -> Vec<u8> {
     let mut bytes = Vec::new();
@@ -145,6 +156,14 @@ fn scans() -> Result<(), String> {
         &file(&many, &[], &empty),
         &report(&many),
     )?;
+    for (said, place) in [("last", 31), ("middle", 16), ("first", 0)] {
+        let words = alike(place);
+        scan(
+            &format!("scan, 200 keywords, the {said} byte differs"),
+            &file(&words, &[], &empty),
+            &report(&words),
+        )?;
+    }
     scan(
         "scan, 3 keywords, an empty report",
         &file(&few, &[], &empty),

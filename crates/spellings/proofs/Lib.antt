@@ -1,2 +1,3 @@
 pub mod SpellingLaws
 pub mod KeyLaws
+pub mod KeysApart

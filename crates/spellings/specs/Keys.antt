@@ -1,13 +1,18 @@
 -- A number that spellings have in common if they are the same: a quick test that two differ. What `spellings::key`
 -- promises; no promise of the file reader or the scanner rests on this file.
-use Prim.Native.Nat.{ℕ, _+_, _-_, _*_, _%_}
+use Prim.Native.Nat.{ℕ, zero, suc, _+_, _*_, _^_, _%_}
 use mathlib.Core.List.{List}
-use lib.ListN.{length, getD}
+use lib.ListN.{getD}
 
--- The byte that is so many before the end.
-abbrev pub fromEnd : List ℕ → ℕ → ℕ
-fromEnd s k = getD s (length s - k) 0
+-- The sum of f over the numbers below n.
+unfoldable pub sum : ℕ → (ℕ → ℕ) → ℕ
+sum zero f = 0
+sum (suc n) f = sum n f + f n
 
--- Below 4,096: of the first byte, the last three and the length.
+-- What a byte counts, by its index.
+unfoldable pub weight : ℕ → ℕ
+weight i = 131 ^ i % 256
+
+-- Below 4,096: of the first 32 bytes, which are all that a spelling has, each by its weight; 0 past the end.
 unfoldable pub keyOf : List ℕ → ℕ
-keyOf s = (getD s 0 0 * 7 + fromEnd s 1 + fromEnd s 2 * 31 + fromEnd s 3 * 961 + length s % 64 * 17) % 4096
+keyOf s = sum 32 (λ i. getD s i 0 * weight i) % 4096

@@ -1,12 +1,12 @@
 // The rules of keywords and rule names: number 2.
 ghost use mathlib.Core.Path.{_≡_};
 ghost use mathlib.Core.Bool.{not, true, false};
-ghost use Prim.Native.Nat.{_<_, _-_};
+ghost use Prim.Native.Nat.{_<_, _-_, min};
 ghost use mathlib.Core.List.{[]};
 ghost use lib.ListN.{length, getD};
 ghost use Rattle.table.specs.Every.{every};
 ghost use Rattle.byte_class.specs.Bytes.{isSingle};
-ghost use Rattle.spellings.specs.Spellings.{spelled as isSpelled, singleAlone, sameBytes};
+ghost use Rattle.spellings.specs.Spellings.{visible, spelled as isSpelled, singleAlone, sameBytes};
 ghost use Rattle.spellings.specs.Spellings.{distinct as areDistinct, rightSpellings};
 ghost use Rattle.file_fields.specs.Offsets.{spellingsFrom};
 ghost use Rattle.spellings.specs.Keys.{keyOf};
@@ -19,17 +19,63 @@ use file_fields::spelling_at;
 // How many keys there are.
 pub const KEYS: usize = 4096;
 
+// What a byte counts in a key, by its index: powers of 131.
+const WEIGHTS: [u8; 32] = [
+    1,
+    131,
+    9,
+    155,
+    81,
+    115,
+    217,
+    11,
+    161,
+    99,
+    169,
+    123,
+    241,
+    83,
+    121,
+    235,
+    65,
+    67,
+    73,
+    91,
+    145,
+    51,
+    25,
+    203,
+    225,
+    35,
+    233,
+    59,
+    49,
+    19,
+    185,
+    171,
+];
+
 // The key of a spelling: spellings with different keys differ.
 pub fn key(s: &[u8]) -> usize
     ensures { λ r. ⌜ r ≡ keyOf (now (s .entry)) ⌝ }
     ensures { λ r. ⌜ r < 4096 ⌝ }
 {
-    let n = s.len();
-    let a = byte_in(s, 0) as usize;
-    let b = byte_in(s, before(n, 1)) as usize;
-    let c = byte_in(s, before(n, 2)) as usize;
-    let d = byte_in(s, before(n, 3)) as usize;
-    (a * 7 + b + c * 31 + d * 961 + n % 64 * 17) % KEYS
+    let weights = WEIGHTS;
+    let end = front(s.len());
+    let mut sum = 0u32;
+    let mut i = 0;
+    while i < end {
+        sum += s[i] as u32 * weights[i] as u32;
+        i += 1;
+    }
+    sum as usize % KEYS
+}
+
+// How many of n bytes a key is made of.
+fn front(n: usize) -> usize
+    ensures { λ r. ⌜ r ≡ min n 32 ⌝ }
+{
+    if n < 32 { n } else { 32 }
 }
 
 // An index k before n, 0 at least.
@@ -39,21 +85,26 @@ fn before(n: usize, k: usize) -> usize
     if n < k { 0 } else { n - k }
 }
 
-// Whether two spellings are the same, byte for byte.
+// Whether two spellings are the same: the lengths first, then the last bytes, then the rest. All of the rest is looked at,
+// so that a machine can compare many bytes at once.
 pub fn same(s: &[u8], t: &[u8]) -> bool
     ensures { λ r. ⌜ r ≡ sameBytes (now (s .entry)) (now (t .entry)) ⌝ }
 {
-    if s.len() != t.len() {
+    let n = s.len();
+    if n != t.len() {
         return false;
     }
+    let last = before(n, 1);
+    if byte_in(s, last) != byte_in(t, last) {
+        return false;
+    }
+    let mut equal = true;
     let mut i = 0;
-    while i < s.len() {
-        if s[i] != t[i] {
-            return false;
-        }
+    while i < last {
+        equal = equal & (s[i] == t[i]);
         i += 1;
     }
-    true
+    equal
 }
 
 // 1 to 32 bytes, each of them visible.
@@ -66,17 +117,19 @@ fn spelled(s: &[u8]) -> bool
     if s.len() > 32 {
         return false;
     }
+    let mut right = true;
     let mut i = 0;
     while i < s.len() {
-        if s[i] <= 32 {
-            return false;
-        }
-        if s[i] == 127 {
-            return false;
-        }
+        right = right & is_visible(s[i]);
         i += 1;
     }
-    true
+    right
+}
+
+fn is_visible(b: u8) -> bool
+    ensures { λ r. ⌜ r ≡ visible b ⌝ }
+{
+    !((b <= 32) | (b == 127))
 }
 
 // None of the bytes is a single byte, or there is one byte only.
@@ -86,14 +139,13 @@ fn single_alone(s: &[u8]) -> bool
     if s.len() == 1 {
         return true;
     }
+    let mut none = true;
     let mut i = 0;
     while i < s.len() {
-        if is_single(s[i]) {
-            return false;
-        }
+        none = none & !is_single(s[i]);
         i += 1;
     }
-    true
+    none
 }
 
 fn is_single(b: u8) -> bool
