@@ -1,7 +1,7 @@
 #!/usr/bin/env python3
 """Times of two builds on grammars with 200 keywords of 32 bytes that differ in one byte only, both in turn.
 
-    python3 trials/keywords.py BEFORE AFTER
+    python3 trials/keywords.py BEFORE AFTER [ROUNDS]
 
 BEFORE and AFTER are folders of this repository, in each of which these have been run:
 
@@ -9,8 +9,8 @@ BEFORE and AFTER are folders of this repository, in each of which these have bee
 
 The keywords differ in the last byte, in the one in the middle or in the first. A scan is of a report with these keywords,
 eight a line, that fills 64,000 bytes, through the C interface. A step is one of a scanner's value, on a report that has
-each keyword once: the program `scanner_cases` takes all of them, many times over. Both builds must give the same tokens.
-Each figure is the median of the rounds, in microseconds.
+each keyword once, in 25 lines: the program `scanner_cases` takes its 225 steps, 40 times a round. Both builds must give
+the same tokens. Each figure is the median of the rounds, 21 if nothing is said, in microseconds.
 """
 
 import ctypes
@@ -29,9 +29,11 @@ sys.path.insert(0, str(ROOT / "cases"))
 from grammar_fields import NINE, with_keywords  # noqa: E402
 from records import Pairs, wide  # noqa: E402
 
+COMMAND = "rt check scanner_cases && rt staticlib saktroum"
+BUILT = ("bin/scanner_cases", "staticlib/libsaktroum.a")
 COUNT, LENGTH, LINE = 200, 32, 8
 PLACES = (("last", LENGTH - 1), ("middle", LENGTH // 2), ("first", 0))
-ROUNDS, SCANS, WALKS = 21, 50, 40
+SCANS, WALKS = 50, 40  # in a round
 RUN = [byte for byte in range(33, 256) if byte != 127 and byte not in NINE]
 
 
@@ -50,6 +52,7 @@ def report(spellings, room):
 
 
 def once(work):
+    """The seconds that some work takes."""
     begin = time.perf_counter()
     work()
     return time.perf_counter() - begin
@@ -59,10 +62,13 @@ class Build:
     """One build of the reader."""
 
     def __init__(self, folder, work):
-        self.program = (folder / "target/bin/scanner_cases").resolve()
+        self.program, archive = ((folder / "target" / built).resolve() for built in BUILT)
+        for path in (self.program, archive):
+            if not path.exists():
+                sys.exit(f"{path} is not there: run `{COMMAND}` in {folder}")
         shared = work / "reader.so"
-        archive = ["-Wl,--whole-archive", folder / "target/staticlib/libsaktroum.a", "-Wl,--no-whole-archive"]
-        subprocess.run(["gcc", "-shared", "-o", shared, *archive], check=True)
+        whole = ["-Wl,--whole-archive", archive, "-Wl,--no-whole-archive"]
+        subprocess.run(["gcc", "-shared", "-o", shared, *whole], check=True)
         self.scan_of = ctypes.CDLL(str(shared)).saktroum_scan
         self.scan_of.restype = c_uint32
 
@@ -96,34 +102,35 @@ def walks(folder, file, text, last):
     (folder / "cases").write_bytes(b"".join(records))
 
 
-def compared(name, before, after, calls):
-    """The medians of both, in turn."""
+def compared(name, before, after, calls, rounds):
+    """Prints the medians of both, taken in turn."""
     (one, said), (two, same) = before, after
     if said != same:
         sys.exit(f"{name}: the two builds differ")
-    times = [(once(one), once(two)) for _ in range(ROUNDS)]
+    times = [(once(one), once(two)) for _ in range(rounds)]
     old, new = (statistics.median(side) / calls * 1e6 for side in zip(*times))
     print(f"| {name} | {old:.1f} | {new:.1f} | {new / old:.2f} |", flush=True)
 
 
 def main():
-    if len(sys.argv) != 3:
-        sys.exit(__doc__.split("\n\n")[1].strip())
+    if len(sys.argv) not in (3, 4):
+        sys.exit("usage: " + __doc__.split("\n\n")[1].strip())
+    rounds = int(sys.argv[3]) if len(sys.argv) == 4 else 21
     with tempfile.TemporaryDirectory() as name:
         work = pathlib.Path(name)
         builds = []
-        for number, folder in enumerate(sys.argv[1:]):
+        for number, folder in enumerate(sys.argv[1:3]):
             (work / str(number)).mkdir()
             builds.append(Build(pathlib.Path(folder), work / str(number)))
         print("| work | before, µs | after, µs | ratio |\n|---|---|---|---|")
         for said, place in PLACES:
             spellings = keywords(place)
             file, long, short = with_keywords(*spellings), report(spellings, 64000), report(spellings, 6600)
-            compared(f"scan, {said} byte", *(build.scans(file, long) for build in builds), SCANS)
+            compared(f"scan, {said} byte", *(build.scans(file, long) for build in builds), SCANS, rounds)
             words = builds[0].scans(file, short)[1]
             steps = len(words) // 4
             walks(work / said, file, short, steps - 1)
-            compared(f"step, {said} byte", *(build.steps(work / said) for build in builds), WALKS * steps)
+            compared(f"step, {said} byte", *(build.steps(work / said) for build in builds), WALKS * steps, rounds)
 
 
 if __name__ == "__main__":
