@@ -2,8 +2,8 @@
 
 use std::fmt::Debug;
 use trials::generate::{
-    file_input, report_input, run_input, run_input_by_2014, shown_input, write_input, FileInput,
-    ReportInput, Rng, RunInput, ShownInput, Stats, WriteInput,
+    file_input, report_input, run_input, run_input_by_2014, shown_input, spellings, write_input,
+    FileInput, ReportInput, Rng, RunInput, ShownInput, Spellings, Stats, WriteInput,
 };
 use trials::ours::{self, Odd};
 use trials::second::{self, sets, FileRead, Listed, Ran, Reading, Shown};
@@ -106,7 +106,7 @@ fn compare_files(seed: u64, files: u64, stats: &mut Stats) -> Result<(), String>
     for i in 0..files {
         let input = file_input(&mut rng);
         let read = file_once(&input).map_err(|what| format!("seed {seed}, file {i}: {what}"))?;
-        stats.note_file(&read);
+        stats.note_file(&input, &read);
     }
     println!("seed {seed}: {files} files, no difference");
     Ok(())
@@ -305,13 +305,20 @@ fn names_once(file: &[u8]) -> Result<(), String> {
 /// checks the whole file.
 fn has_names(file: &[u8], (keywords, names): &Spellings, chosen: Chosen) -> Result<(), String> {
     let bytes = || format!("file {file:?}");
+    let (mut text, mut terminals) = (Vec::new(), Vec::new());
     for (k, word) in chosen(keywords) {
         same("a keyword", ours::keyword(file, k), word.to_vec(), bytes)?;
         if !word.is_empty() {
-            // By itself the keyword is a token, whose terminal is 3 and the keyword's number.
-            let token = second::scan(file, word, 8).ok().map(|words| words[0]);
-            same("a keyword's token", Ok(Some(3 + k as u32)), token, bytes)?;
+            text.extend([word, b" "].concat());
+            terminals.push(3 + k as u32);
         }
+    }
+    if !text.is_empty() {
+        // By itself a keyword is a token, whose terminal is 3 and the keyword's number; the line's end is the last.
+        terminals.push(2);
+        let tokens = second::scan(file, &text, 4 * terminals.len()).unwrap_or_default();
+        let scanned = tokens.as_chunks::<4>().0.iter().map(|token| token[0]);
+        same("keywords' tokens", Ok(terminals), scanned.collect(), bytes)?;
     }
     for (r, word) in chosen(names) {
         same(
@@ -327,12 +334,13 @@ fn has_names(file: &[u8], (keywords, names): &Spellings, chosen: Chosen) -> Resu
 /// Words of a list with their numbers, and numbers behind the last with no bytes.
 type Chosen = for<'f> fn(&[&'f [u8]]) -> Vec<(usize, &'f [u8])>;
 
-/// Of a list every word up to so many, each so-many-th, and the last.
+/// Of a list at most so many words, spread over it, and the last.
 const LISTED: usize = 8;
 
 /// Words with their numbers, and two numbers behind the last with no bytes.
 fn listed<'f>(words: &[&'f [u8]]) -> Vec<(usize, &'f [u8])> {
-    let taken = |i: usize| i < LISTED || i.is_multiple_of(LISTED) || i + 1 == words.len();
+    let each = words.len().div_ceil(LISTED).max(1);
+    let taken = |i: usize| i.is_multiple_of(each) || i + 1 == words.len();
     let inside = words.iter().copied().enumerate().filter(|(i, _)| taken(*i));
     let behind = [words.len(), usize::MAX].map(|i| (i, &[][..]));
     inside.chain(behind).collect()
@@ -343,25 +351,6 @@ fn few<'f>(words: &[&'f [u8]]) -> Vec<(usize, &'f [u8])> {
     let all = words.iter().copied().enumerate();
     let inside = all.filter(|(i, _)| *i == 0 || i + 1 == words.len());
     inside.chain([(words.len(), &[][..])]).collect()
-}
-
-/// Keywords and rule names.
-type Spellings<'f> = (Vec<&'f [u8]>, Vec<&'f [u8]>);
-
-/// The keywords and rule names of a file whose fields are right: the values of tag 2, and of tag 3 behind two bytes.
-fn spellings(file: &[u8]) -> Spellings<'_> {
-    let (mut keywords, mut names) = (Vec::new(), Vec::new());
-    let mut rest = file;
-    while let [tag, high, low, after @ ..] = rest {
-        let (value, behind) = after.split_at(usize::from(u16::from_be_bytes([*high, *low])));
-        match tag {
-            2 => keywords.push(value),
-            3 => names.push(&value[2..]),
-            _ => {}
-        }
-        rest = behind;
-    }
-    (keywords, names)
 }
 
 /// The scanner, and the program's line where its run takes few steps: whether it does.

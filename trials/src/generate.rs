@@ -4,13 +4,14 @@
 mod files;
 mod grammars;
 mod letters;
+mod makers;
 mod reports;
 mod runs;
 mod shown;
 mod stats;
 mod writes;
 
-pub use files::{file_input, FileInput};
+pub use files::{file_input, spellings, FileInput, Spellings};
 pub use reports::{report_input, ReportInput};
 pub use runs::{run_input, run_input_by_2014, RunInput};
 pub use shown::{shown_input, ShownInput};

@@ -171,7 +171,7 @@ fn files_of_every_answer() {
                 Verdict::Refused(_)
             ));
         }
-        stats.note_file(&answer);
+        stats.note_file(&input, &answer);
     }
     println!("{stats}");
     assert!(stats.share("file", "read") > 33.4);
@@ -181,7 +181,30 @@ fn files_of_every_answer() {
             "{number}"
         );
     }
+    for (class, least) in [
+        ("read, 200 keywords or more, most alike", 0.3),
+        ("read, fewer keywords, most alike", 0.8),
+        ("read, most names alike", 0.8),
+        ("refused 2, a keyword twice, far apart", 0.3),
+        ("refused 2, a name twice, far apart", 0.1),
+    ] {
+        assert!(stats.share("file", class) > least, "{class}");
+    }
+    for what in NEARLY {
+        let class = format!("read, two keywords alike but for {what}");
+        assert!(stats.share("file", &class) > 0.3, "{what}");
+    }
 }
+
+/// In what spellings differ that are nearly the same.
+const NEARLY: [&str; 6] = [
+    "the last byte",
+    "the first byte",
+    "a byte between",
+    "a byte behind",
+    "a byte ahead",
+    "the order of two bytes",
+];
 
 #[test]
 fn reports_of_every_answer() {
@@ -205,8 +228,13 @@ fn reports_of_every_answer() {
         ("a whole letter outside ASCII", 30.0),
         ("damaged UTF-8", 30.0),
         ("scanned, a keyword outside ASCII", 10.0),
+        ("scanned, two keywords alike", 1.0),
     ] {
         assert!(stats.share("report", class) > least, "{class}");
+    }
+    for what in NEARLY {
+        let class = format!("scanned, a keyword but for {what}");
+        assert!(stats.share("report", &class) > 0.5, "{what}");
     }
 }
 

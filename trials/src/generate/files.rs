@@ -2,10 +2,12 @@
 
 use super::grammars::{self, Grammar, LAST};
 use super::letters::{damaged, letter};
+use super::makers::{alike, change};
 use super::Rng;
 use crate::second::kind::{INDENT, POSITION};
 use crate::second::relation::{ANY, COUNT, EQUAL};
 use crate::second::{read, Reading};
+use std::collections::BTreeSet;
 
 /// A file and the lengths, in words, of the two lent slices.
 #[derive(Debug, Clone, PartialEq, Eq)]
@@ -19,6 +21,8 @@ pub struct FileInput {
 #[derive(Debug, Clone)]
 pub(super) struct Source {
     pub keywords: Vec<Vec<u8>>,
+    /// Whether its keywords are one maker's, nearly the same.
+    pub alike: bool,
     pub names: Vec<Vec<u8>>,
     pub grammar: Grammar,
     pub start: u16,
@@ -31,7 +35,8 @@ type Field = (u8, Vec<u8>);
 pub fn file_input(rng: &mut Rng) -> FileInput {
     let file = match rng.below(100) {
         0..=44 => bytes(&fields(&source(rng))),
-        45..=69 => damaged_fields(rng),
+        45..=68 => damaged_fields(rng),
+        69 => doubled(rng),
         70..=89 => damaged_bytes(rng),
         _ => limits(rng),
     };
@@ -61,12 +66,13 @@ pub fn file_input(rng: &mut Rng) -> FileInput {
 
 /// A grammar within all limits, mostly well formed.
 pub(super) fn source(rng: &mut Rng) -> Source {
-    let count = match rng.below(20) {
-        0 => *rng.pick(&[200, 252, 253]),
-        1..=3 => rng.between(8, 40),
-        _ => rng.below(6),
+    let alike = rng.below(12) == 0;
+    let keywords = if alike {
+        makers_keywords(rng)
+    } else {
+        any_keywords(rng)
     };
-    let keywords = distinct(rng, count, keyword);
+    let count = keywords.len();
     // Number, word, line end, and some of the keywords.
     let mut alphabet = vec![0, 1, 2];
     for _ in 0..count.min(4) {
@@ -76,7 +82,7 @@ pub(super) fn source(rng: &mut Rng) -> Source {
     if rng.chance(4) {
         grammars::spoil(rng, &mut grammar);
     }
-    let names = distinct(rng, grammar.rules.len(), name);
+    let names = names(rng, grammar.rules.len());
     let nodes = grammar.nodes.len();
     let start = if rng.chance(60) {
         nodes - 1
@@ -86,6 +92,7 @@ pub(super) fn source(rng: &mut Rng) -> Source {
     let mode = grammar.relation(rng) as u8;
     Source {
         keywords,
+        alike,
         names,
         grammar,
         start: start as u16,
@@ -93,11 +100,42 @@ pub(super) fn source(rng: &mut Rng) -> Source {
     }
 }
 
+/// Keywords of all sorts.
+fn any_keywords(rng: &mut Rng) -> Vec<Vec<u8>> {
+    let count = match rng.below(40) {
+        0 => *rng.pick(&[200, 252, 253]),
+        1..=6 => rng.between(8, 40),
+        _ => rng.below(6),
+    };
+    distinct(rng, count, keyword)
+}
+
+/// The keywords of one maker, often 200 or more.
+fn makers_keywords(rng: &mut Rng) -> Vec<Vec<u8>> {
+    let count = match rng.below(10) {
+        0 | 1 => 200,
+        2 => rng.between(200, 253),
+        3 => rng.between(2, 253),
+        _ => rng.between(2, 40),
+    };
+    alike(rng, count, false)
+}
+
+/// So many rule names, now and then nearly the same.
+fn names(rng: &mut Rng, count: usize) -> Vec<Vec<u8>> {
+    if rng.below(12) == 0 {
+        alike(rng, count, true)
+    } else {
+        distinct(rng, count, name)
+    }
+}
+
 pub(super) fn distinct(rng: &mut Rng, count: usize, word: fn(&mut Rng) -> Vec<u8>) -> Vec<Vec<u8>> {
     let mut words: Vec<Vec<u8>> = Vec::new();
+    let mut met = BTreeSet::new();
     while words.len() < count {
         let next = word(rng);
-        if !words.contains(&next) {
+        if met.insert(next.clone()) {
             words.push(next);
         }
     }
@@ -180,10 +218,40 @@ pub(super) fn bytes(fields: &[Field]) -> Vec<u8> {
     bytes
 }
 
+/// Keywords and rule names.
+pub type Spellings<'f> = (Vec<&'f [u8]>, Vec<&'f [u8]>);
+
+/// The keywords and rule names of a file whose fields are right: the values of tag 2, and of
+/// tag 3 behind two bytes.
+pub fn spellings(file: &[u8]) -> Spellings<'_> {
+    let (mut keywords, mut names) = (Vec::new(), Vec::new());
+    let mut rest = file;
+    while let [tag, high, low, after @ ..] = rest {
+        let (value, behind) = after.split_at(usize::from(u16::from_be_bytes([*high, *low])));
+        match tag {
+            2 => keywords.push(value),
+            3 => names.push(&value[2..]),
+            _ => {}
+        }
+        rest = behind;
+    }
+    (keywords, names)
+}
+
 /// A file with whole fields gone wrong, mostly one.
 fn damaged_fields(rng: &mut Rng) -> Vec<u8> {
     let fields = fields(&source(rng));
     with_damage(rng, fields)
+}
+
+/// The file of a maker's lists with a spelling that is there twice, or nearly.
+fn doubled(rng: &mut Rng) -> Vec<u8> {
+    let mut source = source(rng);
+    source.keywords = makers_keywords(rng);
+    source.names = alike(rng, source.names.len(), true);
+    let mut fields = fields(&source);
+    double(rng, &mut fields);
+    bytes(&fields)
 }
 
 /// The file of fields that go wrong, mostly one.
@@ -207,7 +275,7 @@ fn damage(rng: &mut Rng, fields: &mut Vec<Field>) {
         .iter()
         .rposition(|field| field.0 == wanted)
         .unwrap_or(at);
-    match rng.below(12) {
+    match rng.below(13) {
         0 => {
             let twice = fields[chosen].clone();
             fields.insert(at, twice);
@@ -242,6 +310,7 @@ fn damage(rng: &mut Rng, fields: &mut Vec<Field>) {
             word.insert(rng.below(3), bad);
             insert(fields, tag, [node, word].concat());
         }
+        10 => double(rng, fields),
         // A byte of a value.
         _ => {
             let value = &mut fields[chosen].1;
@@ -256,6 +325,38 @@ fn damage(rng: &mut Rng, fields: &mut Vec<Field>) {
             }
         }
     }
+}
+
+/// Makes a keyword or a name the same as another one, often far from it, or the same but for
+/// a byte.
+fn double(rng: &mut Rng, fields: &mut [Field]) {
+    let tag = *rng.pick(&[2, 2, 3]);
+    let places: Vec<usize> = (0..fields.len()).filter(|&i| fields[i].0 == tag).collect();
+    let count = places.len();
+    if count < 2 {
+        return;
+    }
+    // In the first and the last quarter, or anywhere.
+    let (mut one, mut two) = if rng.chance(60) {
+        let quarter = count.div_ceil(4);
+        (rng.below(quarter), count - 1 - rng.below(quarter))
+    } else {
+        let one = rng.below(count);
+        (one, (one + rng.between(1, count - 1)) % count)
+    };
+    if rng.chance(50) {
+        (one, two) = (two, one);
+    }
+    // A name stands behind its node.
+    let ahead = if tag == 3 { 2 } else { 0 };
+    let word = fields[places[one]].1.get(ahead..);
+    let mut word = word.unwrap_or_default().to_vec();
+    if rng.chance(50) && !word.is_empty() {
+        change(rng, &mut word);
+    }
+    let value = &mut fields[places[two]].1;
+    value.truncate(ahead);
+    value.extend(word);
 }
 
 /// Puts a field in order, behind those of its tag.

@@ -3,6 +3,7 @@
 use super::files::{bytes, fields, file_input, source, Source, SINGLES};
 use super::grammars::Walk;
 use super::letters::{advance, cut, is_continuation, Letters};
+use super::makers::miss;
 use super::Rng;
 use crate::second::run::{Interval, State};
 use crate::second::{scan, Reading};
@@ -20,13 +21,14 @@ pub fn report_input(rng: &mut Rng) -> ReportInput {
     let source = source(rng);
     let letters = Letters::any(rng);
     let mut report = match rng.below(100) {
-        0..=49 => {
+        // Of a maker's keywords a walk reads few.
+        0..=49 if !source.alike || rng.chance(40) => {
             // Some tries to come by a report that is not short.
             let walks = (0..3).map(|_| walked(rng, &source));
             let tokens = walks.max_by_key(Vec::len).unwrap_or_default();
             rendered(rng, &source, letters, &tokens)
         }
-        50..=87 => pieces(rng, &source, letters),
+        0..=87 => pieces(rng, &source, letters),
         _ if letters == Letters::None => limits(rng, &source),
         _ => letter_limits(rng, &source, letters),
     };
@@ -61,6 +63,7 @@ fn spelling(rng: &mut Rng, source: &Source, letters: Letters, terminal: u32) -> 
             .pick(&["0", "17", "-4", "0.03", "-12.500", "007"])
             .as_bytes()
             .to_vec(),
+        1 if source.alike && rng.chance(80) => no_keyword(rng, source, letters),
         1 => word(rng, letters),
         2 => Vec::new(),
         _ => source
@@ -178,25 +181,11 @@ fn pieces(rng: &mut Rng, source: &Source, letters: Letters) -> Vec<u8> {
     let count = match rng.below(20) {
         0 => rng.between(200, 1_500),
         1..=4 => rng.between(20, 80),
+        _ if source.alike => rng.between(8, 30),
         _ => rng.below(16),
     };
     for _ in 0..count {
-        match rng.below(20) {
-            0..=3 => report.extend(spelling(rng, source, letters, 0)),
-            4..=6 => report.extend(spelling(rng, source, letters, 1)),
-            7..=10 if !source.keywords.is_empty() => {
-                report.extend(near_keyword(rng, source, letters));
-            }
-            11 => report.push(*rng.pick(SINGLES)),
-            12 => {
-                report.push(*rng.pick(SINGLES));
-                report.extend(letters.piece(rng));
-            }
-            13 => report.extend(letters.piece(rng)),
-            14 => report.push(rng.between(33, 126) as u8),
-            15 => report.extend(vec![b'w'; rng.between(30, 40)]),
-            _ => {}
-        }
+        report.extend(piece(rng, source, letters));
         match rng.below(20) {
             0..=8 => report.extend(vec![b' '; rng.between(1, 4)]),
             9 | 10 => report.push(b'\t'),
@@ -213,10 +202,31 @@ fn pieces(rng: &mut Rng, source: &Source, letters: Letters) -> Vec<u8> {
     report
 }
 
-/// A keyword, or nearly one.
+/// Of a maker's keywords mostly one or nearly one, else anything.
+fn piece(rng: &mut Rng, source: &Source, letters: Letters) -> Vec<u8> {
+    if source.alike && rng.chance(75) {
+        return near_keyword(rng, source, letters);
+    }
+    match rng.below(20) {
+        0..=3 => spelling(rng, source, letters, 0),
+        4..=6 => spelling(rng, source, letters, 1),
+        7..=10 if !source.keywords.is_empty() => near_keyword(rng, source, letters),
+        11 => vec![*rng.pick(SINGLES)],
+        12 => [vec![*rng.pick(SINGLES)], letters.piece(rng)].concat(),
+        13 => letters.piece(rng),
+        14 => vec![rng.between(33, 126) as u8],
+        15 => vec![b'w'; rng.between(30, 40)],
+        _ => Vec::new(),
+    }
+}
+
+/// A keyword, or nearly one: of a maker's more often the latter.
 fn near_keyword(rng: &mut Rng, source: &Source, letters: Letters) -> Vec<u8> {
     let mut word = rng.pick(&source.keywords).clone();
-    if rng.chance(15) {
+    if rng.chance(if source.alike { 60 } else { 10 }) {
+        let other = rng.pick(&source.keywords);
+        miss(rng, &mut word, other);
+    } else if rng.chance(15) {
         word.pop();
     } else if rng.chance(10) {
         word.push(b'x');
@@ -224,6 +234,16 @@ fn near_keyword(rng: &mut Rng, source: &Source, letters: Letters) -> Vec<u8> {
         word.extend(letters.piece(rng));
     }
     word
+}
+
+/// Nearly a keyword, but none: else a word.
+fn no_keyword(rng: &mut Rng, source: &Source, letters: Letters) -> Vec<u8> {
+    let near = near_keyword(rng, source, letters);
+    if near.is_empty() || source.keywords.contains(&near) {
+        word(rng, letters)
+    } else {
+        near
+    }
 }
 
 /// Puts letters or damage into a report, at places of all kinds.

@@ -1,12 +1,12 @@
 //! How often each class of answer occurs.
 
-use super::{ReportInput, RunInput, ShownInput, WriteInput};
+use super::{spellings, FileInput, ReportInput, RunInput, ShownInput, WriteInput};
 use crate::second::kind::*;
 use crate::second::relation::{ANY, COUNT, EQUAL};
 use crate::second::run::{Interval, State};
 use crate::second::Reading::{self, By2014, By2017};
 use crate::second::{check, read, FileRead, Listed, Ran, Shown, Verdict, MOST_COLUMN};
-use std::collections::BTreeMap;
+use std::collections::{BTreeMap, BTreeSet};
 use std::fmt;
 
 /// Counts by part and class of answer.
@@ -185,14 +185,56 @@ impl Stats {
         self.note("shown", class);
     }
 
-    /// Notes a file reader's answer.
-    pub fn note_file(&mut self, answer: &Result<FileRead, u8>) {
+    /// Notes a file reader's answer, and what spellings of the file are nearly the same.
+    pub fn note_file(&mut self, input: &FileInput, answer: &Result<FileRead, u8>) {
         *self.totals.entry("file").or_default() += 1;
         let class = match answer {
-            Ok(_) => "read".to_string(),
-            Err(number) => format!("refused {number}"),
+            Ok(_) => {
+                self.note_alike(&input.file);
+                "read".to_string()
+            }
+            Err(number) => {
+                if *number == 2 {
+                    self.note_twice(&input.file);
+                }
+                format!("refused {number}")
+            }
         };
         self.note("file", class);
+    }
+
+    /// Notes of a file that is read what neighbours in its lists are nearly the same.
+    fn note_alike(&mut self, file: &[u8]) {
+        let (keywords, names) = spellings(file);
+        let near = |words: &[&[u8]]| -> Vec<_> {
+            let pairs = words.windows(2);
+            pairs.filter_map(|pair| nearly(pair[0], pair[1])).collect()
+        };
+        let (alike, alike_names) = (near(&keywords), near(&names));
+        for what in BTreeSet::from_iter(&alike) {
+            self.note("file", format!("read, two keywords alike but for {what}"));
+        }
+        let most = 2 * alike.len() > keywords.len();
+        for (holds, class) in [
+            (most && keywords.len() >= 200, "200 keywords or more, most"),
+            (most && keywords.len() < 200, "fewer keywords, most"),
+            (2 * alike_names.len() > names.len(), "most names"),
+        ] {
+            if holds {
+                self.note("file", format!("read, {class} alike"));
+            }
+        }
+    }
+
+    /// Notes of a file that 2 refuses whether a spelling is there twice, not side by side.
+    fn note_twice(&mut self, file: &[u8]) {
+        let (keywords, names) = spellings(file);
+        for (words, class) in [(keywords, "a keyword"), (names, "a name")] {
+            let twice = BTreeSet::from_iter(&words).len() < words.len();
+            if twice && words.windows(2).all(|pair| pair[0] != pair[1]) {
+                self.note("file", format!("refused 2, {class} twice, far apart"));
+            }
+        }
     }
 
     /// Notes a writer's answer: the written file, or a number.
@@ -264,12 +306,40 @@ impl Stats {
                 self.note("report", class.to_string());
             }
         }
+        self.note_misses(input, tokens);
         let class = match answer {
             Ok(tokens) if tokens.len() < 8 => "scanned, under 2 tokens".to_string(),
             Ok(_) => "scanned, 2 or more tokens".to_string(),
             Err(number) => format!("refused {number}"),
         };
         self.note("report", class);
+    }
+
+    /// Notes among a report's first tokens those that are nearly a keyword, and whether two
+    /// are keywords that are nearly the same.
+    fn note_misses(&mut self, input: &ReportInput, tokens: &[u32]) {
+        if tokens.is_empty() {
+            return;
+        }
+        let (keywords, _) = spellings(&input.file);
+        let (mut near, mut met) = (BTreeSet::new(), Vec::new());
+        for &[terminal, _, offset, length] in tokens.as_chunks::<4>().0.iter().take(LOOKED_AT) {
+            let word = &input.report[offset as usize..][..length as usize];
+            if terminal > 2 {
+                met.push(word);
+            } else {
+                near.extend(keywords.iter().find_map(|keyword| nearly(keyword, word)));
+            }
+        }
+        for what in near {
+            self.note("report", format!("scanned, a keyword but for {what}"));
+        }
+        if met
+            .windows(2)
+            .any(|pair| nearly(pair[0], pair[1]).is_some())
+        {
+            self.note("report", "scanned, two keywords alike".to_string());
+        }
     }
 
     /// Notes a program's line, by its first word and a refusal's number.
@@ -359,6 +429,37 @@ fn keyword_outside_ascii(report: &[u8], tokens: &[u32]) -> bool {
     tokens.iter().any(|&[terminal, _, offset, length]| {
         terminal >= 3 && !report[offset as usize..][..length as usize].is_ascii()
     })
+}
+
+/// The tokens of a report that are held against every keyword.
+const LOOKED_AT: usize = 12;
+
+/// In what two spellings of four bytes or more differ that are nearly the same.
+fn nearly(one: &[u8], two: &[u8]) -> Option<&'static str> {
+    let (short, long) = match one.len() < two.len() {
+        true => (one, two),
+        false => (two, one),
+    };
+    if short.len() < 4 || long.len() > short.len() + 1 {
+        return None;
+    }
+    if long.len() > short.len() {
+        return match (long.starts_with(short), long.ends_with(short)) {
+            (true, _) => Some("a byte behind"),
+            (_, true) => Some("a byte ahead"),
+            _ => None,
+        };
+    }
+    let mut places = (0..one.len()).filter(|&at| one[at] != two[at]);
+    match (places.next()?, places.next(), places.next()) {
+        (at, None, _) if at + 1 == one.len() => Some("the last byte"),
+        (0, None, _) => Some("the first byte"),
+        (_, None, _) => Some("a byte between"),
+        (at, Some(next), None) if one[at] == two[next] && one[next] == two[at] => {
+            Some("the order of two bytes")
+        }
+        _ => None,
+    }
 }
 
 /// Why a capture's text is not there.
