@@ -59,6 +59,14 @@ def with_names(*names):
 
 # The nine bytes that are tokens by themselves (01, "The scanner").
 NINE = b":,()[]=;%"
+# Those that stand in longer tokens, and so in keywords of any length.
+RUN = [byte for byte in range(33, 256) if byte != 127 and byte not in NINE]
+
+
+def alike(place):
+    """200 keywords of 32 bytes that differ in the one at a place only (02, Note 6)."""
+    return [b"k" * place + bytes([byte]) + b"k" * (31 - place) for byte in RUN[:200]]
+
 
 # Twelve nodes, every kind among them; with three rules they pass the checks of a table.
 EVERY_KIND = [

@@ -9,7 +9,7 @@ grammar file, scans a report or runs a grammar.
 import grammar_fields
 from expressions import LETTERS, RELATIONS, SCANNED, Table, numbered, written, written_rules
 from grammar_fields import EMPTY as EMPTY_FIELD
-from grammar_fields import NINE, START, TAIL, VERSION, field, keyword, node, rule, start, with_keywords, with_names
+from grammar_fields import NINE, RUN, START, TAIL, VERSION, field, keyword, node, rule, start, with_keywords, with_names
 from records import Cases, Pairs, spaced
 from table_nodes import ANY, AT_LEAST, EMPTY, EQUAL, GREATER
 from table_nodes import align, choice, indent, not_, over, position, repeat, sequence, terminal
@@ -587,10 +587,9 @@ case("nine single bytes as keywords",
 case("single bytes inside words", grammar("word*", ANY, ()), b"a:b,c(d)e[f]g=h;i%j", success(19, 0, "inf"))
 # "other tokens are longest runs of the remaining bytes": 94 from 33 to 126 less nine, and 128 from 128 on. Note 3 of 02: "A
 # byte from 128 to 191 no longer advances the column", so 64 of these 213 do not.
-RUN = bytes(b for b in range(33, 256) if b != 127 and b not in NINE)
 # The line's end "at the column and offset of the break or the end", in mode equal.
 END_COLUMN = [WORD, EOL, position(0, ANY), sequence(2, 1)]
-case("one run of all other bytes", grammar(END_COLUMN, EQUAL, ()), RUN, success(2, 149, 149))
+case("one run of all other bytes", grammar(END_COLUMN, EQUAL, ()), bytes(RUN), success(2, 149, 149))
 case("keyword at the front of a run", grammar("a", ANY, LOSS), b"lossy", FAILURE)
 case("keyword at the end of a run", grammar("a", ANY, LOSS), b"-loss", FAILURE)
 case("keyword before a full stop", grammar("a", ANY, LOSS), b"loss.", FAILURE)

@@ -10,8 +10,8 @@ import itertools
 
 import faults
 import grammar_fields
-from grammar_fields import EMPTY, EVERY_KIND, NINE, START, TAIL, VERSION
-from grammar_fields import field, keyword, node, rule, start, with_keywords, with_names
+from grammar_fields import EMPTY, EVERY_KIND, NINE, RUN, START, TAIL, VERSION
+from grammar_fields import alike, field, keyword, node, rule, start, with_keywords, with_names
 from records import Cases, Pairs, spaced, wide
 from table_nodes import ANY, RELATION_COUNT
 
@@ -130,7 +130,6 @@ def value(label, file, report, *answers):
 PLAIN = with_keywords()
 LOSS = with_keywords(b"loss")
 REFUSED = [byte for byte in range(32) if byte not in (9, 10, 13)] + [127]
-RUN = [byte for byte in range(33, 256) if byte != 127 and byte not in NINE]
 DIGITS = b"0123456789"
 CONTINUATION = range(128, 192)
 
@@ -578,7 +577,7 @@ reads_apart("names are no keywords", NAMED, (3, b"loss"), (1, b"note"), (1, b":"
 # Note 6: "200 keywords of 32 bytes that differ only in the last", and so in the middle and in the first. "It still says
 # yes exactly where all bytes are the same": what is nearly one of them is a word.
 for said, place in (("last", 31), ("middle", 16), ("first", 0)):
-    ALIKE = [b"k" * place + bytes([byte]) + b"k" * (31 - place) for byte in RUN[:200]]
+    ALIKE = alike(place)
     ALIKE_FILE = with_keywords(*ALIKE)
     scan_apart(f"200 keywords, {said} byte, all", ALIKE_FILE, *[(3 + k, text) for k, text in enumerate(ALIKE)])
     reads_apart(f"200 keywords, {said} byte, some and near ones", ALIKE_FILE,

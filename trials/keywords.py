@@ -1,5 +1,5 @@
 #!/usr/bin/env python3
-"""Times of two builds on grammars with 200 keywords of 32 bytes that differ in one byte only, both in turn.
+"""Times of two builds on grammars with 200 keywords that are alike, both builds in turn.
 
     python3 trials/keywords.py BEFORE AFTER [ROUNDS]
 
@@ -7,10 +7,11 @@ BEFORE and AFTER are folders of this repository, in each of which these have bee
 
     rt check scanner_cases && rt staticlib saktroum
 
-The keywords differ in the last byte, in the one in the middle or in the first. A scan is of a report with these keywords,
-eight a line, that fills 64,000 bytes, through the C interface. A step is one of a scanner's value, on a report that has
-each keyword once, in 25 lines: the program `scanner_cases` takes its 225 steps, 40 times a round. Both builds must give
-the same tokens. Each figure is the median of the rounds, 21 if nothing is said, in microseconds.
+The keywords have 32 bytes and differ in the last, in the one in the middle or in the first; or they are short, `ch1` to
+`ch200`. A scan is of a report with these keywords, eight a line, of 64,000 bytes or 455 lines, through the C interface.
+A step is one of a scanner's value, on a report that has each keyword once, in 25 lines: the program `scanner_cases`
+takes all but the last, 224 of them, 40 times a round; its start, about a millisecond, counts too. Both builds must give
+the tokens of the report. Each figure is the median of the rounds, 21 if nothing is said, in microseconds.
 """
 
 import ctypes
@@ -26,29 +27,31 @@ import library
 
 ROOT = pathlib.Path(__file__).resolve().parent.parent
 sys.path.insert(0, str(ROOT / "cases"))
-from grammar_fields import NINE, with_keywords  # noqa: E402
+from grammar_fields import alike, with_keywords  # noqa: E402
 from records import Pairs, wide  # noqa: E402
 
 COMMAND = "rt check scanner_cases && rt staticlib saktroum"
 BUILT = ("bin/scanner_cases", "staticlib/libsaktroum.a")
-COUNT, LENGTH, LINE = 200, 32, 8
-PLACES = (("last", LENGTH - 1), ("middle", LENGTH // 2), ("first", 0))
+LINE = 8
+LISTS = [(said, alike(place)) for said, place in (("last byte", 31), ("middle byte", 16), ("first byte", 0))]
+LISTS.append(("short", [b"ch%d" % number for number in range(1, 201)]))
 SCANS, WALKS = 50, 40  # in a round
-RUN = [byte for byte in range(33, 256) if byte != 127 and byte not in NINE]
-
-
-def keywords(place):
-    """Keywords that differ in the byte at a place only."""
-    return [b"k" * place + bytes([byte]) + b"k" * (LENGTH - 1 - place) for byte in RUN[:COUNT]]
 
 
 def report(spellings, room):
-    """Lines of these spellings, over and over as long as there is room for a line."""
+    """Lines of these spellings, over and over as long as there is room for a line and for its tokens."""
     lines = [b" ".join(spellings[at : at + LINE]) + b"\n" for at in range(0, len(spellings), LINE)]
     text = b""
-    while len(text) + len(lines[0]) <= room:
-        text += lines[text.count(b"\n") % len(lines)]
+    for number in range(library.TOKEN_WORDS // 4 // (LINE + 1)):
+        text += lines[number % len(lines)]
+        if len(text) + len(lines[0]) > room:
+            break
     return text
+
+
+def terminals(count, tokens):
+    """The terminals of so many tokens of such a report: keywords in their order, and behind eight a line end."""
+    return [2 if i % (LINE + 1) == LINE else 3 + (i - i // (LINE + 1)) % count for i in range(tokens)]
 
 
 def once(work):
@@ -73,7 +76,7 @@ class Build:
         self.scan_of.restype = c_uint32
 
     def scans(self, file, text):
-        """A function that scans a report so many times, and the words of its tokens."""
+        """A function that scans a report so many times, and the terminals of its tokens."""
         words, count = (c_uint32 * library.TOKEN_WORDS)(), (c_size_t * 1)()
         slices = (*library.slice_of(file, c_uint8), *library.slice_of(text, c_uint8), words, c_size_t(len(words)))
         library.passed(self.scan_of(*slices, byref(count)))
@@ -82,7 +85,7 @@ class Build:
             for _ in range(SCANS):
                 self.scan_of(*slices, byref(count))
 
-        return work, words[: 4 * count[0]]
+        return work, words[: 4 * count[0] : 4]
 
     def steps(self, folder):
         """A function that makes the calls of a folder, and what they print."""
@@ -102,14 +105,30 @@ def walks(folder, file, text, last):
     (folder / "cases").write_bytes(b"".join(records))
 
 
-def compared(name, before, after, calls, rounds):
-    """Prints the medians of both, taken in turn."""
-    (one, said), (two, same) = before, after
-    if said != same:
-        sys.exit(f"{name}: the two builds differ")
-    times = [(once(one), once(two)) for _ in range(rounds)]
+def compared(name, before, after, expected, calls, rounds):
+    """Prints the medians of both, taken in turn, where both have said what is expected."""
+    for _, said in (before, after):
+        if said != expected:
+            sys.exit(f"{name}: a build gives other tokens than the report has")
+    times = [(once(before[0]), once(after[0])) for _ in range(rounds)]
     old, new = (statistics.median(side) / calls * 1e6 for side in zip(*times))
     print(f"| {name} | {old:.1f} | {new:.1f} | {new / old:.2f} |", flush=True)
+
+
+def measured(said, spellings, builds, work, rounds):
+    """Prints a scan and a step on a list of keywords."""
+    file, long = with_keywords(*spellings), report(spellings, 64000)
+    scans = [build.scans(file, long) for build in builds]
+    compared(f"scan, {said}", *scans, terminals(len(spellings), len(scans[0][1])), SCANS, rounds)
+    # The last step but one hands out the last keyword.
+    short = report(spellings, sum(map(len, spellings)) + len(spellings))
+    steps = len(spellings) // LINE * (LINE + 1) - 1
+    walks(work, file, short, steps - 1)
+    at, last = len(short) - 1 - len(spellings[-1]), spellings[-1]
+    column = sum(byte not in range(128, 192) for byte in short[short.rindex(b"\n", 0, at) + 1 : at])
+    token = f"token {2 + len(spellings)} {column} {at} {len(last)}"
+    printed = "".join(f"{walk}: {token}\n" for walk in range(WALKS)).encode()
+    compared(f"step, {said}", *(build.steps(work) for build in builds), printed, WALKS * steps, rounds)
 
 
 def main():
@@ -123,14 +142,8 @@ def main():
             (work / str(number)).mkdir()
             builds.append(Build(pathlib.Path(folder), work / str(number)))
         print("| work | before, µs | after, µs | ratio |\n|---|---|---|---|")
-        for said, place in PLACES:
-            spellings = keywords(place)
-            file, long, short = with_keywords(*spellings), report(spellings, 64000), report(spellings, 6600)
-            compared(f"scan, {said} byte", *(build.scans(file, long) for build in builds), SCANS, rounds)
-            words = builds[0].scans(file, short)[1]
-            steps = len(words) // 4
-            walks(work / said, file, short, steps - 1)
-            compared(f"step, {said} byte", *(build.steps(work / said) for build in builds), WALKS * steps, rounds)
+        for said, spellings in LISTS:
+            measured(said, spellings, builds, work / said, rounds)
 
 
 if __name__ == "__main__":

@@ -46,14 +46,13 @@ pub fn refused(report: &[u8]) -> bool
     if report.len() > BYTES {
         return true;
     }
+    let mut clean = true;
     let mut i = 0;
     while i < report.len() {
-        if is_refused(report[i]) {
-            return true;
-        }
+        clean = clean & !is_refused(report[i]);
         i += 1;
     }
-    false
+    !clean
 }
 
 fn is_refused(b: u8) -> bool

@@ -25,8 +25,8 @@ partOf s i = getD s i 0 * weight i
 -- The weights as the code has them.
 abbrev pub weights : List ℕ
 weights =
-    1 ∷ 131 ∷ 9 ∷ 155 ∷ 81 ∷ 115 ∷ 217 ∷ 11 ∷ 161 ∷ 99 ∷ 169 ∷ 123 ∷ 241 ∷ 83 ∷ 121 ∷ 235 ∷
-    65 ∷ 67 ∷ 73 ∷ 91 ∷ 145 ∷ 51 ∷ 25 ∷ 203 ∷ 225 ∷ 35 ∷ 233 ∷ 59 ∷ 49 ∷ 19 ∷ 185 ∷ 171 ∷ []
+    1 ∷ 153 ∷ 113 ∷ 137 ∷ 225 ∷ 121 ∷ 81 ∷ 105 ∷ 193 ∷ 89 ∷ 49 ∷ 73 ∷ 161 ∷ 57 ∷ 17 ∷ 41 ∷
+    129 ∷ 25 ∷ 241 ∷ 9 ∷ 97 ∷ 249 ∷ 209 ∷ 233 ∷ 65 ∷ 217 ∷ 177 ∷ 201 ∷ 33 ∷ 185 ∷ 145 ∷ 169 ∷ []
 
 weights-right : (i : ℕ) → i < 32 → getD weights i 0 ≡ weight i
 unfolding every weight
@@ -34,7 +34,7 @@ weights-right i h = eqb-true _ _ (every-at 32 (λ k. eqb (getD weights k 0) (wei
 
 weight-small : (i : ℕ) → weight i < 256
 unfolding weight
-weight-small i = mod-lt (131 ^ i) (omega arith)
+weight-small i = mod-lt (153 ^ i) (omega arith)
 
 pub weights-small : (i : ℕ) → i < 32 → getD weights i 0 < 256
 weights-small i h = rw (weights-right i h) (weight-small i)

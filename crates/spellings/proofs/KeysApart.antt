@@ -1,5 +1,5 @@
 -- Keys keep alike spellings apart: spellings that differ in one of the first 32 bytes only have different keys, wherever it
--- stands. So keywords that begin alike, end alike or both do not meet in an index.
+-- stands. So keywords that differ in one byte only do not meet in an index, be it the first, the last or one between.
 use Prim.Native.Nat.{ℕ, zero, suc, _+_, _*_, _/_, _%_, _^_, _<_}
 use mathlib.Core.Path.{_≡_, refl, sym, ap, ap₂, _∙_}
 use mathlib.Core.List.{List}
@@ -38,7 +38,7 @@ inverse-right : (k : ℕ) → k < 32 → weight k * inverse k % 4096 ≡ 1
 unfolding every weight inverse
 inverse-right k h = eqb-true _ _ (every-at 32 (λ i. eqb (weight i * inverse i % 4096) 1) refl k h)
 
--- Times the inverse of w, what is a times w is a, but for whole 4,096.
+-- Times the inverse of w, a times w is a, modulo 4,096.
 undone : (q a w v u : ℕ) → w * v ≡ u * 4096 + 1 → (q * 4096 + a * w) * v ≡ (q * v + a * u) * 4096 + a
 undone q a w v u e = add-mul (q * 4096) (a * w) v ∙ ap₂ _+_ left right ∙ omega arith
   where
@@ -52,7 +52,7 @@ undone q a w v u e = add-mul (q * 4096) (a * w) v ∙ ap₂ _+_ left right ∙ o
         ∙ mul-add a (u * 4096) 1
         ∙ ap₂ _+_ (sym (mul-assoc a u 4096)) (mul-one a)
 
--- Two numbers below 4,096 are the same if both times w, added to like numbers, give like numbers, but for whole 4,096.
+-- Two numbers below 4,096 are the same if both, times a w that has an inverse, part like numbers modulo 4,096 alike.
 same-factor :
     (x y a b w v : ℕ)
     → w * v % 4096 ≡ 1
@@ -67,7 +67,7 @@ same-factor x y a b w v o m e g h =
     let both = sym (undone (x / 4096) b w v (w * v / 4096) u) ∙ ap (λ (n : ℕ). n * v) q ∙ undone (y / 4096) a w v (w * v / 4096) u in
     omega (arith, both, g, h)
 
--- Two spellings with one key that have the same of their first 32 bytes, all but one, have that one too.
+-- Two spellings with one key that agree in all of their first 32 bytes but one agree in that one too.
 pub keys-apart :
     (s t : List ℕ) (k : ℕ)
     → k < 32

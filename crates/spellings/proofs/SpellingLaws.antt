@@ -1,7 +1,7 @@
 -- Spellings one by one, and what it means that two are the same.
-use Prim.Native.Nat.{ℕ, zero, suc, _+_, _-_, _≤_, _<_}
+use Prim.Native.Nat.{ℕ, zero, suc, _+_, _≤_, _<_}
 use mathlib.Core.Path.{_≡_, refl, sym, ap, ap₂, _∙_}
-use mathlib.Core.Bool.{Bool, true, false, _&&_, and-true}
+use mathlib.Core.Bool.{Bool, true, false, _&&_}
 use mathlib.Core.List.{List, []}
 use mathlib.Core.Logic.{_↔_}
 use native.Mathlib.Numerals.{add-one}
@@ -21,11 +21,6 @@ pub every-each : (n : ℕ) (test : ℕ → Bool) → ((i : ℕ) → i < n → te
 unfolding every
 every-each zero test h = refl
 every-each (suc n) test h = ap₂ _&&_ (every-each n test (λ i a. h i (omega arith))) (h n (omega arith))
-
--- One number more.
-pub every-next : (n : ℕ) (test : ℕ → Bool) {a b : Bool} → a ≡ every n test → b ≡ test n → (a && b) ≡ every (n + 1) test
-unfolding every
-every-next n test e h = rw (add-one, e, h) refl
 
 -- Whether two spellings have the same byte at an index.
 abbrev pub agree : List ℕ → List ℕ → ℕ → Bool
@@ -55,24 +50,6 @@ bytes-apart s t i n = by-test (sameBytes s t) refl
     by-test : (b : Bool) → sameBytes s t ≡ b → false ≡ b
     by-test true e = absurd (n (ap (λ (x : List ℕ). getD x i 0) (same-equal s t e)))
     by-test false e = refl
-
--- A test that holds of the last number is decided by those before it.
-before-last : (n last : ℕ) (test : ℕ → Bool) → last ≡ n - 1 → test last ≡ true → every last test ≡ every n test
-unfolding every
-before-last zero last test e h = rw e refl
-before-last (suc n) last test e h =
-    let p : last ≡ n = omega arith in
-    rw p (sym (ap (λ (b : Bool). every n test && b) (rw p at h) ∙ and-true (every n test)))
-
--- Two spellings of one length with the same last byte are the same where the rest is.
-pub rest-decides :
-    (s t : List ℕ) {last : ℕ}
-    → length s ≡ length t
-    → last ≡ length s - 1
-    → getD s last 0 ≡ getD t last 0
-    → every last (agree s t) ≡ sameBytes s t
-unfolding sameBytes
-rest-decides s t {last} l e b = rw (eq-eqb _ _ l) (before-last (length s) last (agree s t) e (eq-eqb _ _ b))
 
 -- A walk over the spellings of count fields from an offset on that stands before field i: those that it passed are
 -- right by a test, which may ask for a spelling's number too.

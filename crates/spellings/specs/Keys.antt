@@ -11,8 +11,8 @@ sum (suc n) f = sum n f + f n
 
 -- What a byte counts, by its index.
 unfoldable pub weight : ℕ → ℕ
-weight i = 131 ^ i % 256
+weight i = 153 ^ i % 256
 
--- Below 4,096: of the first 32 bytes, which are all that a spelling has, each by its weight; 0 past the end.
+-- Below 4,096: of the first 32 bytes, all that a keyword or a name has, each by its weight; 0 past the end.
 unfoldable pub keyOf : List ℕ → ℕ
 keyOf s = sum 32 (λ i. getD s i 0 * weight i) % 4096

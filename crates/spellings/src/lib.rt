@@ -19,40 +19,40 @@ use file_fields::spelling_at;
 // How many keys there are.
 pub const KEYS: usize = 4096;
 
-// What a byte counts in a key, by its index: powers of 131.
+// What a byte counts in a key, by its index: powers of 153, modulo 256.
 const WEIGHTS: [u8; 32] = [
     1,
-    131,
-    9,
-    155,
-    81,
-    115,
-    217,
-    11,
-    161,
-    99,
-    169,
-    123,
-    241,
-    83,
-    121,
-    235,
-    65,
-    67,
-    73,
-    91,
-    145,
-    51,
-    25,
-    203,
+    153,
+    113,
+    137,
     225,
-    35,
-    233,
-    59,
+    121,
+    81,
+    105,
+    193,
+    89,
     49,
-    19,
+    73,
+    161,
+    57,
+    17,
+    41,
+    129,
+    25,
+    241,
+    9,
+    97,
+    249,
+    209,
+    233,
+    65,
+    217,
+    177,
+    201,
+    33,
     185,
-    171,
+    145,
+    169,
 ];
 
 // The key of a spelling: spellings with different keys differ.
@@ -78,15 +78,15 @@ fn front(n: usize) -> usize
     if n < 32 { n } else { 32 }
 }
 
-// An index k before n, 0 at least.
-fn before(n: usize, k: usize) -> usize
-    ensures { λ r. ⌜ r ≡ n - k ⌝ }
+// The last of n indices, 0 where there is none.
+fn last_of(n: usize) -> usize
+    ensures { λ r. ⌜ r ≡ n - 1 ⌝ }
 {
-    if n < k { 0 } else { n - k }
+    if n == 0 { 0 } else { n - 1 }
 }
 
-// Whether two spellings are the same: the lengths first, then the last bytes, then the rest. All of the rest is looked at,
-// so that a machine can compare many bytes at once.
+// Whether two spellings are the same: the lengths first, then the last bytes, then the rest. The loop has no way out and
+// takes the last byte again, so that a machine compares many bytes at once.
 pub fn same(s: &[u8], t: &[u8]) -> bool
     ensures { λ r. ⌜ r ≡ sameBytes (now (s .entry)) (now (t .entry)) ⌝ }
 {
@@ -94,13 +94,13 @@ pub fn same(s: &[u8], t: &[u8]) -> bool
     if n != t.len() {
         return false;
     }
-    let last = before(n, 1);
+    let last = last_of(n);
     if byte_in(s, last) != byte_in(t, last) {
         return false;
     }
     let mut equal = true;
     let mut i = 0;
-    while i < last {
+    while i < n {
         equal = equal & (s[i] == t[i]);
         i += 1;
     }

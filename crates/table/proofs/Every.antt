@@ -1,6 +1,6 @@
 -- Laws of `every`: one number more, a number that fails, and two tests that agree.
 use Prim.Native.Nat.{ℕ, zero, suc, _+_, _<_}
-use mathlib.Core.Path.{_≡_, refl, ap₂}
+use mathlib.Core.Path.{_≡_, refl, sym, ap₂}
 use mathlib.Core.Bool.{Bool, true, false, _&&_, _||_, and-false, true≢false}
 use mathlib.Core.Logic.{⊎-elim}
 use native.Mathlib.Nat.{eq-or-lt-of-le, le-of-suc-le-suc}
@@ -8,10 +8,14 @@ use native.Mathlib.Omega.{arith}
 use native.Mathlib.Numerals.{add-one}
 use Rattle.table.specs.Every.{every}
 
+-- Whether a test holds of every number below n + 1: whether it does below n, and of n.
+pub every-next : (n : ℕ) (test : ℕ → Bool) {a b : Bool} → a ≡ every n test → b ≡ test n → (a && b) ≡ every (n + 1) test
+unfolding every
+every-next n test e h = rw (add-one, e, h) refl
+
 -- What holds of every number below n, and of n, holds of every number below n + 1.
 pub every-more : (n : ℕ) (test : ℕ → Bool) → every n test ≡ true → test n ≡ true → every (n + 1) test ≡ true
-unfolding every
-every-more n test h e = rw add-one (rw (h, e) refl)
+every-more n test h e = sym (every-next n test (sym h) (sym e))
 
 -- One number that fails is enough.
 pub every-fails : (n : ℕ) (test : ℕ → Bool) (i : ℕ) → i < n → test i ≡ false → every n test ≡ false

@@ -3,31 +3,28 @@ use Prim.Native.Nat.{_-_, _≤_}
 use mathlib.Core.Path.{_≡_, refl, sym, _∙_}
 use native.Mathlib.Omega.{arith}
 use borrow.Author.Needs.{needs}
-use borrow.Author.Tests.{ne-eqb}
+use borrow.Author.Tests.{eq-eqb, ne-eqb}
 use lib.ListN.{length}
 use Rattle.table.specs.Every.{every}
+use Rattle.table.proofs.Every.{every-next}
 use Rattle.spellings.specs.Spellings.{sameBytes}
-use Rattle.spellings.proofs.SpellingLaws.{agree, every-next, bytes-apart, rest-decides}
+use Rattle.spellings.proofs.SpellingLaws.{agree, bytes-apart}
 use Rattle.spellings.proofs.same.Statement.{statement}
 use Rattle.spellings.proofs.same.Tie as tie
 
 abbrev Inv-loop : tie.InvT-loop
-Inv-loop s t n last equal₀ i₀ equal i = (i ≤ last) × (equal ≡ every i (agree s t))
+Inv-loop s t n last equal₀ i₀ equal i = (i ≤ n) × (equal ≡ every i (agree s t))
 
 abbrev μ-loop : tie.MeasureT-loop
-μ-loop s t n last equal₀ i₀ equal i = last - i
+μ-loop s t n last equal₀ i₀ equal i = n - i
 
 returns-3 : tie.Need-returns-3 Inv-loop μ-loop
+unfolding sameBytes
 returns-3 c =
-    let start = c .before .before .before .before .before .before .before .before .before in
+    let args = c .before .before .before .before .before .before .before .before .before .args in
     let if1 = c .before .before .before .before .before .before .if1 in
-    let last = c .before .before .before .before .before .before2 in
-    let byte-in = c .before .before .before .before .byte-in in
-    let byte-in2 = c .before .before .before .byte-in2 in
-    let e : c .before .loop .i ≡ last .result = omega arith in
-    c .before .loop .inv .1
-    ∙ rw e (rest-decides (start .args .s .now) (start .args .t .now) (if1 .left) (last .ensures)
-    (sym (byte-in .ensures .0) ∙ c .before .before .if2 .left ∙ byte-in2 .ensures .0))
+    let e : c .before .loop .i ≡ length (args .s .now) = omega arith in
+    rw (eq-eqb _ _ (if1 .left), ← e) (c .before .loop .inv .1)
 
 returns : tie.Need-returns Inv-loop μ-loop
 unfolding sameBytes

@@ -2,14 +2,14 @@
 -- single byte.
 use Prim.Native.Nat.{_-_, _≤_}
 use mathlib.Core.Path.{_≡_, refl, sym, ap, _∙_}
-use mathlib.Core.Bool.{not, _||_, or-true, or-false}
+use mathlib.Core.Bool.{not, or-true, or-false}
 use native.Mathlib.Omega.{arith}
 use borrow.Author.Tests.{eq-eqb, ne-eqb}
 use lib.ListN.{length, getD}
 use Rattle.table.specs.Every.{every}
+use Rattle.table.proofs.Every.{every-next}
 use Rattle.byte_class.specs.Bytes.{isSingle}
 use Rattle.spellings.specs.Spellings.{singleAlone}
-use Rattle.spellings.proofs.SpellingLaws.{every-next}
 use Rattle.spellings.proofs.single_alone.Statement.{statement}
 use Rattle.spellings.proofs.single_alone.Tie as tie
 

@@ -5,8 +5,8 @@ use native.Mathlib.Omega.{arith}
 use borrow.Author.Tests.{le-leb, lt-leb}
 use lib.ListN.{length, getD}
 use Rattle.table.specs.Every.{every}
+use Rattle.table.proofs.Every.{every-next}
 use Rattle.spellings.specs.Spellings.{visible, spelled}
-use Rattle.spellings.proofs.SpellingLaws.{every-next}
 use Rattle.spellings.proofs.spelled.Statement.{statement}
 use Rattle.spellings.proofs.spelled.Tie as tie
 
