@@ -15,7 +15,7 @@ pub use files::{file_input, spellings, FileInput, Spellings};
 pub use reports::{report_input, ReportInput};
 pub use runs::{run_input, run_input_by_2014, RunInput};
 pub use shown::{shown_input, ShownInput};
-pub use stats::Stats;
+pub use stats::{Stats, NEARLY};
 pub use writes::{write_input, WriteInput};
 
 /// A splitmix64 stream.

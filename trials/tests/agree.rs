@@ -4,7 +4,7 @@
 use std::thread;
 use trials::generate::{
     file_input, report_input, run_input, run_input_by_2014, shown_input, write_input, Rng,
-    RunInput, Stats,
+    RunInput, Stats, NEARLY,
 };
 use trials::ours;
 use trials::second::sets::{self, ColumnSet, SetRan};
@@ -195,16 +195,6 @@ fn files_of_every_answer() {
         assert!(stats.share("file", &class) > 0.3, "{what}");
     }
 }
-
-/// In what spellings differ that are nearly the same.
-const NEARLY: [&str; 6] = [
-    "the last byte",
-    "the first byte",
-    "a byte between",
-    "a byte behind",
-    "a byte ahead",
-    "the order of two bytes",
-];
 
 #[test]
 fn reports_of_every_answer() {

@@ -1,7 +1,7 @@
 //! 02's Note 6: "It still says yes exactly where all bytes are the same." Spellings that are
 //! nearly the same, by both readers, and what is counted of them.
 
-use trials::generate::{FileInput, ReportInput, Stats};
+use trials::generate::{FileInput, ReportInput, Stats, NEARLY};
 use trials::ours;
 use trials::second::{read, scan};
 
@@ -113,16 +113,6 @@ fn long_lists() {
         }
     }
 }
-
-/// In what spellings differ that are nearly the same.
-const NEARLY: [&str; 6] = [
-    "the last byte",
-    "the first byte",
-    "a byte between",
-    "a byte behind",
-    "a byte ahead",
-    "the order of two bytes",
-];
 
 /// What is nearly the same in files is counted beside the answers.
 #[test]

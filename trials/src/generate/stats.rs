@@ -434,6 +434,16 @@ fn keyword_outside_ascii(report: &[u8], tokens: &[u32]) -> bool {
 /// The tokens of a report that are held against every keyword.
 const LOOKED_AT: usize = 12;
 
+/// In what spellings differ that are nearly the same.
+pub const NEARLY: [&str; 6] = [
+    "the last byte",
+    "the first byte",
+    "a byte between",
+    "a byte behind",
+    "a byte ahead",
+    "the order of two bytes",
+];
+
 /// In what two spellings of four bytes or more differ that are nearly the same.
 fn nearly(one: &[u8], two: &[u8]) -> Option<&'static str> {
     let (short, long) = match one.len() < two.len() {
@@ -445,19 +455,17 @@ fn nearly(one: &[u8], two: &[u8]) -> Option<&'static str> {
     }
     if long.len() > short.len() {
         return match (long.starts_with(short), long.ends_with(short)) {
-            (true, _) => Some("a byte behind"),
-            (_, true) => Some("a byte ahead"),
+            (true, _) => Some(NEARLY[3]),
+            (_, true) => Some(NEARLY[4]),
             _ => None,
         };
     }
     let mut places = (0..one.len()).filter(|&at| one[at] != two[at]);
     match (places.next()?, places.next(), places.next()) {
-        (at, None, _) if at + 1 == one.len() => Some("the last byte"),
-        (0, None, _) => Some("the first byte"),
-        (_, None, _) => Some("a byte between"),
-        (at, Some(next), None) if one[at] == two[next] && one[next] == two[at] => {
-            Some("the order of two bytes")
-        }
+        (at, None, _) if at + 1 == one.len() => Some(NEARLY[0]),
+        (0, None, _) => Some(NEARLY[1]),
+        (_, None, _) => Some(NEARLY[2]),
+        (at, Some(next), None) if one[at] == two[next] && one[next] == two[at] => Some(NEARLY[5]),
         _ => None,
     }
 }
