@@ -52,7 +52,7 @@ undone q a w v u e = add-mul (q * 4096) (a * w) v ∙ ap₂ _+_ left right ∙ o
         ∙ mul-add a (u * 4096) 1
         ∙ ap₂ _+_ (sym (mul-assoc a u 4096)) (mul-one a)
 
--- Two numbers below 4,096 are the same if both, times a w that has an inverse, part like numbers modulo 4,096 alike.
+-- Where x and y are like modulo 4,096, and x with b times w is y with a times w, a and b are the same if w has an inverse.
 same-factor :
     (x y a b w v : ℕ)
     → w * v % 4096 ≡ 1
