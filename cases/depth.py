@@ -22,8 +22,8 @@ def shape(nodes, rules=(), mode=AT_LEAST, tokens=TOKENS, listing=False, by_2014=
 
 
 # "c. a, mode at least, a0: 0 to 0." Each token is an a at column 0, and the interval stays. Behind the last one a fails,
-# and empty succeeds.
-LINE = f"success {TOKENS} 0 0 clear\n"
+# and empty succeeds: a was tried at the count.
+LINE = f"success {TOKENS} 0 0 clear {TOKENS}\n"
 
 if __name__ == "__main__":
     write({"crates/depth/data/shape": shape(LIST), "crates/depth/stdout": LINE.encode()})

@@ -23,9 +23,10 @@ NODES = [
 RULES = [(12, b"offsets"), (6, b"value"), (13, b"temperature"), (16, DEGREE)]
 
 # Note 3 of 02: a letter of two bytes takes one column. So both values stand at column 11, and the first is 12 bytes behind
-# its line's start. A number with a degree sign is a word. The last rule reads nothing: its name is shown.
+# its line's start. A number with a degree sign is a word. The last rule reads nothing: its name is shown. The last of the 9
+# tokens, the third line's end, is read and nothing is tried behind it. No token is left, so `entries` says no farthest place.
 REPORT = b"offset " + MICRO + b"m: 0.3\n           0.4\n  20" + DEGREE + b"\n"
-LINE = b"success 9 11 11 clear\n"
+LINE = b"success 9 11 11 clear 8\n"
 ENTRIES = (b"offsets 1:1 offset " + MICRO + b"m: 0.3\n"
            b"  value 1:12 0.3\n"
            b"  value 2:12 0.4\n"

@@ -26,11 +26,11 @@ def nodes():
 RULES = [(0, b"r0"), *((2 * k, b"r%d" % k) for k in range(1, LAST + 1))]
 FILE = file(nodes(), 2 * LAST + 3, ANY, [], RULES)
 
-# No token is read, and the state is the start's. A run without a list needs no room.
+# No token is read or tried, and the state is the start's. A run without a list needs no room.
 FILES = {
     "grammar.bin": FILE,
     "stdin": b"",
-    "stdout": b"success 0 0 inf clear\n",
+    "stdout": b"success 0 0 inf clear 0\n",
     "entries.stdout": b"refused 13\n",
 }
 

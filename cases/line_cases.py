@@ -1,9 +1,10 @@
 #!/usr/bin/env python3
 """Writes the cases for the line that 01's program prints, and the lines of the program line_cases (README.md).
 
-Every single answer stands beside its inputs and was worked out by hand from the words of 01 that are quoted
-there; a family of cases has one answer for all, or the rule that gives each, in its loop. Nothing here reads a
-grammar file, scans a report or runs a grammar.
+Every single answer stands beside its inputs and was worked out by hand from the words of 01 and 02 that are quoted
+there; a family of cases has one answer for all, or the rule that gives each, in its loop. The last number of a success
+or failure is how far the reader looked (02, Note 7). Nothing here reads a grammar file, scans a report or runs a
+grammar.
 """
 
 import grammar_fields
@@ -38,18 +39,25 @@ def case(label, file, report, line):
     CASES.add(label, line, "l", *PAIRS.stretch(file, report))
 
 
-def success(read, lower, upper):
-    """ "tokens read, lower end, upper end (`inf` if none), flag"
+def success(read, lower, upper, farthest):
+    """ "tokens read, lower end, upper end (`inf` if none), flag", and how far the reader looked
+
+    02, Note 7: "the largest token place that a terminal was tried at, the count itself if tried past the last token,
+    and the start place if none was tried", printed "as one more number at the end of a success or failure line".
+    Places count from 0, line ends with the others, and the start place is 0. A trial counts whether it succeeds or
+    fails: "Trials inside a not and in failed alternatives count", so do those of a repeat's last round.
 
     The flag is always clear. It is so at the start, and each clause that starts with a clear flag ends with
     one: empty "changes nothing"; after a terminal "The flag is then clear"; after an align it is set only if it
     "was set both before .."; "Not and failure hand the old state on"; the others end as a child did that began
     with the parent's flag. So `set` is never printed.
     """
-    return f"success {read} {lower} {upper} clear"
+    return f"success {read} {lower} {upper} clear {farthest}"
 
 
-FAILURE = "failure"
+def failure(farthest):
+    """ "Otherwise `failure`", and how far the reader looked, as after a success"""
+    return f"failure {farthest}"
 
 
 def refused(number, *node_number):
@@ -82,12 +90,14 @@ def expressed(expression, mode, report, line, leaves=""):
 
 
 NOTHING = VERSION + TAIL
-EMPTY_ANSWER = success(0, 0, "inf")
+# No terminal is tried: "the start place if none was tried".
+EMPTY_ANSWER = success(0, 0, "inf", 0)
 
 
 # --- The example of 01 and texts near it --------------------------------------------------------------------
 
-# "With keywords `loss` and `:` .. it prints `success 4 0 1 clear`".
+# "With keywords `loss` and `:` .. it prints `success 4 0 1 clear`", and behind it, by 02, Note 7, the last place tried:
+# the line's end, 3.
 LOSS = (b"loss", b":")
 LOSS_NODES = [terminal(3), terminal(4), NUMBER, EOL, sequence(2, 3), sequence(1, 4), sequence(0, 5)]
 EXAMPLE = b"  loss: 0.03"
@@ -98,51 +108,52 @@ def loss_file(mode):
     return grammar("a b number eol", mode, LOSS)
 
 
-case("example", loss_file(GREATER), EXAMPLE, success(4, 0, 1))
+case("example", loss_file(GREATER), EXAMPLE, success(4, 0, 1, 3))
 # The same, the sequence's pairs bracketed from the left: "Sequence: a, then b from where a ended."
 case("example bracketed from the left", grammar("((a b) number) eol", GREATER, LOSS, leaves="a b number eol"), EXAMPLE,
-     success(4, 0, 1))
-# loss2 :6 number8 end12. Equal: loss makes 2 to 2, and 6 isn't "l to h".
-case("example mode equal", loss_file(EQUAL), EXAMPLE, FAILURE)
+     success(4, 0, 1, 3))
+# loss2 :6 number8 end12. Equal: loss makes 2 to 2, and 6 isn't "l to h": `:` fails at place 1.
+case("example mode equal", loss_file(EQUAL), EXAMPLE, failure(1))
 # At least: "0 to h" of 2 to 2, the later columns are higher.
-case("example mode at-least", loss_file(AT_LEAST), EXAMPLE, success(4, 0, 2))
+case("example mode at-least", loss_file(AT_LEAST), EXAMPLE, success(4, 0, 2, 3))
 # Any: "0 on, without end".
-case("example mode any", loss_file(ANY), EXAMPLE, success(4, 0, "inf"))
+case("example mode any", loss_file(ANY), EXAMPLE, success(4, 0, "inf", 3))
 # A line ends in a token "also at the end of the text": a break changes nothing here.
-case("example with a break", loss_file(GREATER), EXAMPLE + b"\n", success(4, 0, 1))
+case("example with a break", loss_file(GREATER), EXAMPLE + b"\n", success(4, 0, 1, 3))
 # "Bytes 13 and 32 are blanks."
-case("example with a return and a break", loss_file(GREATER), EXAMPLE + b"\r\n", success(4, 0, 1))
-case("example with blanks behind", loss_file(GREATER), EXAMPLE + b"   ", success(4, 0, 1))
-# What follows the fourth token is not read.
-case("example twice", loss_file(GREATER), EXAMPLE + b"\n" + EXAMPLE, success(4, 0, 1))
+case("example with a return and a break", loss_file(GREATER), EXAMPLE + b"\r\n", success(4, 0, 1, 3))
+case("example with blanks behind", loss_file(GREATER), EXAMPLE + b"   ", success(4, 0, 1, 3))
+# What follows the fourth token is not read, nor tried.
+case("example twice", loss_file(GREATER), EXAMPLE + b"\n" + EXAMPLE, success(4, 0, 1, 3))
 # "Byte 10 ends a line and sets the column to 0": empty lines before, no tokens of their own.
-case("example below empty lines", loss_file(GREATER), b"\n   \n\t\n" + EXAMPLE, success(4, 0, 1))
+case("example below empty lines", loss_file(GREATER), b"\n   \n\t\n" + EXAMPLE, success(4, 0, 1, 3))
 # "Byte 9 moves to the next higher multiple of 8": loss at 8.
-case("example behind a tab", loss_file(GREATER), b"\tloss: 0.03", success(4, 0, 7))
+case("example behind a tab", loss_file(GREATER), b"\tloss: 0.03", success(4, 0, 7, 3))
 # No blanks are needed: "The bytes `: , ( ) [ ] = ; %` are tokens by themselves".
-case("example without blanks inside", loss_file(GREATER), b"  loss:0.03", success(4, 0, 1))
-case("example with more blanks inside", loss_file(GREATER), b"  loss \t :\t\t0.03", success(4, 0, 1))
+case("example without blanks inside", loss_file(GREATER), b"  loss:0.03", success(4, 0, 1, 3))
+case("example with more blanks inside", loss_file(GREATER), b"  loss \t :\t\t0.03", success(4, 0, 1, 3))
 # Greater: 0 isn't in "l+1 on".
-case("example at column 0 mode greater", loss_file(GREATER), b"loss: 0.03", FAILURE)
-case("example at column 0 mode at-least", loss_file(AT_LEAST), b"loss: 0.03", success(4, 0, 0))
-case("example at column 1", loss_file(GREATER), b" loss: 0.03", success(4, 0, 0))
+case("example at column 0 mode greater", loss_file(GREATER), b"loss: 0.03", failure(0))
+case("example at column 0 mode at-least", loss_file(AT_LEAST), b"loss: 0.03", success(4, 0, 0, 3))
+case("example at column 1", loss_file(GREATER), b" loss: 0.03", success(4, 0, 0, 3))
 # "(an optional `-`, digits, optionally `.` and digits, each group non-empty)".
-case("example with a minus", loss_file(GREATER), b"  loss: -12", success(4, 0, 1))
-case("example with an exponent", loss_file(GREATER), b"  loss: 3e-2", FAILURE)
+case("example with a minus", loss_file(GREATER), b"  loss: -12", success(4, 0, 1, 3))
+case("example with an exponent", loss_file(GREATER), b"  loss: 3e-2", failure(2))
 # Terminal 3 only "where the spelling equals keyword k".
-case("example with a capital", loss_file(GREATER), b"  Loss: 0.03", FAILURE)
-case("example with a longer word", loss_file(GREATER), b"  losses: 0.03", FAILURE)
-case("example with an equals sign", loss_file(GREATER), b"  loss= 0.03", FAILURE)
-# A fourth token that isn't the line's end; a line's end too early; the text cut off.
-case("example with a word behind", loss_file(GREATER), EXAMPLE + b" dB", FAILURE)
-case("example over two lines", loss_file(GREATER), b"  loss:\n  0.03", FAILURE)
-case("example cut off", loss_file(GREATER), b"  loss:", FAILURE)
-case("example with no text", loss_file(GREATER), b"", FAILURE)
+case("example with a capital", loss_file(GREATER), b"  Loss: 0.03", failure(0))
+case("example with a longer word", loss_file(GREATER), b"  losses: 0.03", failure(0))
+case("example with an equals sign", loss_file(GREATER), b"  loss= 0.03", failure(1))
+# A fourth token that isn't the line's end, which is tried at 3; a line's end too early, where the number is tried, 2;
+# the text cut off, its line's end at 2 too.
+case("example with a word behind", loss_file(GREATER), EXAMPLE + b" dB", failure(3))
+case("example over two lines", loss_file(GREATER), b"  loss:\n  0.03", failure(2))
+case("example cut off", loss_file(GREATER), b"  loss:", failure(2))
+case("example with no text", loss_file(GREATER), b"", failure(0))
 # Keyword numbers are places among the keywords: with the two exchanged, loss is terminal 4.
-case("example with keywords exchanged", grammar("a b number eol", GREATER, LOSS[::-1]), EXAMPLE, FAILURE)
-case("example with no keywords", grammar("a b number eol", GREATER, ()), EXAMPLE, FAILURE)
+case("example with keywords exchanged", grammar("a b number eol", GREATER, LOSS[::-1]), EXAMPLE, failure(0))
+case("example with no keywords", grammar("a b number eol", GREATER, ()), EXAMPLE, failure(0))
 # A start at another node: the number and the end only, on a number at column 3.
-case("example started at the number", grammar(LOSS_NODES, EQUAL, LOSS, first=2), b"   0.03", success(1, 3, 3))
+case("example started at the number", grammar(LOSS_NODES, EQUAL, LOSS, first=2), b"   0.03", success(1, 3, 3, 0))
 
 
 # --- Empty, and texts without a token -----------------------------------------------------------------------
@@ -150,14 +161,14 @@ case("example started at the number", grammar(LOSS_NODES, EQUAL, LOSS, first=2),
 # "e. No tokens: a fails; empty succeeds, state unchanged."
 for name, mode in RELATIONS.items():
     case(f"empty on no text mode {name}", grammar("empty", mode), b"", EMPTY_ANSWER)
-    case(f"a on no text mode {name}", grammar("a", mode), b"", FAILURE)
+    case(f"a on no text mode {name}", grammar("a", mode), b"", failure(0))
 # "Empty changes nothing", with tokens there too.
 case("empty on the example", NOTHING, EXAMPLE, EMPTY_ANSWER)
-# Only "A line with a token ends in a token of terminal 2".
+# Only "A line with a token ends in a token of terminal 2". Terminals are tried at the token count, 0.
 for name, text in (("no text", b""), ("a break", b"\n"), ("breaks", b"\n\n\n"), ("blanks", b"  \t \r"),
                    ("blanks and breaks", b" \n\t\r\n ")):
-    case(f"line end on {name}", grammar("eol", ANY), text, FAILURE)
-    case(f"no token at all on {name}", grammar("!(eol / word)", ANY), text, EMPTY_ANSWER)
+    case(f"line end on {name}", grammar("eol", ANY), text, failure(0))
+    case(f"no token at all on {name}", grammar("!(eol / word)", ANY), text, success(0, 0, "inf", 0))
 # "A rule is its node", "Position changes the mode for its child", "Align sets the flag inside; after success
 # ..", and for indent greater "Without end less 1 is without end": over empty the state is as before.
 case("empty under a rule", grammar("X", EQUAL, rules="X = empty"), b"", EMPTY_ANSWER)
@@ -166,9 +177,11 @@ for relation in RELATIONS:
     expressed(f"indent {relation} empty", EQUAL, b"", EMPTY_ANSWER)
     expressed(f"position {relation} empty", EQUAL, b"", EMPTY_ANSWER)
 expressed("empty empty", EQUAL, b"", EMPTY_ANSWER)
-case("a* on no text", grammar("a*", EQUAL), b"", EMPTY_ANSWER)
-case("!a on no text", grammar("!a", EQUAL), b"", EMPTY_ANSWER)
-expressed("!empty", EQUAL, b"", FAILURE)
+# a is tried at the token count, 0.
+case("a* on no text", grammar("a*", EQUAL), b"", success(0, 0, "inf", 0))
+case("!a on no text", grammar("!a", EQUAL), b"", success(0, 0, "inf", 0))
+# No terminal is tried.
+expressed("!empty", EQUAL, b"", failure(0))
 expressed("!!empty", EQUAL, b"", EMPTY_ANSWER)
 
 
@@ -178,80 +191,82 @@ expressed("!!empty", EQUAL, b"", EMPTY_ANSWER)
 # gives 0 to 4; a0 fails"); at least "0 to h" (case c: "0 to 0"); any leaves all.
 for column in (0, 1, 5):
     text = b" " * column + b":"
-    case(f"a{column} mode equal", grammar("a", EQUAL), text, success(1, column, column))
-    case(f"a{column} mode greater", grammar("a", GREATER), text, success(1, 0, column - 1) if column else FAILURE)
-    case(f"a{column} mode at-least", grammar("a", AT_LEAST), text, success(1, 0, column))
-    case(f"a{column} mode any", grammar("a", ANY), text, success(1, 0, "inf"))
+    case(f"a{column} mode equal", grammar("a", EQUAL), text, success(1, column, column, 0))
+    case(f"a{column} mode greater", grammar("a", GREATER), text, success(1, 0, column - 1, 0) if column else failure(0))
+    case(f"a{column} mode at-least", grammar("a", AT_LEAST), text, success(1, 0, column, 0))
+    case(f"a{column} mode any", grammar("a", ANY), text, success(1, 0, "inf", 0))
 # "A terminal also fails ... at another terminal".
-case("b for a", grammar("a", ANY), b",", FAILURE)
-case("word for a", grammar("a", ANY), b"word", FAILURE)
-case("number for a", grammar("a", ANY), b"12", FAILURE)
-case("a for word", grammar("word", ANY), b":", FAILURE)
+case("b for a", grammar("a", ANY), b",", failure(0))
+case("word for a", grammar("a", ANY), b"word", failure(0))
+case("number for a", grammar("a", ANY), b"12", failure(0))
+case("a for word", grammar("word", ANY), b":", failure(0))
 
 
 # --- Two terminals, and which columns a second one has left -------------------------------------------------
 
 # a2 b3. Equal: 2 to 2, 3 isn't in it. Greater: 0 to 1, then "l+1 on" is 1 on. At least: 0 to 2.
-case("a2 b3 mode equal", grammar("a b", EQUAL), b"  :,", FAILURE)
-case("a2 b3 mode greater", grammar("a b", GREATER), b"  :,", success(2, 0, 1))
-case("a2 b3 mode at-least", grammar("a b", AT_LEAST), b"  :,", success(2, 0, 2))
-case("a2 b3 mode any", grammar("a b", ANY), b"  :,", success(2, 0, "inf"))
-# "Sequence: a, then b": a missing, b missing, both there but exchanged.
-case("sequence without b", grammar("a b", ANY), b":", FAILURE)
-case("sequence without a", grammar("a b", ANY), b",", FAILURE)
-case("sequence exchanged", grammar("a b", ANY), b",:", FAILURE)
+case("a2 b3 mode equal", grammar("a b", EQUAL), b"  :,", failure(1))
+case("a2 b3 mode greater", grammar("a b", GREATER), b"  :,", success(2, 0, 1, 1))
+case("a2 b3 mode at-least", grammar("a b", AT_LEAST), b"  :,", success(2, 0, 2, 1))
+case("a2 b3 mode any", grammar("a b", ANY), b"  :,", success(2, 0, "inf", 1))
+# "Sequence: a, then b": b missing, the line's end in its place; a missing, so b isn't tried; both there but exchanged.
+case("sequence without b", grammar("a b", ANY), b":", failure(1))
+case("sequence without a", grammar("a b", ANY), b",", failure(0))
+case("sequence exchanged", grammar("a b", ANY), b",:", failure(0))
 # Word, eol, word: each line's word and the first one's end, all in the mode.
 # x4 end5 y2: at least 0 to 4, 0 to 4, then met with 0 to 2; greater 0 to 3, then met with
-# 0 to 1; equal: 5 isn't 4.
-case("lower second line mode at-least", grammar("word eol word", AT_LEAST), b"    x\n  y", success(3, 0, 2))
-case("lower second line mode greater", grammar("word eol word", GREATER), b"    x\n  y", success(3, 0, 1))
-case("lower second line mode equal", grammar("word eol word", EQUAL), b"    x\n  y", FAILURE)
-case("lower second line mode any", grammar("word eol word", ANY), b"    x\n  y", success(3, 0, "inf"))
+# 0 to 1; equal: 5 isn't 4, the end fails at 1.
+case("lower second line mode at-least", grammar("word eol word", AT_LEAST), b"    x\n  y", success(3, 0, 2, 2))
+case("lower second line mode greater", grammar("word eol word", GREATER), b"    x\n  y", success(3, 0, 1, 2))
+case("lower second line mode equal", grammar("word eol word", EQUAL), b"    x\n  y", failure(1))
+case("lower second line mode any", grammar("word eol word", ANY), b"    x\n  y", success(3, 0, "inf", 2))
 # y0: greater fails, at least gives 0 to 0.
-case("second line at 0 mode greater", grammar("word eol word", GREATER), b"    x\ny", FAILURE)
-case("second line at 0 mode at-least", grammar("word eol word", AT_LEAST), b"    x\ny", success(3, 0, 0))
+case("second line at 0 mode greater", grammar("word eol word", GREATER), b"    x\ny", failure(2))
+case("second line at 0 mode at-least", grammar("word eol word", AT_LEAST), b"    x\ny", success(3, 0, 0, 2))
 # With the end in mode any: x2 makes 2 to 2 and the second word must be there too.
-case("second line equal", grammar("word (position any eol) word", EQUAL), b"  x\n  y", success(3, 2, 2))
-case("second line not equal", grammar("word (position any eol) word", EQUAL), b"  x\n   y", FAILURE)
+case("second line equal", grammar("word (position any eol) word", EQUAL), b"  x\n  y", success(3, 2, 2, 2))
+case("second line not equal", grammar("word (position any eol) word", EQUAL), b"  x\n   y", failure(2))
 
 
 # --- Choice, not, repeat ------------------------------------------------------------------------------------
 
 # "Choice: a, or if a fails b from the old state."
-case("choice takes a", grammar("a / b", EQUAL), b" :", success(1, 1, 1))
-case("choice takes b", grammar("a / b", EQUAL), b" ,", success(1, 1, 1))
-case("choice takes neither", grammar("a / b", EQUAL), b" ;", FAILURE)
-# The order counts (001, section 1): of ab, ab/a reads both tokens, a/ab only a.
-expressed("a b / a", ANY, b":,", success(2, 0, "inf"))
-expressed("a / a b", ANY, b":,", success(1, 0, "inf"))
-# The first alternative has succeeded; what follows fails and nothing else is tried.
-expressed("(a / a b) c", ANY, b":,;", FAILURE, leaves="a b c")
-# "Trying the second alternative with the first one's narrowed interval": a b makes 5 to 5 and fails; a
+case("choice takes a", grammar("a / b", EQUAL), b" :", success(1, 1, 1, 0))
+case("choice takes b", grammar("a / b", EQUAL), b" ,", success(1, 1, 1, 0))
+case("choice takes neither", grammar("a / b", EQUAL), b" ;", failure(0))
+# The order counts (001, section 1): of ab, ab/a reads both tokens, a/ab only a, and b isn't tried.
+expressed("a b / a", ANY, b":,", success(2, 0, "inf", 1))
+expressed("a / a b", ANY, b":,", success(1, 0, "inf", 0))
+# The first alternative has succeeded; what follows fails, c at 1, and nothing else is tried.
+expressed("(a / a b) c", ANY, b":,;", failure(1), leaves="a b c")
+# "Trying the second alternative with the first one's narrowed interval": a b makes 5 to 5 and fails, b at 1; a
 # under greater from 0 without end gives 0 to 4.
-case("second alternative from the old state", grammar("a b / position greater a", EQUAL), b"     :", success(1, 0, 4))
-# "Not succeeds exactly if its child fails"; "Not and failure hand the old state on."
-case("!a before b", grammar("!a", EQUAL), b"   ,", EMPTY_ANSWER)
-case("!a before a", grammar("!a", EQUAL), b"   :", FAILURE)
-case("!!a before a", grammar("!!a", EQUAL), b"   :", EMPTY_ANSWER)
-case("!!a before b", grammar("!!a", EQUAL), b"   ,", FAILURE)
-expressed("!!a a", GREATER, b"   :", success(1, 0, 2))
+case("second alternative from the old state", grammar("a b / position greater a", EQUAL), b"     :",
+     success(1, 0, 4, 1))
+# "Not succeeds exactly if its child fails"; "Not and failure hand the old state on." Its trial at 0 counts.
+case("!a before b", grammar("!a", EQUAL), b"   ,", success(0, 0, "inf", 0))
+case("!a before a", grammar("!a", EQUAL), b"   :", failure(0))
+case("!!a before a", grammar("!!a", EQUAL), b"   :", success(0, 0, "inf", 0))
+case("!!a before b", grammar("!!a", EQUAL), b"   ,", failure(0))
+expressed("!!a a", GREATER, b"   :", success(1, 0, 2, 0))
 # a0 fails in mode greater by its column alone.
-case("!a at a column outside", grammar("!a", GREATER), b":", EMPTY_ANSWER)
-# "Repeat: success in the old state .. else the repeat again .."
-case("a* mode any", grammar("a*", ANY), b":::", success(3, 0, "inf"))
-case("a* mode at-least", grammar("a*", AT_LEAST), b"  :::", success(3, 0, 2))
-case("a* mode greater", grammar("a*", GREATER), b"  :::", success(3, 0, 1))
-# a2 makes 2 to 2; a3 fails, and the round before it stands.
-case("a* mode equal", grammar("a*", EQUAL), b"  :::", success(1, 2, 2))
-case("repeat of none", grammar("a*", EQUAL), b",", EMPTY_ANSWER)
-case("repeat of none by the column", grammar("a*", GREATER), b":::", EMPTY_ANSWER)
-# The repeat leaves no a.
-expressed("a* a", ANY, b":::", FAILURE)
-expressed("a* b", ANY, b":::,", success(4, 0, "inf"), leaves="a b")
-# Rounds of a b eol, at least: a4 makes 0 to 4; the second round's a2 would make 0 to 2, but its b fails.
-case("repeat drops its last round", grammar("(a b eol)*", AT_LEAST), b"    :,\n  :;", success(3, 0, 4))
-# (a* b)*: a a b, then a b.
-expressed("(a* b)*", ANY, b"::,:,", success(5, 0, "inf"), leaves="a b")
+case("!a at a column outside", grammar("!a", GREATER), b":", success(0, 0, "inf", 0))
+# "Repeat: success in the old state .. else the repeat again .." The last round fails at 3, the line's end.
+case("a* mode any", grammar("a*", ANY), b":::", success(3, 0, "inf", 3))
+case("a* mode at-least", grammar("a*", AT_LEAST), b"  :::", success(3, 0, 2, 3))
+case("a* mode greater", grammar("a*", GREATER), b"  :::", success(3, 0, 1, 3))
+# a2 makes 2 to 2; a3 fails, at place 1, and the round before it stands.
+case("a* mode equal", grammar("a*", EQUAL), b"  :::", success(1, 2, 2, 1))
+case("repeat of none", grammar("a*", EQUAL), b",", success(0, 0, "inf", 0))
+case("repeat of none by the column", grammar("a*", GREATER), b":::", success(0, 0, "inf", 0))
+# The repeat leaves no a: the second a fails at 3, as the last round did. b is read there.
+expressed("a* a", ANY, b":::", failure(3))
+expressed("a* b", ANY, b":::,", success(4, 0, "inf", 3), leaves="a b")
+# Rounds of a b eol, at least: a4 makes 0 to 4; the second round's a2 would make 0 to 2, but its b fails,
+# at 4.
+case("repeat drops its last round", grammar("(a b eol)*", AT_LEAST), b"    :,\n  :;", success(3, 0, 4, 4))
+# (a* b)*: a a b, then a b. A third round fails at 5, the line's end.
+expressed("(a* b)*", ANY, b"::,:,", success(5, 0, "inf", 5), leaves="a b")
 
 
 # --- Indent -------------------------------------------------------------------------------------------------
@@ -272,108 +287,112 @@ INDENTED = {
 for relation in RELATIONS:
     for name, mode in RELATIONS.items():
         case(f"indent {relation} a mode {name}", grammar(f"indent {relation} a", mode), b"     :",
-             success(1, *INDENTED[relation, name]))
+             success(1, *INDENTED[relation, name], 0))
 # Greater in mode greater begins at 2: a1 fails, a2 gives 1 to 1 and out 0 to 0.
-case("indent greater a mode greater at 1", grammar("indent greater a", GREATER), b" :", FAILURE)
-case("indent greater a mode greater at 2", grammar("indent greater a", GREATER), b"  :", success(1, 0, 0))
-case("indent greater a mode equal at 0", grammar("indent greater a", EQUAL), b":", FAILURE)
-case("indent greater a mode equal at 1", grammar("indent greater a", EQUAL), b" :", success(1, 0, 0))
-case("indent greater a mode any at 0", grammar("indent greater a", ANY), b":", success(1, 0, "inf"))
-case("indent at-least a mode equal at 0", grammar("indent at-least a", EQUAL), b":", success(1, 0, 0))
+case("indent greater a mode greater at 1", grammar("indent greater a", GREATER), b" :", failure(0))
+case("indent greater a mode greater at 2", grammar("indent greater a", GREATER), b"  :", success(1, 0, 0, 0))
+case("indent greater a mode equal at 0", grammar("indent greater a", EQUAL), b":", failure(0))
+case("indent greater a mode equal at 1", grammar("indent greater a", EQUAL), b" :", success(1, 0, 0, 0))
+case("indent greater a mode any at 0", grammar("indent greater a", ANY), b":", success(1, 0, "inf", 0))
+case("indent at-least a mode equal at 0", grammar("indent at-least a", EQUAL), b":", success(1, 0, 0, 0))
 # Twice greater: 2 on; a5 gives 5 to 5, 1 to 4, 0 to 3; a1 fails.
-expressed("indent greater (indent greater a)", EQUAL, b"     :", success(1, 0, 3))
-case("indent greater (indent greater a) at 1", grammar("indent greater (indent greater a)", EQUAL), b" :", FAILURE)
-case("indent greater (indent greater a) at 2", grammar("indent greater (indent greater a)", EQUAL), b"  :", success(1, 0, 0))
+expressed("indent greater (indent greater a)", EQUAL, b"     :", success(1, 0, 3, 0))
+case("indent greater (indent greater a) at 1", grammar("indent greater (indent greater a)", EQUAL), b" :", failure(0))
+case("indent greater (indent greater a) at 2", grammar("indent greater (indent greater a)", EQUAL), b"  :",
+     success(1, 0, 0, 0))
 # Any inside greater: 5 to 5, then 1 on, then "Without end less 1 is without end".
-expressed("indent greater (indent any a)", EQUAL, b"     :", success(1, 0, "inf"))
-expressed("indent any (indent greater a)", EQUAL, b"     :", success(1, 0, "inf"))
-# 001, 2.3: in mode equal on a1 b2 the indent of (a b) fails (1 to 1, then 2), the two
+expressed("indent greater (indent any a)", EQUAL, b"     :", success(1, 0, "inf", 0))
+expressed("indent any (indent greater a)", EQUAL, b"     :", success(1, 0, "inf", 0))
+# 001, 2.3: in mode equal on a1 b2 the indent of (a b) fails (1 to 1, then 2, at place 1), the two
 # indents apart give 0 to 0.
-expressed("indent greater (a b)", EQUAL, b" :,", FAILURE)
-expressed("(indent greater a) (indent greater b)", EQUAL, b" :,", success(2, 0, 0), leaves="a b")
+expressed("indent greater (a b)", EQUAL, b" :,", failure(1))
+expressed("(indent greater a) (indent greater b)", EQUAL, b" :,", success(2, 0, 0, 1), leaves="a b")
 # Case f: "a, then (b under greater, or empty) .. a1 b2 reads 2, 1 to 1".
-case("case f on one line", grammar("a (indent greater b / empty)", EQUAL), b" :,", success(2, 1, 1))
+case("case f on one line", grammar("a (indent greater b / empty)", EQUAL), b" :,", success(2, 1, 1, 1))
 # "a3 b2 reads 1, 3 to 3": b2 stands on the next line, so the line's end is read too, in mode any.
+# b is tried at 2, read or not.
 CASE_F = grammar("a (position any eol) (indent greater b / empty)", EQUAL, leaves="a b eol")
-case("case f with b lower", CASE_F, b"   :\n  ,", success(2, 3, 3))
-case("case f with b higher", CASE_F, b" :\n  ,", success(3, 1, 1))
-case("case f with b at the same column", CASE_F, b" :\n ,", success(2, 1, 1))
+case("case f with b lower", CASE_F, b"   :\n  ,", success(2, 3, 3, 2))
+case("case f with b higher", CASE_F, b" :\n  ,", success(3, 1, 1, 2))
+case("case f with b at the same column", CASE_F, b" :\n ,", success(2, 1, 1, 2))
 # Case g: "a, then b under any .. a3 b0: 2 read, 3 to 3", and the line's end between them.
-case("case g", grammar("a (position any eol) (indent any b)", EQUAL, leaves="a b eol"), b"   :\n,", success(3, 3, 3))
-# At least: b must be at 3 or above.
+case("case g", grammar("a (position any eol) (indent any b)", EQUAL, leaves="a b eol"), b"   :\n,", success(3, 3, 3, 2))
+# At least: b must be at 3 or above. It is tried at place 2.
 CASE_AT_LEAST = grammar("a (position any eol) (indent at-least b)", EQUAL, leaves="a b eol")
-case("indent at-least and b lower", CASE_AT_LEAST, b"   :\n  ,", FAILURE)
-case("indent at-least and b equal", CASE_AT_LEAST, b"   :\n   ,", success(3, 3, 3))
-case("indent at-least and b higher", CASE_AT_LEAST, b"   :\n    ,", success(3, 3, 3))
+case("indent at-least and b lower", CASE_AT_LEAST, b"   :\n  ,", failure(2))
+case("indent at-least and b equal", CASE_AT_LEAST, b"   :\n   ,", success(3, 3, 3, 2))
+case("indent at-least and b higher", CASE_AT_LEAST, b"   :\n    ,", success(3, 3, 3, 2))
 # The upper end goes down by the second indent: a6 gives 0 to 5, b3 on the next line 0 to 2.
 case("second indent lowers the upper end",
      grammar([A, B, EOL, position(2, ANY), indent(0), indent(1), sequence(3, 5), sequence(4, 6)], EQUAL),
-     b"      :\n   ,", success(3, 0, 2))
+     b"      :\n   ,", success(3, 0, 2, 2))
 
 
 # --- Align --------------------------------------------------------------------------------------------------
 
 # Case a, from 001: "Align of a b under greater .. a2 b3: 2 read, 0 to 1 ..".
-case("case a", grammar("indent greater (align (a b))", AT_LEAST), b"  :,", success(2, 0, 1))
+case("case a", grammar("indent greater (align (a b))", AT_LEAST), b"  :,", success(2, 0, 1, 1))
 # 001, theorem 2.4: align and indent may be exchanged. 1 on with the flag set: 2 to
 # 2, then 2 to 2, out 0 to 1.
-case("case a with align outside", grammar("align (indent greater (a b))", AT_LEAST), b"  :,", success(2, 0, 1))
+case("case a with align outside", grammar("align (indent greater (a b))", AT_LEAST), b"  :,", success(2, 0, 1, 1))
 # "with the flag set, i must lie in the interval ..", whatever the mode (case d).
 for name, mode in RELATIONS.items():
-    case(f"align a mode {name}", grammar("align a", mode), b"     :", success(1, 5, 5))
-    case(f"align a at 0 mode {name}", grammar("align a", mode), b":", success(1, 0, 0))
+    case(f"align a mode {name}", grammar("align a", mode), b"     :", success(1, 5, 5, 0))
+    case(f"align a at 0 mode {name}", grammar("align a", mode), b":", success(1, 0, 0, 0))
 # Only the first token: "The flag is then clear." a5 b6 goes on from 5 to 5 in the mode.
-case("align (a b) mode equal", grammar("align (a b)", EQUAL), b"     :,", FAILURE)
-case("align (a b) mode greater", grammar("align (a b)", GREATER), b"     :,", success(2, 5, 5))
-case("align (a b) mode at-least", grammar("align (a b)", AT_LEAST), b"     :,", success(2, 5, 5))
-case("align (a b) mode any", grammar("align (a b)", ANY), b"     :,", success(2, 5, 5))
+case("align (a b) mode equal", grammar("align (a b)", EQUAL), b"     :,", failure(1))
+case("align (a b) mode greater", grammar("align (a b)", GREATER), b"     :,", success(2, 5, 5, 1))
+case("align (a b) mode at-least", grammar("align (a b)", AT_LEAST), b"     :,", success(2, 5, 5, 1))
+case("align (a b) mode any", grammar("align (a b)", ANY), b"     :,", success(2, 5, 5, 1))
 # Case h: "Align of empty, then a, mode greater, a5: 0 to 4."
-case("case h", grammar("(align empty) a", GREATER), b"     :", success(1, 0, 4))
+case("case h", grammar("(align empty) a", GREATER), b"     :", success(1, 0, 4, 0))
 # Within one more align the flag "was set both before and at the inner end", so a is aligned.
-case("case h inside an align", grammar("align ((align empty) a)", GREATER), b"     :", success(1, 5, 5))
+case("case h inside an align", grammar("align ((align empty) a)", GREATER), b"     :", success(1, 5, 5, 0))
 # "after success it is set exactly if ..": a read in the inner one clears it.
-expressed("align (align a)", GREATER, b"     :", success(1, 5, 5))
-expressed("align ((align a) b)", GREATER, b"     :,", success(2, 5, 5), leaves="a b")
+expressed("align (align a)", GREATER, b"     :", success(1, 5, 5, 0))
+expressed("align ((align a) b)", GREATER, b"     :,", success(2, 5, 5, 1), leaves="a b")
 # "A rule is its node", "Position changes the mode", indent gives "the inner set": the flag goes in as it is.
-case("align of a rule", grammar("align X", GREATER, rules="X = a"), b"     :", success(1, 5, 5))
-expressed("align (a / b)", GREATER, b"     ,", success(1, 5, 5))
-expressed("align a*", GREATER, b"     ::", success(2, 5, 5))
-expressed("align (indent greater a)", GREATER, b"     :", success(1, 0, 4))
-# Not hands its child the flag: b4 isn't in 1 to 1, so not b succeeds; without the flag b4 is greater than 1.
-expressed("a align !(position greater b)", EQUAL, b" :  ,", success(1, 1, 1))
-expressed("a !(position greater b)", EQUAL, b" :  ,", FAILURE)
+# The last round of a* fails at 2, the line's end.
+case("align of a rule", grammar("align X", GREATER, rules="X = a"), b"     :", success(1, 5, 5, 0))
+expressed("align (a / b)", GREATER, b"     ,", success(1, 5, 5, 0))
+expressed("align a*", GREATER, b"     ::", success(2, 5, 5, 2))
+expressed("align (indent greater a)", GREATER, b"     :", success(1, 0, 4, 0))
+# Not hands its child the flag: b4 isn't in 1 to 1, so not b succeeds; without the flag b4 is greater than 1. Both
+# times b is tried at place 1.
+expressed("a align !(position greater b)", EQUAL, b" :  ,", success(1, 1, 1, 1))
+expressed("a !(position greater b)", EQUAL, b" :  ,", failure(1))
 # Empty, not, a repeat without a round and an indent over empty leave the flag set.
-expressed("align (empty a)", GREATER, b"     :", success(1, 5, 5))
-expressed("align (!b a)", GREATER, b"     :", success(1, 5, 5), leaves="a b")
-expressed("align (b* a)", GREATER, b"     :", success(1, 5, 5), leaves="a b")
-expressed("align ((indent greater empty) a)", GREATER, b"     :", success(1, 5, 5))
+expressed("align (empty a)", GREATER, b"     :", success(1, 5, 5, 0))
+expressed("align (!b a)", GREATER, b"     :", success(1, 5, 5, 0), leaves="a b")
+expressed("align (b* a)", GREATER, b"     :", success(1, 5, 5, 0), leaves="a b")
+expressed("align ((indent greater empty) a)", GREATER, b"     :", success(1, 5, 5, 0))
 # "b from the old state", "Not and failure hand the old state on", "success in the old state": the flag too.
-# What failed had read a and cleared it.
-expressed("align (a b / a)", GREATER, b"     :", success(1, 5, 5))
-expressed("align (!(a b) a)", GREATER, b"     :", success(1, 5, 5))
-expressed("align ((a b)* a)", GREATER, b"     :", success(1, 5, 5))
+# What failed had read a and cleared it; its b fails at 1, the line's end.
+expressed("align (a b / a)", GREATER, b"     :", success(1, 5, 5, 1))
+expressed("align (!(a b) a)", GREATER, b"     :", success(1, 5, 5, 1))
+expressed("align ((a b)* a)", GREATER, b"     :", success(1, 5, 5, 1))
 # And a failed align hands on the clear flag.
-expressed("align (a b) / a", GREATER, b"     :", success(1, 0, 4))
+expressed("align (a b) / a", GREATER, b"     :", success(1, 0, 4, 1))
 # The flag is clear behind an align that read: b6 in mode greater from 5 to 5; in mode equal 6 isn't 5.
-case("(align a) b mode greater", grammar("(align a) b", GREATER, leaves="a b"), b"     :,", success(2, 5, 5))
-case("(align a) b mode equal", grammar("(align a) b", EQUAL, leaves="a b"), b"     :,", FAILURE)
+case("(align a) b mode greater", grammar("(align a) b", GREATER, leaves="a b"), b"     :,", success(2, 5, 5, 1))
+case("(align a) b mode equal", grammar("(align a) b", EQUAL, leaves="a b"), b"     :,", failure(1))
 # Two aligns: the second token must lie in i to i.
-case("two aligns on a line", grammar("(align a) (align b)", ANY, leaves="a b"), b":,", FAILURE)
+case("two aligns on a line", grammar("(align a) (align b)", ANY, leaves="a b"), b":,", failure(1))
 TWO_ALIGNS = grammar("(align a) eol (align b)", GREATER, leaves="a b eol")
-case("two aligns at the same column", TWO_ALIGNS, b"  :\n  ,", success(3, 2, 2))
-case("two aligns with b lower", TWO_ALIGNS, b"  :\n ,", FAILURE)
-case("two aligns with b higher", TWO_ALIGNS, b"  :\n   ,", FAILURE)
+case("two aligns at the same column", TWO_ALIGNS, b"  :\n  ,", success(3, 2, 2, 2))
+case("two aligns with b lower", TWO_ALIGNS, b"  :\n ,", failure(2))
+case("two aligns with b higher", TWO_ALIGNS, b"  :\n   ,", failure(2))
 # Case i starts "from 1 to 1"; here a first token in mode equal, x1, gives that. "Align of (a under
 # greater) .. a4: 1 to 1." (2 on, flag set: 4 to 4, out 0 to 3.)
-case("case i behind a token", grammar("a align (indent greater b)", EQUAL), b" :  ,", success(2, 1, 1))
-case("case i right behind a token", grammar("a align (indent greater b)", EQUAL), b" :,", success(2, 1, 1))
-case("case i under equal", grammar("a align (indent equal b)", EQUAL), b" :  ,", FAILURE)
-case("case i under at-least", grammar("a align (indent at-least b)", EQUAL), b" :  ,", success(2, 1, 1))
-case("case i under any", grammar("a align (indent any b)", EQUAL), b" :  ,", success(2, 1, 1))
-case("case i without an indent", grammar("a align b", EQUAL), b" :  ,", FAILURE)
+case("case i behind a token", grammar("a align (indent greater b)", EQUAL), b" :  ,", success(2, 1, 1, 1))
+case("case i right behind a token", grammar("a align (indent greater b)", EQUAL), b" :,", success(2, 1, 1, 1))
+case("case i under equal", grammar("a align (indent equal b)", EQUAL), b" :  ,", failure(1))
+case("case i under at-least", grammar("a align (indent at-least b)", EQUAL), b" :  ,", success(2, 1, 1, 1))
+case("case i under any", grammar("a align (indent any b)", EQUAL), b" :  ,", success(2, 1, 1, 1))
+case("case i without an indent", grammar("a align b", EQUAL), b" :  ,", failure(1))
 # Behind the indent the flag is "as it left it", clear: a2 under greater gives 2 to 2, out
 # 0 to 1; then b3 at least.
-expressed("align ((indent greater a) b)", AT_LEAST, b"  :,", success(2, 0, 1), leaves="a b")
+expressed("align ((indent greater a) b)", AT_LEAST, b"  :,", success(2, 0, 1, 1), leaves="a b")
 
 
 # --- Position -----------------------------------------------------------------------------------------------
@@ -383,29 +402,30 @@ ONE = {"equal": (5, 5), "greater": (0, 4), "at-least": (0, 5), "any": (0, "inf")
 for relation, ends in ONE.items():
     other = "any" if relation != "any" else "equal"
     mode = RELATIONS[other]
-    expressed(f"position {relation} a", mode, b"     :", success(1, *ends))
+    expressed(f"position {relation} a", mode, b"     :", success(1, *ends, 0))
     case(f"position {relation} of a rule", grammar(f"position {relation} X", mode, rules="X = a"), b"     :",
-         success(1, *ends))
+         success(1, *ends, 0))
     # 001: of two positions the inner one holds.
-    expressed(f"position {other} (position {relation} a)", EQUAL, b"     :", success(1, *ends))
+    expressed(f"position {other} (position {relation} a)", EQUAL, b"     :", success(1, *ends, 0))
     # With the flag set the mode has no part.
-    expressed(f"align (position {relation} a)", mode, b"     :", success(1, 5, 5))
-    expressed(f"position {relation} (align a)", mode, b"     :", success(1, 5, 5))
+    expressed(f"align (position {relation} a)", mode, b"     :", success(1, 5, 5, 0))
+    expressed(f"position {relation} (align a)", mode, b"     :", success(1, 5, 5, 0))
 # The mode is the child's only: b3 stands in the file's mode again, equal.
-expressed("(position any a) b", EQUAL, b"  :,", success(2, 3, 3), leaves="a b")
+expressed("(position any a) b", EQUAL, b"  :,", success(2, 3, 3, 1), leaves="a b")
 # At least: a2 leaves 0 to 2, and 3 is outside.
-expressed("(position at-least a) b", EQUAL, b"  :,", FAILURE, leaves="a b")
-expressed("position at-least (a b)", EQUAL, b"  :,", success(2, 0, 2))
+expressed("(position at-least a) b", EQUAL, b"  :,", failure(1), leaves="a b")
+expressed("position at-least (a b)", EQUAL, b"  :,", success(2, 0, 2, 1))
 # "through rules too", and indents, aligns, choices: the mode greater reaches a; a5
-# under greater: 1 to 4, 0 to 3.
-expressed("position greater (indent greater a)", EQUAL, b"     :", success(1, 0, 3))
-expressed("position greater (a / b)", EQUAL, b"     ,", success(1, 0, 4))
-expressed("position greater a*", EQUAL, b"  ::", success(2, 0, 1))
-expressed("position greater !a", EQUAL, b":", EMPTY_ANSWER)
+# under greater: 1 to 4, 0 to 3. The last round of a* fails at 2, the line's end.
+expressed("position greater (indent greater a)", EQUAL, b"     :", success(1, 0, 3, 0))
+expressed("position greater (a / b)", EQUAL, b"     ,", success(1, 0, 4, 0))
+expressed("position greater a*", EQUAL, b"  ::", success(2, 0, 1, 2))
+expressed("position greater !a", EQUAL, b":", success(0, 0, "inf", 0))
 # The rule names itself inside a position: rule 0 = a, then (rule 0 in mode any, or
-# empty). a2 equal, the rest any.
+# empty). a2 equal, the rest any. Behind the third a the rule fails at 3, the line's end.
 case("position in a rule that names itself",
-     grammar("a (position any X / empty)", EQUAL, rules="X = a (position any X / empty)"), b"  :::", success(3, 2, 2))
+     grammar("a (position any X / empty)", EQUAL, rules="X = a (position any X / empty)"), b"  :::",
+     success(3, 2, 2, 3))
 
 
 # --- Rules --------------------------------------------------------------------------------------------------
@@ -421,31 +441,32 @@ def paper(text, line):
          text.translate(str.maketrans("abc_", ":,; ")).encode(), line)
 
 
-paper("a", success(1, 0, 0))
+paper("a", success(1, 0, 0, 0))
 # Not not c reads nothing.
-paper("c", success(0, 0, "inf"))
+paper("c", success(0, 0, "inf", 0))
 # b0: 0 to 0. Inside 1 on with the flag set: a1 is 1 to 1, a2 at least. Out 0 to 0.
-paper("baa", success(3, 0, 0))
+paper("baa", success(3, 0, 0, 2))
 # b2: 0 to 2. Inside 1 on: 3 to 3. Out 0 to 2.
-paper("__baa", success(3, 0, 2))
-# Both A are not not c.
-paper("bc", success(1, 0, 0))
-paper("bac", success(2, 0, 0))
-# The second A is missing.
-paper("ba", FAILURE)
-# b0, then A = b1 a2 a3: 1 to 1; then a4 at least 1.
-paper("bbaaa", success(5, 0, 0))
-paper("", FAILURE)
-# Value: a number or ( values ), in mode any; ( 1 ( 2 3 ) ( ) ) are 9 tokens.
+paper("__baa", success(3, 0, 2, 2))
+# Both A are not not c: c is tried at 1, not read. Behind a it is tried at 2.
+paper("bc", success(1, 0, 0, 1))
+paper("bac", success(2, 0, 0, 2))
+# The second A is missing: c, a and b fail at 2, the line's end.
+paper("ba", failure(2))
+# b0, then A = b1 a2 a3: 1 to 1; then a4 at least 1, the last one tried.
+paper("bbaaa", success(5, 0, 0, 4))
+paper("", failure(0))
+# Value: a number or ( values ), in mode any; ( 1 ( 2 3 ) ( ) ) are 9 tokens. Nothing is tried behind the last bracket,
+# at 8. Without it the line's end is at 8, and a value and the bracket fail there; so they do at the word, 2.
 VALUES = [terminal(3), terminal(4), NUMBER, call(0), repeat(3), sequence(4, 1), sequence(0, 5), choice(2, 6)]
 VALUES_FILE = grammar(VALUES, ANY, (b"(", b")"), rules=[7])
-case("nested brackets", VALUES_FILE, b"(1 (2 3) ())", success(9, 0, "inf"))
-case("nested brackets not closed", VALUES_FILE, b"(1 (2 3) ()", FAILURE)
-case("brackets with a word inside", VALUES_FILE, b"(1 two)", FAILURE)
-case("brackets of 1,000", VALUES_FILE, b"(" * 1000 + b")" * 1000, success(2000, 0, "inf"))
+case("nested brackets", VALUES_FILE, b"(1 (2 3) ())", success(9, 0, "inf", 8))
+case("nested brackets not closed", VALUES_FILE, b"(1 (2 3) ()", failure(8))
+case("brackets with a word inside", VALUES_FILE, b"(1 two)", failure(2))
+case("brackets of 1,000", VALUES_FILE, b"(" * 1000 + b")" * 1000, success(2000, 0, "inf", 1999))
 # "a rule may stand for any node": rule 0 for a node above the one that names it, rule 1 for one below.
 case("rules above and below", grammar([call(0), A, call(1), sequence(0, 2)], AT_LEAST, rules=[1, 1]),
-     b"  ::", success(2, 0, 2))
+     b"  ::", success(2, 0, 2, 1))
 # Rule 0 = a, then (rule 0 or empty) under greater. Mode equal: each token stands to
 # the right of the one before.
 DEEPER = "a indent greater (X / empty)"
@@ -455,33 +476,37 @@ def deeper(mode):
     return grammar(DEEPER, mode, rules=f"X = {DEEPER}")
 
 
-# a3, a4, a5: 3 to 3; 4 on, 4 to 4; and so on. Out: "0 to h-1" holds 3.
-case("ever deeper mode equal", deeper(EQUAL), b"   :::", success(3, 3, 3))
+# a3, a4, a5: 3 to 3; 4 on, 4 to 4; and so on. Out: "0 to h-1" holds 3. Behind the last a the rule is tried once more
+# and fails at the line's end, place 3; so it is in the others.
+case("ever deeper mode equal", deeper(EQUAL), b"   :::", success(3, 3, 3, 3))
 # a3: 0 to 3. 1 on, a4: 1 to 4. 2 on, a5: 2 to 5. Out 0 to 4 met with 1 to 4, out 0 to 3.
-case("ever deeper mode at-least", deeper(AT_LEAST), b"   :::", success(3, 0, 3))
+case("ever deeper mode at-least", deeper(AT_LEAST), b"   :::", success(3, 0, 3, 3))
 # a1: 0 to 0. 1 on, a2 in 2 on: 1 to 1. 2 on, a3 in 3 on: 2 to 2. Out 0 to 1, out 0 to 0.
-case("ever deeper mode greater", deeper(GREATER), b" :::", success(3, 0, 0))
-case("ever deeper mode any", deeper(ANY), b"   :::", success(3, 0, "inf"))
+case("ever deeper mode greater", deeper(GREATER), b" :::", success(3, 0, 0, 3))
+case("ever deeper mode any", deeper(ANY), b"   :::", success(3, 0, "inf", 3))
 # 4,095 and the line's end are 4,096 tokens; the k-th token is at column k, and the
-# outermost interval is 0 to 0.
-case("ever deeper 4,095 times", deeper(EQUAL), b":" * 4095, success(4095, 0, 0))
+# outermost interval is 0 to 0. The line's end is at place 4,095.
+case("ever deeper 4,095 times", deeper(EQUAL), b":" * 4095, success(4095, 0, 0, 4095))
 # Rule 0 = a, then rule 0: may only fail. It passes the check, as a sequence "whose a is", and this a
-# never succeeds reading nothing.
-case("a rule that can't end", grammar("a X", ANY, rules="X = a X"), b":::", FAILURE)
-case("repeat of a rule that can't end", grammar("(a X)*", ANY, rules="X = a X"), b":::", EMPTY_ANSWER)
-# Its first part can't succeed, so it may not read nothing: the same words let it pass.
-case("a rule behind !empty", grammar("!empty X", ANY, rules="X = !empty X"), b"", FAILURE)
+# never succeeds reading nothing. The fourth a fails at 3, the line's end.
+case("a rule that can't end", grammar("a X", ANY, rules="X = a X"), b":::", failure(3))
+case("repeat of a rule that can't end", grammar("(a X)*", ANY, rules="X = a X"), b":::", success(0, 0, "inf", 3))
+# Its first part can't succeed, so it may not read nothing: the same words let it pass. No terminal is tried.
+case("a rule behind !empty", grammar("!empty X", ANY, rules="X = !empty X"), b"", failure(0))
 # Case j: "repeat of not-empty passes".
 expressed("(!empty)*", ANY, b":", EMPTY_ANSWER)
-# "Choice: a's successes, and if a may fail all of b's facts": it reads something or fails.
-expressed("(!empty / a)*", ANY, b"::", success(2, 0, "inf"))
+# "Choice: a's successes, and if a may fail all of b's facts": it reads something or fails. A third
+# round fails at 2, the line's end.
+expressed("(!empty / a)*", ANY, b"::", success(2, 0, "inf", 2))
 # a or empty can't fail ("if a may fail all of b's facts"), so its not has no success and may be repeated.
-expressed("(!(a / empty))*", ANY, b":", EMPTY_ANSWER)
+# Behind empty a isn't tried.
+expressed("(!(a / empty))*", ANY, b":", success(0, 0, "inf", 0))
 expressed("(!(empty / a))*", ANY, b":", EMPTY_ANSWER)
 # "something if both may succeed and one reads something": not empty can't, so the sequence may only fail, its
-# not can't fail, and not not has no success. It passes, fails when run, and the repeat has no round.
+# not can't fail, and not not has no success. It passes, fails when run, and the repeat has no round. Behind not
+# empty a isn't tried.
 case("(!!(a !empty))*",
-     grammar([EMPTY, not_(0), A, sequence(2, 1), not_(3), not_(4), repeat(5)], ANY), b":", EMPTY_ANSWER)
+     grammar([EMPTY, not_(0), A, sequence(2, 1), not_(3), not_(4), repeat(5)], ANY), b":", success(0, 0, "inf", 0))
 expressed("(!!(!empty a))*", ANY, b":", EMPTY_ANSWER)
 
 
@@ -503,30 +528,34 @@ steps = grammar(STEP_NODES, GREATER, STEPS)
 steps_all = grammar(STEP_ALL, GREATER, STEPS)
 # Align makes 0 to 0 of the first step; the tokens behind it are greater. Under greater, 1 on:
 # the first loss is aligned, 2 to 2, and so is the second. Out "0 to h-1", 0 to 1, met with 0 to
-# 0. 4 + 4 + 4 + 4 + 4 tokens.
-case("blocks", steps, STEP_TEXT, success(20, 0, 0))
-case("blocks to the end", steps_all, STEP_TEXT, success(20, 0, 0))
-case("blocks without the last break", steps_all, STEP_TEXT[:-1], success(20, 0, 0))
-case("blocks with empty lines", steps_all, STEP_TEXT.replace(b"\n", b"\n\n \t \n"), success(20, 0, 0))
-case("blocks with returns", steps_all, STEP_TEXT.replace(b"\n", b"\r\n"), success(20, 0, 0))
-case("blocks moved right by 4", steps_all, b"    " + STEP_TEXT[:-1].replace(b"\n", b"\n    "), success(20, 4, 4))
+# 0. 4 + 4 + 4 + 4 + 4 tokens. The last rounds try a loss and a step at the token count, 20.
+case("blocks", steps, STEP_TEXT, success(20, 0, 0, 20))
+case("blocks to the end", steps_all, STEP_TEXT, success(20, 0, 0, 20))
+case("blocks without the last break", steps_all, STEP_TEXT[:-1], success(20, 0, 0, 20))
+case("blocks with empty lines", steps_all, STEP_TEXT.replace(b"\n", b"\n\n \t \n"), success(20, 0, 0, 20))
+case("blocks with returns", steps_all, STEP_TEXT.replace(b"\n", b"\r\n"), success(20, 0, 0, 20))
+case("blocks moved right by 4", steps_all, b"    " + STEP_TEXT[:-1].replace(b"\n", b"\n    "), success(20, 4, 4, 20))
 # One tab and eight blanks are the same column.
-case("blocks with tabs", steps_all, b"step 1:\n\tloss: 0.5\n        loss: 0.25\nstep 2:\n \tloss: 0.1\n", success(20, 0, 0))
+case("blocks with tabs", steps_all, b"step 1:\n\tloss: 0.5\n        loss: 0.25\nstep 2:\n \tloss: 0.1\n",
+     success(20, 0, 0, 20))
 # Each block has its own inner column.
-case("blocks of different depth", steps_all, STEP_TEXT.replace(b"  loss: 0.1\n", b"     loss: 0.1\n"), success(20, 0, 0))
-# The second loss isn't aligned with the first: the block ends before it, and no step follows there.
+case("blocks of different depth", steps_all, STEP_TEXT.replace(b"  loss: 0.1\n", b"     loss: 0.1\n"),
+     success(20, 0, 0, 20))
+# The second loss isn't aligned with the first: the block ends before it, and no step follows there, at 8. Not tries the
+# same place.
 for name, text in (("right", b"   loss: 0.25"), ("left", b" loss: 0.25"), ("at 0", b"loss: 0.25")):
     text = STEP_TEXT.replace(b"  loss: 0.25", text)
-    case(f"second line further {name}", steps, text, success(8, 0, 0))
-    case(f"second line further {name}, to the end", steps_all, text, FAILURE)
-# The first loss isn't greater than its step: the block fails, and the repeat has no round.
-case("first line not indented", steps, STEP_TEXT.replace(b"  loss: 0.5", b"loss: 0.5"), EMPTY_ANSWER)
-case("first line not indented, to the end", steps_all, STEP_TEXT.replace(b"  loss: 0.5", b"loss: 0.5"), FAILURE)
-# The second step must stand in 0 to 0.
-case("second block further right", steps, STEP_TEXT.replace(b"step 2", b" step 2"), success(12, 0, 0))
-case("blocks on no text", steps_all, b"", EMPTY_ANSWER)
-case("blocks on empty lines", steps_all, b"\n \n\t\n", EMPTY_ANSWER)
-case("a number on a line of its own", steps, STEP_TEXT.replace(b": 0.5", b":\n    0.5"), EMPTY_ANSWER)
+    case(f"second line further {name}", steps, text, success(8, 0, 0, 8))
+    case(f"second line further {name}, to the end", steps_all, text, failure(8))
+# The first loss isn't greater than its step: the block fails, at 4, and the repeat has no round. Not tries place 0.
+case("first line not indented", steps, STEP_TEXT.replace(b"  loss: 0.5", b"loss: 0.5"), success(0, 0, "inf", 4))
+case("first line not indented, to the end", steps_all, STEP_TEXT.replace(b"  loss: 0.5", b"loss: 0.5"), failure(4))
+# The second step must stand in 0 to 0. It is tried at 12.
+case("second block further right", steps, STEP_TEXT.replace(b"step 2", b" step 2"), success(12, 0, 0, 12))
+case("blocks on no text", steps_all, b"", success(0, 0, "inf", 0))
+case("blocks on empty lines", steps_all, b"\n \n\t\n", success(0, 0, "inf", 0))
+# The number is tried at 6, the line's end.
+case("a number on a line of its own", steps, STEP_TEXT.replace(b": 0.5", b":\n    0.5"), success(0, 0, "inf", 6))
 
 
 # --- Two columns a level (02, Note 1) -----------------------------------------------------------------------
@@ -547,20 +576,23 @@ def levels(relation):
 
 
 # Align makes 0 to 0 of the first span, and the tokens behind it are greater. By 2 inside: 2 to 2 for the splices; again:
-# 4 to 4 for the losses. Out 2 to 2, then 0 to 0. Nine lines of four tokens.
+# 4 to 4 for the losses. Out 2 to 2, then 0 to 0. Nine lines of four tokens; the last rounds and not try the count, 36.
 by_two = levels("+2")
-case("two columns a level", by_two, LEVEL_TEXT, success(36, 0, 0))
-case("two columns a level, moved right by 4", by_two, b"    " + LEVEL_TEXT[:-1].replace(b"\n", b"\n    "), success(36, 4, 4))
-# A line one column too far right or left is at no level, and a token is left behind what was read.
+case("two columns a level", by_two, LEVEL_TEXT, success(36, 0, 0, 36))
+case("two columns a level, moved right by 4", by_two, b"    " + LEVEL_TEXT[:-1].replace(b"\n", b"\n    "),
+     success(36, 4, 4, 36))
+# A line one column too far right or left is at no level, and a token is left behind what was read. The sixth line's
+# loss fails at 20: its splice fails with it, and not tries that one, at 16. The fifth line's splice fails at 16.
 STRAY = LEVEL_TEXT.replace(b"    loss: 0.02", b"     loss: 0.02")
-case("two columns a level, a stray loss further right", by_two, STRAY, FAILURE)
-case("two columns a level, a stray loss further left", by_two, LEVEL_TEXT.replace(b"    loss: 0.02", b"   loss: 0.02"), FAILURE)
-case("two columns a level, a stray splice", by_two, LEVEL_TEXT.replace(b"  splice 2", b"   splice 2"), FAILURE)
+case("two columns a level, a stray loss further right", by_two, STRAY, failure(20))
+case("two columns a level, a stray loss further left", by_two, LEVEL_TEXT.replace(b"    loss: 0.02", b"   loss: 0.02"),
+     failure(20))
+case("two columns a level, a stray splice", by_two, LEVEL_TEXT.replace(b"  splice 2", b"   splice 2"), failure(16))
 # Under greater that loss is the first of its block and may stand at 5.
-case("greater a level, the same stray loss", levels("greater"), STRAY, success(36, 0, 0))
+case("greater a level, the same stray loss", levels("greater"), STRAY, success(36, 0, 0, 36))
 # The last step as the start's mode, by 31: from 0 on it is 31 on, and 31 to 31 falls to 0 to 0.
-case("start mode 34 at column 30", grammar("a", 34), b" " * 30 + b":", FAILURE)
-case("start mode 34 at column 31", grammar("a", 34), b" " * 31 + b":", success(1, 0, 0))
+case("start mode 34 at column 30", grammar("a", 34), b" " * 30 + b":", failure(0))
+case("start mode 34 at column 31", grammar("a", 34), b" " * 31 + b":", success(1, 0, 0, 0))
 
 
 # --- The scanner's terminals and columns --------------------------------------------------------------------
@@ -569,39 +601,41 @@ case("start mode 34 at column 31", grammar("a", 34), b" " * 31 + b":", success(1
 NUMBERS = b"0 7 -1 0.03 -12.50 007 -0 1234567890.0987654321".split()
 NO_NUMBERS = b"- . -. .5 5. -5. 1.2.3 1..2 --1 +1 1e5 1-2 -.5 1.-2 0x1 1. 1a a1 1.a".split()
 NO_NUMBERS += b"\xd9\xa1 1/2 #1 1_0".split()
-case("numbers", grammar("number*", ANY, ()), b" ".join(NUMBERS), success(8, 0, "inf"))
+# A repeat's last round fails at the line's end, behind the eight.
+case("numbers", grammar("number*", ANY, ()), b" ".join(NUMBERS), success(8, 0, "inf", 8))
 for i, text in enumerate(NO_NUMBERS):
-    case(f"no number {i}", grammar("word", ANY, ()), text, success(1, 0, "inf"))
+    case(f"no number {i}", grammar("word", ANY, ()), text, success(1, 0, "inf", 0))
 # `,` is a token by itself: number, other, number.
-case("number comma number", grammar("number word number", ANY, ()), b"1,5", success(3, 0, "inf"))
+case("number comma number", grammar("number word number", ANY, ()), b"1,5", success(3, 0, "inf", 2))
 # "3 + k where .. else 0 for a number": a keyword comes first.
-case("a number that is a keyword", grammar("a number", ANY, (b"12",)), b"12 13", success(2, 0, "inf"))
-case("a keyword is no number", grammar("number", ANY, (b"12",)), b"12", FAILURE)
-case("a keyword is no word", grammar("word", ANY, (b"loss",)), b"loss", FAILURE)
-case("012 is not the keyword 12", grammar("number", ANY, (b"12",)), b"012", success(1, 0, "inf"))
-# "The bytes `: , ( ) [ ] = ; %` are tokens by themselves"; without a keyword each is terminal 1.
-case("nine single bytes", grammar("word*", ANY, ()), NINE, success(9, 0, "inf"))
+case("a number that is a keyword", grammar("a number", ANY, (b"12",)), b"12 13", success(2, 0, "inf", 1))
+case("a keyword is no number", grammar("number", ANY, (b"12",)), b"12", failure(0))
+case("a keyword is no word", grammar("word", ANY, (b"loss",)), b"loss", failure(0))
+case("012 is not the keyword 12", grammar("number", ANY, (b"12",)), b"012", success(1, 0, "inf", 0))
+# "The bytes `: , ( ) [ ] = ; %` are tokens by themselves"; without a keyword each is terminal 1. A repeat
+# tries the line's end too, a sequence doesn't.
+case("nine single bytes", grammar("word*", ANY, ()), NINE, success(9, 0, "inf", 9))
 case("nine single bytes as keywords",
      grammar([*(terminal(3 + i) for i in range(9)), sequence(7, 8), *(sequence(6 - i, 9 + i) for i in range(7))], ANY,
-             [bytes([b]) for b in NINE]), NINE, success(9, 0, "inf"))
-case("single bytes inside words", grammar("word*", ANY, ()), b"a:b,c(d)e[f]g=h;i%j", success(19, 0, "inf"))
+             [bytes([b]) for b in NINE]), NINE, success(9, 0, "inf", 8))
+case("single bytes inside words", grammar("word*", ANY, ()), b"a:b,c(d)e[f]g=h;i%j", success(19, 0, "inf", 19))
 # "other tokens are longest runs of the remaining bytes": 94 from 33 to 126 less nine, and 128 from 128 on. Note 3 of 02: "A
 # byte from 128 to 191 no longer advances the column", so 64 of these 213 do not.
 # The line's end "at the column and offset of the break or the end", in mode equal.
 END_COLUMN = [WORD, EOL, position(0, ANY), sequence(2, 1)]
-case("one run of all other bytes", grammar(END_COLUMN, EQUAL, ()), bytes(RUN), success(2, 149, 149))
-case("keyword at the front of a run", grammar("a", ANY, LOSS), b"lossy", FAILURE)
-case("keyword at the end of a run", grammar("a", ANY, LOSS), b"-loss", FAILURE)
-case("keyword before a full stop", grammar("a", ANY, LOSS), b"loss.", FAILURE)
-case("keyword before a single byte", grammar("a", ANY, LOSS), b"loss=", success(1, 0, "inf"))
-case("part of a keyword", grammar("a", ANY, LOSS), b"los", FAILURE)
+case("one run of all other bytes", grammar(END_COLUMN, EQUAL, ()), bytes(RUN), success(2, 149, 149, 1))
+case("keyword at the front of a run", grammar("a", ANY, LOSS), b"lossy", failure(0))
+case("keyword at the end of a run", grammar("a", ANY, LOSS), b"-loss", failure(0))
+case("keyword before a full stop", grammar("a", ANY, LOSS), b"loss.", failure(0))
+case("keyword before a single byte", grammar("a", ANY, LOSS), b"loss=", success(1, 0, "inf", 0))
+case("part of a keyword", grammar("a", ANY, LOSS), b"los", failure(0))
 for name, text, column in (
     ("no break", b"abc", 3), ("a break", b"abc\n", 3), ("a blank", b"abc \n", 4), ("a return", b"abc\r\n", 4),
     ("a tab", b"abc\t", 8), ("a tab and a break", b"abc\t\n", 8), ("blanks in front", b"\n\n  abc", 5),
     ("two more lines", b"abc  \ndefghi\n", 5), ("bytes over 127", b"\xc3\xa9\x80\xff", 2),
     ("bytes 128", b"  \x80\x80", 2), ("letters b5", b"\xc2\xb5\xc2\xb5m", 3), ("a letter of four bytes", b"\xf0\x9f\x98\x80", 1),
 ):
-    case(f"line end column with {name}", grammar(END_COLUMN, EQUAL, ()), text, success(2, column, column))
+    case(f"line end column with {name}", grammar(END_COLUMN, EQUAL, ()), text, success(2, column, column, 1))
 # "Byte 9 moves to the next higher multiple of 8"; "Each byte but 9 and 10 advances the column by one" (Note 3 excepts 128 to 191).
 for name, text, column in (
     ("a tab", b"\t", 8), ("two tabs", b"\t\t", 16), ("1 blank and a tab", b" \t", 8),
@@ -612,41 +646,43 @@ for name, text, column in (
     ("a break and 2", b"\t\n  ", 2),
     ("a tab and a break", b"\t\n", 0), ("breaks and a tab", b"\n\n\t", 8),
 ):
-    case(f"column behind {name}", grammar("word", EQUAL, ()), text + b"w", success(1, column, column))
-    case(f"column behind {name} mode at-least", grammar("word", AT_LEAST, ()), text + b"w", success(1, 0, column))
-case("column behind a token and a tab", grammar("(position any a) word", EQUAL, leaves="a word"), b" :\tw", success(2, 8, 8))
-# One line end for each line with a token, none for the others: x end y end.
-case("line ends", grammar("(word eol)*", ANY), b"\nx\n\n \t\n  y  \n\n", success(4, 0, "inf"))
-case("no line end between two words", grammar("word*", ANY), b"x y z\n", success(3, 0, "inf"))
-case("column on a second line", grammar("(position any (word eol)) word", EQUAL), b"abc\n  d", success(3, 2, 2))
+    case(f"column behind {name}", grammar("word", EQUAL, ()), text + b"w", success(1, column, column, 0))
+    case(f"column behind {name} mode at-least", grammar("word", AT_LEAST, ()), text + b"w", success(1, 0, column, 0))
+case("column behind a token and a tab", grammar("(position any a) word", EQUAL, leaves="a word"), b" :\tw",
+     success(2, 8, 8, 1))
+# One line end for each line with a token, none for the others: x end y end. The last round is at the count, 4; that of
+# word* is at the line's end, 3.
+case("line ends", grammar("(word eol)*", ANY), b"\nx\n\n \t\n  y  \n\n", success(4, 0, "inf", 4))
+case("no line end between two words", grammar("word*", ANY), b"x y z\n", success(3, 0, "inf", 3))
+case("column on a second line", grammar("(position any (word eol)) word", EQUAL), b"abc\n  d", success(3, 2, 2, 2))
 case("column below lines without a token", grammar("(position any (word eol)) word", EQUAL),
-     b"abc\n\n \t\n    d", success(3, 4, 4))
+     b"abc\n\n \t\n    d", success(3, 4, 4, 2))
 
 
 # Note 3: "a `\u00b5` ahead of an entry pushes it one column too far" no longer. Behind it and two blanks, and below it behind
-# three, `loss` stands at column 3; what comes before it on its line is a word in mode any.
+# three, `loss` stands at column 3; what comes before it on its line is a word in mode any. The second is at place 3.
 ENTRIES = "(position any word) a (position any eol) a"
 for name, ahead in (("u", b"u"), ("letter b5", b"\xc2\xb5"), ("letter 2013", b"\xe2\x80\x93"), ("letter 1f600", b"\xf0\x9f\x98\x80"),
                     ("byte 255", b"\xff"), ("byte 192", b"\xc0")):
-    case(f"entries behind {name}", grammar(ENTRIES, EQUAL, LOSS), ahead + b"  loss\n   loss", success(4, 3, 3))
-    case(f"entries behind {name}, a blank more", grammar(ENTRIES, EQUAL, LOSS), ahead + b"  loss\n    loss", FAILURE)
-    case(f"entries behind {name}, a blank less", grammar(ENTRIES, EQUAL, LOSS), ahead + b"  loss\n  loss", FAILURE)
-case("entries behind byte 181 alone", grammar(ENTRIES, EQUAL, LOSS), b"\xb5  loss\n  loss", success(4, 2, 2))
-case("a degree sign in a keyword", grammar("a", EQUAL, (b"\xc2\xb0C",)), b"\xc2\xb0C 20\xc2\xb0", success(1, 0, 0))
-case("a number with a degree sign is a word", grammar("word", EQUAL), b" 20\xc2\xb0", success(1, 1, 1))
+    case(f"entries behind {name}", grammar(ENTRIES, EQUAL, LOSS), ahead + b"  loss\n   loss", success(4, 3, 3, 3))
+    case(f"entries behind {name}, a blank more", grammar(ENTRIES, EQUAL, LOSS), ahead + b"  loss\n    loss", failure(3))
+    case(f"entries behind {name}, a blank less", grammar(ENTRIES, EQUAL, LOSS), ahead + b"  loss\n  loss", failure(3))
+case("entries behind byte 181 alone", grammar(ENTRIES, EQUAL, LOSS), b"\xb5  loss\n  loss", success(4, 2, 2, 3))
+case("a degree sign in a keyword", grammar("a", EQUAL, (b"\xc2\xb0C",)), b"\xc2\xb0C 20\xc2\xb0", success(1, 0, 0, 0))
+case("a number with a degree sign is a word", grammar("word", EQUAL), b" 20\xc2\xb0", success(1, 1, 1, 0))
 
 
 # --- Numbers of several digits in the line ------------------------------------------------------------------
 
-# n single bytes and the line's end.
+# n single bytes and the line's end. The last round is tried at the count, n + 1.
 COUNT = grammar("(a / eol)*", ANY)
 for n in (8, 9, 98, 99, 998, 999, 4094, 4095):
-    case(f"{n:,} tokens and a line end", COUNT, b":" * n, success(n + 1, 0, "inf"))
+    case(f"{n:,} tokens and a line end", COUNT, b":" * n, success(n + 1, 0, "inf", n + 1))
 # A word at column c: 0 to c - 1 in mode greater, c to c in mode equal.
 for column in (9, 10, 11, 99, 100, 101, 1000, 1001, 9999, 10000, 10001):
     text = b" " * column + b"w"
-    case(f"column {column:,} mode greater", grammar("word", GREATER), text, success(1, 0, column - 1))
-    case(f"column {column:,} mode equal", grammar("word", EQUAL), text, success(1, column, column))
+    case(f"column {column:,} mode greater", grammar("word", GREATER), text, success(1, 0, column - 1, 0))
+    case(f"column {column:,} mode equal", grammar("word", EQUAL), text, success(1, column, column, 0))
 
 
 # --- The largest columns ------------------------------------------------------------------------------------
@@ -656,25 +692,26 @@ for column in (9, 10, 11, 99, 100, 101, 1000, 1001, 9999, 10000, 10001):
 HIGH = b"\t" * 8191 + b" " * 6 + b"w"
 for name, mode, ends in (("equal", EQUAL, (65534, 65534)), ("greater", GREATER, (0, 65533)),
                          ("at-least", AT_LEAST, (0, 65534)), ("any", ANY, (0, "inf"))):
-    case(f"column 65,534 mode {name}", grammar("word", mode), HIGH, success(1, *ends))
+    case(f"column 65,534 mode {name}", grammar("word", mode), HIGH, success(1, *ends, 0))
 # A token of bytes 128 to 191 may stand at 65,535, as its line ends there too.
-case("byte 128 at column 65,535", grammar("word eol", EQUAL), b"\t" * 8191 + b" " * 7 + b"\x80", success(2, 65535, 65535))
+case("byte 128 at column 65,535", grammar("word eol", EQUAL), b"\t" * 8191 + b" " * 7 + b"\x80",
+     success(2, 65535, 65535, 1))
 case("letter b5 at column 65,535", grammar("word", EQUAL), b"\t" * 8191 + b" " * 7 + b"\xc2\xb5", refused(9))
 # The line's end at 65,535, behind a word in mode any. The largest ends that a line can show: lower 65,535
 # (equal), upper 65,534 (greater, h-1) and 65,535 (at least, equal). A lower end over 65,535 is never shown:
 # outside of all indents only equal and align raise it, to a column.
 for name, mode, ends in (("equal", EQUAL, (65535, 65535)), ("greater", GREATER, (0, 65534)),
                          ("at-least", AT_LEAST, (0, 65535)), ("any", ANY, (0, "inf"))):
-    case(f"column 65,535 mode {name}", grammar(END_COLUMN, mode), HIGH, success(2, *ends))
+    case(f"column 65,535 mode {name}", grammar(END_COLUMN, mode), HIGH, success(2, *ends, 1))
 case("column 65,535 under align", grammar("(position any word) (align eol)", ANY, leaves="word eol"), HIGH,
-     success(2, 65535, 65535))
+     success(2, 65535, 65535, 1))
 case("column 65,535 under indent greater",
-     grammar("indent greater ((position any word) eol)", EQUAL, leaves="word eol"), HIGH, success(2, 0, 65534))
+     grammar("indent greater ((position any word) eol)", EQUAL, leaves="word eol"), HIGH, success(2, 0, 65534, 1))
 # 65,528 and seven bytes more.
-case("a run up to column 65,535", grammar(END_COLUMN, EQUAL), b"\t" * 8191 + b"w" * 7, success(2, 65535, 65535))
+case("a run up to column 65,535", grammar(END_COLUMN, EQUAL), b"\t" * 8191 + b"w" * 7, success(2, 65535, 65535, 1))
 # `w` at 0 and the line's end at 65,535: 8,191 tabs and 7 blanks.
 FAR = b"w" + b"\t" * 8191 + b" " * 7
-case("line end at 65,535 behind tabs", grammar(END_COLUMN, EQUAL), FAR, success(2, 65535, 65535))
+case("line end at 65,535 behind tabs", grammar(END_COLUMN, EQUAL), FAR, success(2, 65535, 65535, 1))
 # Two such lines: the first end makes 65,535 to 65,535. "Capping the lower end at 65,535 .."
 FAR2 = FAR + b"\n" + FAR
 
@@ -684,35 +721,37 @@ def second(expression):
     return grammar(f"((position any word) eol) {expression}", EQUAL, leaves="word eol")
 
 
-# Under greater 65,536 on: the word matches in mode any, the end at 65,535 not in mode equal.
-case("second line under greater", second("indent greater ((position any word) eol)"), FAR2, FAILURE)
+# Under greater 65,536 on: the word matches in mode any, the end at 65,535, place 3, not in mode equal.
+case("second line under greater", second("indent greater ((position any word) eol)"), FAR2, failure(3))
 # Under at least and equal 65,535 on or only; under any 0 on. The end makes 65,535 to 65,535.
 for relation in ("equal", "at-least", "any"):
     case(f"second line under {relation}", second(f"indent {relation} ((position any word) eol)"), FAR2,
-         success(4, 65535, 65535))
+         success(4, 65535, 65535, 3))
 # 65,536 on, all in mode any: both match; out "0 on, without end" met with 65,535 to 65,535.
 case("second line under greater in mode any",
-     second("indent greater (position any ((position any word) eol))"), FAR2, success(4, 65535, 65535))
+     second("indent greater (position any ((position any word) eol))"), FAR2, success(4, 65535, 65535, 3))
 case("second line under greater twice in mode any",
-     second("indent greater (indent greater (position any ((position any word) eol)))"), FAR2, success(4, 65535, 65535))
+     second("indent greater (indent greater (position any ((position any word) eol)))"), FAR2,
+     success(4, 65535, 65535, 3))
 # 506 indents: from 66,041 on.
 case("second line under 506 indents in mode any",
-     grammar([*over([*END_COLUMN, position(3, ANY)], indent, 511), sequence(3, 510)], EQUAL), FAR2, success(4, 65535, 65535))
+     grammar([*over([*END_COLUMN, position(3, ANY)], indent, 511), sequence(3, 510)], EQUAL), FAR2,
+     success(4, 65535, 65535, 3))
 # The end at 65,535 isn't at least 65,536, nor greater.
 for relation in ("at-least", "greater"):
     case(f"second line under greater in mode {relation}",
-         second(f"indent greater ((position any word) (position {relation} eol))"), FAR2, FAILURE)
-# The aligned word must lie in 65,536 on.
-case("second line aligned under greater", second("indent greater (align (position any word))"), FAR2, FAILURE)
-# The word in mode any, then not the end in mode equal.
+         second(f"indent greater ((position any word) (position {relation} eol))"), FAR2, failure(3))
+# The aligned word must lie in 65,536 on. It fails at place 2.
+case("second line aligned under greater", second("indent greater (align (position any word))"), FAR2, failure(2))
+# The word in mode any, then not the end in mode equal, tried at 3. Empty tries nothing on the second line.
 case("second line under greater and no end", second("indent greater ((position any word) !eol)"), FAR2,
-     success(3, 65535, 65535))
-case("empty under greater behind 65,535", second("indent greater empty"), FAR2, success(2, 65535, 65535))
+     success(3, 65535, 65535, 3))
+case("empty under greater behind 65,535", second("indent greater empty"), FAR2, success(2, 65535, 65535, 1))
 # The second end in mode greater without an indent: "l+1 on" is 65,536 on.
-case("second line in mode greater", second("position greater ((position any word) eol)"), FAR2, FAILURE)
+case("second line in mode greater", second("position greater ((position any word) eol)"), FAR2, failure(3))
 # The same in mode at least: 65,535 is in "l on".
 case("second line end in mode at-least", second("(position any word) (position at-least eol)"), FAR2,
-     success(4, 65535, 65535))
+     success(4, 65535, 65535, 3))
 
 
 # --- Refused by 1: the file's fields ------------------------------------------------------------------------
@@ -776,9 +815,9 @@ for name, file in (
 
 # "At most 253 keywords": with 253 the last one is terminal 255.
 K253 = [b"k%d" % i for i in range(253)]
-case("253 keywords and the last", grammar([terminal(255)], EQUAL, K253), b"  k252", success(1, 2, 2))
-case("253 keywords and the first", grammar("a", EQUAL, K253), b"  k0", success(1, 2, 2))
-case("253 keywords and another word", grammar("word", EQUAL, K253), b"  k253", success(1, 2, 2))
+case("253 keywords and the last", grammar([terminal(255)], EQUAL, K253), b"  k252", success(1, 2, 2, 0))
+case("253 keywords and the first", grammar("a", EQUAL, K253), b"  k0", success(1, 2, 2, 0))
+case("253 keywords and another word", grammar("word", EQUAL, K253), b"  k253", success(1, 2, 2, 0))
 case("254 keywords", grammar([terminal(255)], EQUAL, [*K253, b"k253"]), b"  k252", refused(1))
 case("254 keywords, the last twice", grammar([terminal(255)], EQUAL, [*K253, b"k252"]), b"  k252", refused(1))
 case("254 keywords, the first broken", grammar([terminal(255)], EQUAL, [b"a b", *K253]), b"  k252", refused(1))
@@ -830,14 +869,14 @@ for name, spelling in (
     ("32 bytes", b"x" * 32), ("byte 33", b"!"), ("byte 126", b"~"), ("bytes over 127", b"\x80\xc3\xa9\xff"),
     ("1 byte", b"q"), ("digits", b"-1.50"),
 ):
-    case(f"keyword that passes, {name}", grammar("a", EQUAL, (spelling,)), b" " + spelling, success(1, 1, 1))
+    case(f"keyword that passes, {name}", grammar("a", EQUAL, (spelling,)), b" " + spelling, success(1, 1, 1, 0))
     case(f"rule name that passes, {name}", with_names(spelling), b"", EMPTY_ANSWER)
 # Keywords that differ only in the last byte, or by one byte more.
 case("keywords alike up to the last byte", grammar("b", ANY, (b"x" * 32, b"x" * 31 + b"y")),
-     b"x" * 31 + b"y", success(1, 0, "inf"))
-case("keyword one byte longer than another", grammar("b", ANY, (b"los", b"loss")), b"loss", success(1, 0, "inf"))
-case("keyword one byte shorter than another", grammar("b", ANY, (b"loss", b"los")), b"loss", FAILURE)
-case("33 bytes are not the keyword of 32", grammar("a", ANY, (b"x" * 32,)), b"x" * 33, FAILURE)
+     b"x" * 31 + b"y", success(1, 0, "inf", 0))
+case("keyword one byte longer than another", grammar("b", ANY, (b"los", b"loss")), b"loss", success(1, 0, "inf", 0))
+case("keyword one byte shorter than another", grammar("b", ANY, (b"loss", b"los")), b"loss", failure(0))
+case("33 bytes are not the keyword of 32", grammar("a", ANY, (b"x" * 32,)), b"x" * 33, failure(0))
 
 
 # --- Refused by 3: counts -----------------------------------------------------------------------------------
@@ -855,15 +894,17 @@ case("513 nodes, start at the first", grammar([EMPTY] * 513, ANY, first=0), EXAM
 case("1,024 nodes", grammar([EMPTY] * 1024, ANY), EXAMPLE, refused(3))
 # 511 indents under greater: from 511 on. w600: 600 to 600, out 511 times h-1: 89. w511: 0. w510 is outside.
 NEST = grammar(over([WORD], indent), EQUAL)
-case("511 indents and column 600", NEST, b" " * 600 + b"w", success(1, 0, 89))
-case("511 indents and column 511", NEST, b" " * 511 + b"w", success(1, 0, 0))
-case("511 indents and column 510", NEST, b" " * 510 + b"w", FAILURE)
+case("511 indents and column 600", NEST, b" " * 600 + b"w", success(1, 0, 89, 0))
+case("511 indents and column 511", NEST, b" " * 511 + b"w", success(1, 0, 0, 0))
+case("511 indents and column 510", NEST, b" " * 510 + b"w", failure(0))
 # The same chain from node 258: 258 indents. 300 - 258 = 42.
-case("258 indents and column 300", grammar(over([WORD], indent), EQUAL, first=258), b" " * 300 + b"w", success(1, 0, 42))
+case("258 indents and column 300", grammar(over([WORD], indent), EQUAL, first=258), b" " * 300 + b"w",
+     success(1, 0, 42, 0))
 # 128 rules: node i is rule i + 1, node 127 a word, rule i stands for node i.
 CHAIN = [*(call(i + 1) for i in range(127)), WORD]
-case("128 rules, one through the other", grammar(CHAIN, AT_LEAST, rules=range(128), first=0), b"  w", success(1, 0, 2))
-case("128 rules, from the last", grammar([*CHAIN, call(127)], AT_LEAST, rules=range(128)), b"  w", success(1, 0, 2))
+case("128 rules, one through the other", grammar(CHAIN, AT_LEAST, rules=range(128), first=0), b"  w",
+     success(1, 0, 2, 0))
+case("128 rules, from the last", grammar([*CHAIN, call(127)], AT_LEAST, rules=range(128)), b"  w", success(1, 0, 2, 0))
 case("129 rules", grammar(CHAIN, AT_LEAST, rules=[*range(128), 0], first=0), b"  w", refused(3))
 case("129 rules for one node", grammar([EMPTY], ANY, rules=[0] * 129), b"  w", refused(3))
 case("128 rules for one node", grammar([EMPTY], ANY, rules=[0] * 128), b"  w", EMPTY_ANSWER)
@@ -876,7 +917,7 @@ LONGEST = grammar_fields.file(
     [(511, b"the-rule-name-of-32-bytes-no-%03d" % i) for i in range(128)],
 )
 assert len(LONGEST) == 18209
-case("longest file that passes", LONGEST, b"    the-keyword-of-32-bytes-no-00252", success(1, 0, 3))
+case("longest file that passes", LONGEST, b"    the-keyword-of-32-bytes-no-00252", success(1, 0, 3, 0))
 case("longest file and one node more", LONGEST[:-6] + EMPTY_FIELD + LONGEST[-6:], b"", refused(3))
 
 
@@ -921,7 +962,7 @@ case("node 0 a sequence of 0 and 0", grammar([sequence(0, 0)], ANY, ()), EXAMPLE
 case("node 0 a rule and no rule", grammar([call(0)], ANY, ()), EXAMPLE, refused(4))
 case("only the last of 512 nodes bad", grammar([EMPTY] * 511 + [terminal(256)], ANY, first=0), EXAMPLE, refused(4))
 # Terminal 255 may stand in a table with fewer keywords: no token has it.
-case("terminal 255 without keywords", grammar([terminal(255)], ANY, ()), EXAMPLE, FAILURE)
+case("terminal 255 without keywords", grammar([terminal(255)], ANY, ()), EXAMPLE, failure(0))
 
 
 # --- Refused by 5: rule nodes and the start -----------------------------------------------------------------
@@ -1041,14 +1082,14 @@ for name, byte in (("blanks", b" "), ("tabs", b"\t"), ("breaks", b"\n"), ("retur
     case(f"65,535 {name}", NOTHING, byte * 65535, EMPTY_ANSWER)
     case(f"65,536 {name}", NOTHING, byte * 65536, refused(8))
 # One word of 65,535 bytes; its line ends at 65,535.
-case("a word of 65,535 bytes", grammar(END_COLUMN, EQUAL), b"w" * 65535, success(2, 65535, 65535))
+case("a word of 65,535 bytes", grammar(END_COLUMN, EQUAL), b"w" * 65535, success(2, 65535, 65535, 1))
 case("a word of 65,536 bytes", grammar(END_COLUMN, EQUAL), b"w" * 65536, refused(8))
-case("65,534 blanks and a word", grammar(END_COLUMN, AT_LEAST), b" " * 65534 + b"w", success(2, 0, 65535))
+case("65,534 blanks and a word", grammar(END_COLUMN, AT_LEAST), b" " * 65534 + b"w", success(2, 0, 65535, 1))
 case("65,535 blanks and a word", grammar(END_COLUMN, AT_LEAST), b" " * 65535 + b"w", refused(8))
 # A number of 65,535 digits.
-case("a number of 65,535 digits", grammar("number", AT_LEAST), b"7" * 65535, success(1, 0, 0))
-case("a word before 65,534 breaks", grammar("word eol", AT_LEAST), b"w" + b"\n" * 65534, success(2, 0, 0))
-case("65,534 breaks and a word", grammar("word eol", AT_LEAST), b"\n" * 65534 + b"w", success(2, 0, 0))
+case("a number of 65,535 digits", grammar("number", AT_LEAST), b"7" * 65535, success(1, 0, 0, 0))
+case("a word before 65,534 breaks", grammar("word eol", AT_LEAST), b"w" + b"\n" * 65534, success(2, 0, 0, 1))
+case("65,534 breaks and a word", grammar("word eol", AT_LEAST), b"\n" * 65534 + b"w", success(2, 0, 0, 1))
 case("65,534 blanks and a byte 0", NOTHING, b" " * 65534 + b"\x00", refused(8))
 case("a text of 65,536 zeros", NOTHING, bytes(65536), refused(8))
 case("a text of 131,072 blanks", NOTHING, b" " * 131072, refused(8))
@@ -1061,7 +1102,7 @@ case("8,192 tabs and a word", NOTHING, b"\t" * 8192 + b"a", refused(9))
 case("8,192 tabs and a number", loss_file(ANY), b"\t" * 8192 + b"0.03", refused(9))
 # No token, no refusal; and the next line starts at 0.
 case("8,192 tabs", NOTHING, b"\t" * 8192, EMPTY_ANSWER)
-case("8,192 tabs, a break and a word", grammar("word", EQUAL), b"\t" * 8192 + b"\n  a", success(1, 2, 2))
+case("8,192 tabs, a break and a word", grammar("word", EQUAL), b"\t" * 8192 + b"\n  a", success(1, 2, 2, 0))
 # The word is at 65,535, but its line's end is a token at 65,536.
 case("a word at column 65,535", NOTHING, b"\t" * 8191 + b" " * 7 + b"a", refused(9))
 case("a run to column 65,536", NOTHING, b"\t" * 8191 + b"a" * 8, refused(9))
@@ -1073,7 +1114,7 @@ case("a word, 8,191 tabs and 8 returns", NOTHING, b"a" + b"\t" * 8191 + b"\r" * 
 # A line behind it, or before it, changes nothing.
 case("8,192 tabs and a word on the second line", NOTHING, b"a\n" + b"\t" * 8192 + b"a", refused(9))
 case("8,192 tabs and a word, then a line", NOTHING, b"\t" * 8192 + b"a\nb", refused(9))
-case("a word, a break and 8,192 tabs", grammar(END_COLUMN, EQUAL), b"a\n" + b"\t" * 8192, success(2, 1, 1))
+case("a word, a break and 8,192 tabs", grammar(END_COLUMN, EQUAL), b"a\n" + b"\t" * 8192, success(2, 1, 1, 1))
 # A column far over: 65,534 tabs are 524,272.
 case("65,534 tabs and a word", NOTHING, b"\t" * 65534 + b"a", refused(9))
 case("a word and 65,534 tabs", NOTHING, b"a" + b"\t" * 65534, refused(9))
@@ -1083,26 +1124,27 @@ case("column too high where the grammar fails", grammar("a", ANY), b"word" + b"\
 
 # --- Refused by 10: tokens ----------------------------------------------------------------------------------
 
-# "4,096 tokens are read, 4,097 refused."
+# "4,096 tokens are read, 4,097 refused." Behind those read a repeat tries its last round at the count, 4,096.
 BOTH = grammar("(word / eol)*", ANY)
 case("4,096 single bytes", COUNT, b":" * 4096, refused(10))
 case("4,096 single bytes, read by nothing", NOTHING, b":" * 4096, refused(10))
 case("4,095 single bytes, read by nothing", NOTHING, b":" * 4095, EMPTY_ANSWER)
-case("4,095 single bytes and a break", COUNT, b":" * 4095 + b"\n", success(4096, 0, "inf"))
+case("4,095 single bytes and a break", COUNT, b":" * 4095 + b"\n", success(4096, 0, "inf", 4096))
 case("4,096 single bytes and a break", COUNT, b":" * 4096 + b"\n", refused(10))
 # Two tokens a line.
-case("2,048 lines", BOTH, b"a\n" * 2048, success(4096, 0, "inf"))
-case("2,048 lines without the last break", BOTH, b"a\n" * 2047 + b"a", success(4096, 0, "inf"))
+case("2,048 lines", BOTH, b"a\n" * 2048, success(4096, 0, "inf", 4096))
+case("2,048 lines without the last break", BOTH, b"a\n" * 2047 + b"a", success(4096, 0, "inf", 4096))
 case("2,048 lines and a word", BOTH, b"a\n" * 2048 + b"a", refused(10))
 case("2,047 lines and two words", BOTH, b"a\n" * 2047 + b"a a", refused(10))
 case("2,049 lines", BOTH, b"a\n" * 2049, refused(10))
 # Blanks and breaks behind the 4,096th token are no tokens.
-case("2,048 lines and blanks", BOTH, b"a\n" * 2048 + b" \n\t\n ", success(4096, 0, "inf"))
-case("2,048 lines mode at-least", grammar("(word / eol)*", AT_LEAST), b"a\n" * 2048, success(4096, 0, 0))
+case("2,048 lines and blanks", BOTH, b"a\n" * 2048 + b" \n\t\n ", success(4096, 0, "inf", 4096))
+case("2,048 lines mode at-least", grammar("(word / eol)*", AT_LEAST), b"a\n" * 2048, success(4096, 0, 0, 4096))
 # Each word at 3, the ends in mode any.
-case("2,048 lines at column 3", grammar("(word position any eol)*", EQUAL), b"   a\n" * 2048, success(4096, 3, 3))
-case("2,048 aligned lines at column 3", grammar("(align (word eol))*", GREATER), b"   a\n" * 2048, success(4096, 3, 3))
-case("4,095 words", BOTH, b"w " * 4095, success(4096, 0, "inf"))
+case("2,048 lines at column 3", grammar("(word position any eol)*", EQUAL), b"   a\n" * 2048, success(4096, 3, 3, 4096))
+case("2,048 aligned lines at column 3", grammar("(align (word eol))*", GREATER), b"   a\n" * 2048,
+     success(4096, 3, 3, 4096))
+case("4,095 words", BOTH, b"w " * 4095, success(4096, 0, "inf", 4096))
 case("4,096 words", BOTH, b"w " * 4096, refused(10))
 case("4,096 numbers", NOTHING, b"7 " * 4096, refused(10))
 # Columns to 65,534 and a line's end at 65,535 are in order; the number of tokens isn't.
@@ -1110,8 +1152,9 @@ case("65,535 single bytes", COUNT, b":" * 65535, refused(10))
 case("32,767 lines", BOTH, b"a\n" * 32767, refused(10))
 case("too many tokens where the grammar fails", grammar("a", ANY), b"w " * 4096, refused(10))
 # All of 4,096 tokens read, then one more is asked for: "A terminal also fails at the token count".
-case("4,096 tokens and one more wanted", grammar("(word / eol)* eol", ANY), b"a\n" * 2048, FAILURE)
-case("4,096 tokens and no more wanted", grammar("(word / eol)* !(word / eol)", ANY), b"a\n" * 2048, success(4096, 0, "inf"))
+case("4,096 tokens and one more wanted", grammar("(word / eol)* eol", ANY), b"a\n" * 2048, failure(4096))
+case("4,096 tokens and no more wanted", grammar("(word / eol)* !(word / eol)", ANY), b"a\n" * 2048,
+     success(4096, 0, "inf", 4096))
 
 
 # --- Several at once ----------------------------------------------------------------------------------------
@@ -1193,7 +1236,7 @@ case("9 and 10 on one line", COUNT, b"\t" * 8191 + b":" * 4097, refused(9))
 # end at 65,535, and 4,096 of them at 65,536: 9, with 4,097 tokens. 7,679 tabs and 7 blanks are 61,439:
 # 4,096 of them end at 65,535, 10 alone.
 case("4,095 tokens and a line end at 65,536", COUNT, b"\t" * 7680 + b" " + b":" * 4095, refused(9))
-case("4,095 tokens and a line end at 65,535", COUNT, b"\t" * 7680 + b":" * 4095, success(4096, 0, "inf"))
+case("4,095 tokens and a line end at 65,535", COUNT, b"\t" * 7680 + b":" * 4095, success(4096, 0, "inf", 4096))
 case("4,096 tokens and a line end at 65,536", COUNT, b"\t" * 7680 + b":" * 4096, refused(9))
 case("4,096 tokens and a line end at 65,535", COUNT, b"\t" * 7679 + b" " * 7 + b":" * 4096, refused(10))
 # Each before a failure or a success of the grammar: nothing runs.

@@ -1,4 +1,4 @@
-"""Writes the stored run of the program in trials/program/long_line: its grammar file, its report and the line, of 31 bytes.
+"""Writes the stored run of the program in trials/program/long_line: its grammar file, its report and the line, of 36 bytes.
 
 The answer stands beside the inputs and was worked out by hand from the words of 01 that are quoted here.
 """
@@ -27,8 +27,9 @@ FILE = file(NODES, 8, EQUAL, [b"a"])
 REPORT = b"a\n" * 2047 + b"\t" * 8191 + b" " * 6 + b"b\n"
 
 # In mode any the interval is met with "0 on, without end" and stays 0 without end, to the word and past it. The last
-# line's end is read in mode equal: the interval is met with 65,535 to 65,535. No align: the flag stays clear.
-LINE = b"success 4096 65535 65535 clear\n"
+# line's end is read in mode equal: the interval is met with 65,535 to 65,535. No align: the flag stays clear. It is the last
+# token, at place 4,095, and nothing is tried behind it.
+LINE = b"success 4096 65535 65535 clear 4095\n"
 
 FILES = {"grammar.bin": FILE, "stdin": REPORT, "stdout": LINE}
 

@@ -3,8 +3,10 @@
  *     read_report GRAMMAR REPORT [--by-2014]
  *
  * A line of the tree is `NAME LINE:COLUMN TEXT`, both counted from 1, with the text up to its first line break, or `NAME -`
- * if the rule read no token. Before it stand two blanks for each rule around it. With --by-2014 the report is read by the
- * rules of 2014, for data sets that were read so; otherwise by those of 2017.
+ * if the rule read no token. Before it stand two blanks for each rule around it. After a failure, or a success that leaves
+ * tokens, the line below the outcome says where the farthest token is that the run tried: `run: farthest LINE:COLUMN`, or
+ * `run: farthest end` behind the last one. With --by-2014 the report is read by the rules of 2014, for data sets that were read
+ * so; otherwise by those of 2017.
  */
 #include <stdio.h>
 #include <stdlib.h>
@@ -99,7 +101,7 @@ static void lend_captures(size_t words)
 }
 
 /* Runs the file's start from token 0, interval 0 without end, flag clear. (saktroum_run does it without the captures.) */
-static uint32_t run(const size_t read[5], size_t token_words, bool by_2014, size_t ran[7])
+static uint32_t run(const size_t read[5], size_t token_words, bool by_2014, size_t ran[8])
 {
     uint32_t answer = SAKTROUM_REFUSED_CAPTURE_ROOM;
     for (size_t words = SAKTROUM_TOKEN_WORDS; answer == SAKTROUM_REFUSED_CAPTURE_ROOM && words <= MOST_CAPTURE_WORDS;
@@ -112,22 +114,42 @@ static uint32_t run(const size_t read[5], size_t token_words, bool by_2014, size
     return answer;
 }
 
+/* Prints the line and the column of a token, both from 1. */
+static void print_place(size_t token)
+{
+    const uint32_t *words = tokens + token * 4;
+    size_t line = 1;
+    for (size_t i = 0; i < words[2]; i++)
+        line += report[i] == '\n';
+    printf("%zu:%u", line, words[1] + 1);
+}
+
+/* Prints where the farthest token is, or that the run looked behind the last one. */
+static void print_farthest(size_t farthest, size_t count)
+{
+    printf("run: farthest ");
+    if (farthest < count)
+        print_place(farthest);
+    else
+        printf("end");
+    putchar('\n');
+}
+
 /* Prints the name of a capture's rule and, by where its text lies, what it read. */
 static void print_entry(size_t file_bytes, const uint32_t *capture, const size_t shown[3])
 {
     uint8_t name[SAKTROUM_NAME_BYTES];
-    size_t bytes = saktroum_rule_name(file, file_bytes, capture[0], name, sizeof name), line = 1, first = 0;
+    size_t bytes = saktroum_rule_name(file, file_bytes, capture[0], name, sizeof name), first = 0;
     printf("%*s%.*s ", (int)capture[3] * 2, "", (int)bytes, (const char *)name);
     if (shown[2] == SAKTROUM_IN_FILE) {
         puts("-");
         return;
     }
     const uint8_t *text = report + shown[0];
-    for (size_t i = 0; i < shown[0]; i++)
-        line += report[i] == '\n';
     while (first < shown[1] && text[first] != '\n')
         first++;
-    printf("%zu:%u %.*s\n", line, tokens[capture[1] * 4 + 1] + 1, (int)first, (const char *)text);
+    print_place(capture[1]);
+    printf(" %.*s\n", (int)first, (const char *)text);
 }
 
 static int print_entries(size_t file_bytes, size_t report_bytes, size_t token_words, size_t count)
@@ -145,7 +167,7 @@ static int print_entries(size_t file_bytes, size_t report_bytes, size_t token_wo
 
 static int read_report(size_t file_bytes, size_t report_bytes, bool by_2014)
 {
-    size_t read[5], count[1], ran[7];
+    size_t read[5], count[1], ran[8];
     uint32_t answer;
     if ((answer = saktroum_read(file, file_bytes, nodes, SAKTROUM_NODE_WORDS, rules, SAKTROUM_RULE_WORDS, read)))
         return refused("read", answer);
@@ -161,10 +183,13 @@ static int read_report(size_t file_bytes, size_t report_bytes, bool by_2014)
         return refused("run", answer);
     if (!ran[0]) {
         puts("run: failure");
+        print_farthest(ran[6], count[0]);
         return 0;
     }
     printf("run: success, %zu of %zu tokens read\n", ran[1], count[0]);
-    return print_entries(file_bytes, report_bytes, count[0] * 4, ran[6]);
+    if (ran[1] < count[0])
+        print_farthest(ran[6], count[0]);
+    return print_entries(file_bytes, report_bytes, count[0] * 4, ran[7]);
 }
 
 static void work(void *argument)

@@ -4,11 +4,13 @@
     python3 examples/read_report.py LIBRARY GRAMMAR REPORT [--json] [--by-2014]
 
 A line of the tree is `NAME LINE:COLUMN TEXT`, both counted from 1, with the text up to its first line break, or `NAME -`
-if the rule read no token. Before it stand two blanks for each rule around it.
+if the rule read no token. Before it stand two blanks for each rule around it. After a failure, or a success that leaves
+tokens, the line below the outcome says where the farthest token is that the run tried: `farthest LINE:COLUMN`, or
+`farthest end` behind the last one.
 
 With --json only JSON lines are printed, one an entry: its number, from 0 on, the name of its rule, its first and last
 line, its whole text, and the number of the entry around it or null. If it read no token, both lines are null and the text
-is empty. A failure has no entries, and then ends the program with status 1.
+is empty. A failure has no entries; it and its farthest token are told on standard error, and the exit status is 1.
 
 With --by-2014 the report is read by the rules of 2014, for data sets that were read so; otherwise by those of 2017.
 """
@@ -115,7 +117,7 @@ def run(reader, table, tokens, node, mode, by_2014):
     """The words of a run from token 0, interval 0 without end, flag clear, and its captures, four words each."""
     start = (c_uint16(node), c_uint32(0), c_uint32(0), c_uint32(0), c_bool(True), c_bool(False), c_uint16(mode))
     start += (c_bool(by_2014),)
-    ran, words = (c_size_t * 7)(), TOKEN_WORDS
+    ran, words = (c_size_t * 8)(), TOKEN_WORDS
     while True:
         captures = (c_uint32 * words)()
         # saktroum_run does the same without the captures.
@@ -124,7 +126,19 @@ def run(reader, table, tokens, node, mode, by_2014):
             break
         words *= 2
     passed(answer, "run")
-    return ran, [captures[4 * i : 4 * i + 4] for i in range(ran[6])]
+    return ran, [captures[4 * i : 4 * i + 4] for i in range(ran[7])]
+
+
+def outcome(report, tokens, count, ran):
+    """The lines of a run: its outcome and, unless every token was read, where the farthest token is, or the end."""
+    told = f"success, {ran[1]} of {count} tokens read" if ran[0] else "failure"
+    if ran[0] and ran[1] == count:
+        return told
+    if ran[6] == count:
+        return f"{told}\nfarthest end"
+    column, offset = tokens[0][4 * ran[6] + 1 : 4 * ran[6] + 3]
+    line = 1 + bytes(report[0]).count(b"\n", 0, offset)
+    return f"{told}\nfarthest {line}:{1 + column}"
 
 
 def shown_part(reader, file, report, tokens, capture):
@@ -177,9 +191,9 @@ def read_report(library, grammar, report, as_json, by_2014):
     tokens, count = scan(reader, file, report)
     ran, captures = run(reader, table, tokens, *start, by_2014)
     if as_json and not ran[0]:
-        sys.exit("failure")
+        sys.exit(outcome(report, tokens, count, ran))
     if not as_json:
-        print(f"success, {ran[1]} of {count} tokens read" if ran[0] else "failure")
+        print(outcome(report, tokens, count, ran))
     (print_json if as_json else print_tree)(entries(reader, file, report, tokens, rules, captures))
 
 

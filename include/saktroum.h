@@ -24,7 +24,7 @@
 #ifndef SAKTROUM_H
 #define SAKTROUM_H
 
-#define SAKTROUM_VERSION "0.2.0"
+#define SAKTROUM_VERSION "0.3.0"
 
 #include <stdbool.h>
 #include <stddef.h>
@@ -137,21 +137,27 @@ uint32_t saktroum_check(const uint16_t *nodes, size_t node_words,
  * `by_2014` names the reading: false is that of 2017, true that of 2014, for data sets that were read so
  * (docs/HANDBOOK.md, "Data sets read by the rules of 2014").
  * result, on success: 1, the number of tokens read, the lower end, the upper end (0 if there is none), whether the
- * interval is without end (1 or 0), whether the flag is set (1 or 0). On failure: result[0] is 0, the others are as before. */
+ * interval is without end (1 or 0), whether the flag is set (1 or 0), the farthest place. On failure: result[0] is 0,
+ * result[6] is the farthest place, the others are as before.
+ * The farthest place is how far the run looked: the largest place in the token list, from 0 on as `place` counts, at which
+ * a terminal was tried, read or not, inside nots and in failed alternatives too; the number of tokens, if one was tried
+ * behind the last; `place`, if none was tried. Where a grammar fails, look at the token there first (docs/HANDBOOK.md, "It
+ * fails: now what?"). */
 uint32_t saktroum_run(const uint16_t *nodes, size_t node_words,
                       const uint16_t *rules, size_t rule_words,
                       const uint32_t *tokens, size_t token_words,
                       uint16_t node, uint32_t place, uint32_t lower, uint32_t upper,
                       bool endless, bool flag, uint16_t mode, bool by_2014,
-                      size_t result[6]);
+                      size_t result[7]);
 
 /* Runs a grammar as saktroum_run does and lists its captures (3, 4, 5, 7, 11, 12, 16, 13, in this order; mind the stack,
  * above): every rule that succeeded on the way to the final success, outside any not, any failed alternative and a repeat's
  * last, failed round. Writes four words a capture (rule, first token, token after the last, number of captures around it) to
  * `captures`, an outer one before those inside it, otherwise in the order in which they were read, and 0 to every word behind
  * them.
- * result, on success: the six words of saktroum_run, then the number of captures, which tells a list of one capture with
- * the words 0 0 0 0 from an empty one. On failure: result[0] is 0, the others are as before; every word of `captures` is 0.
+ * result, on success: the seven words of saktroum_run, then the number of captures, which tells a list of one capture with
+ * the words 0 0 0 0 from an empty one. On failure: result[0] is 0, result[6] is the farthest place, the others are as before;
+ * every word of `captures` is 0.
  * After 13 lend more words: a list may be of any length, and the answer does not say of which. */
 uint32_t saktroum_list(const uint16_t *nodes, size_t node_words,
                        const uint16_t *rules, size_t rule_words,
@@ -159,7 +165,7 @@ uint32_t saktroum_list(const uint16_t *nodes, size_t node_words,
                        uint16_t node, uint32_t place, uint32_t lower, uint32_t upper,
                        bool endless, bool flag, uint16_t mode, bool by_2014,
                        uint32_t *captures, size_t capture_words,
-                       size_t result[7]);
+                       size_t result[8]);
 
 /* Where a shown text lies. */
 enum { SAKTROUM_IN_REPORT = 0, SAKTROUM_IN_FILE = 1 };

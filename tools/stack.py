@@ -35,12 +35,14 @@ READER = ROOT / "target" / "bin" / "reader"
 KIB, MIB = 1024, 1024 * 1024
 NODES, RULES = 512, 128
 EMPTY_NODE = LIST.index(EMPTY)
-ALL_READ = f"success {TOKENS} 0 0 clear"
-NONE_READ = "success 0 0 inf clear"
+# The last number is the farthest place: a is tried behind the last token too.
+ALL_READ = f"success {TOKENS} 0 0 clear {TOKENS}"
+NONE_READ = "success 0 0 inf clear 0"
+LOOKED = f"success 0 0 inf clear {TOKENS}"
 # X behind each of the tokens; the start is the node that X stands for, and no capture.
 LISTED, NONE_LISTED = f"captures {TOKENS}", "captures 0"
-ALL_READ_ENDLESS = f"success {TOKENS} 0 inf clear"
-ALL_READ_SET = f"success {TOKENS} 0 0 set"
+ALL_READ_ENDLESS = f"success {TOKENS} 0 inf clear {TOKENS}"
+ALL_READ_SET = f"success {TOKENS} 0 0 set {TOKENS}"
 
 
 def chain(kind, count, b=0, relation=0, nodes=LIST):
@@ -75,7 +77,7 @@ class Shape:
         self.name, self.nodes, self.answer, self.mode, self.limit = name, nodes, answer, mode, limit
         self.rules, self.listing, self.by_2014 = rules, listing, by_2014
         # A run over no token leaves the flag as one over all does.
-        self.none = NONE_LISTED if listing else NONE_READ.replace("clear", answer.split()[-1])
+        self.none = NONE_LISTED if listing else NONE_READ.replace("clear", answer.split()[4])
         # Every node calls the next but a, X behind a (a tail, walked by its sequence's call) and empty.
         self.round = len(nodes) - 3
 
@@ -99,8 +101,8 @@ def shapes():
         Shape("indents, any", chain(7, free, relation=3), ALL_READ_ENDLESS),
         Shape("indents, greater", chain(7, free, relation=1), ALL_READ_ENDLESS, mode=ANY),
         Shape("indents by 31", chain(7, free, relation=step(31)), ALL_READ_ENDLESS, mode=ANY),
-        # An even number of nots over the list looks ahead to the last token and reads none.
-        Shape("nots", chain(5, free // 2 * 2), NONE_READ),
+        # An even number of nots over the list looks ahead behind the last token and reads none.
+        Shape("nots", chain(5, free // 2 * 2), LOOKED),
         Shape("choices", chain(4, free, b=EMPTY_NODE)),
         Shape("sequences", chain(3, free, b=EMPTY_NODE)),
         Shape("rules, aligns", chain(9, NODES - len(nodes), nodes=nodes), rules=targets),
@@ -172,7 +174,8 @@ def measure_reader(name, nodes, limit, folder):
     words = TOKENS - 1
     (folder / "grammar.bin").write_bytes(grammar_file(nodes))
     (folder / "report").write_bytes(b"a " * words)
-    need = least(READER, folder, f"success {words} 0 inf clear", limit * MIB)
+    # The farthest place is that of the line end, behind the words.
+    need = least(READER, folder, f"success {words} 0 inf clear {words}", limit * MIB)
     if need is None:
         print(f"{name:26} no right answer with {2 * limit} MiB")
         return False

@@ -51,7 +51,8 @@ def main():
     reader, entries = (pathlib.Path(program).resolve() for program in sys.argv[1:])
     text = (ROOT / "README.md").read_text(encoding="utf-8")
     report, grammar, command, answer = blocks(text)[:4]
-    told = re.search(r"With `misplaced\.txt`.*?it prints `(\w+)`", text)
+    told = re.search(r"With `misplaced\.txt`.*?it prints `(failure \d+)`.*?`entries` prints .*?`(farthest [^`]+)`", text)
+    failed, farthest = told.groups() if told else ("", "")
     compared = {
         "its report": (report, (EXAMPLES / "report.txt").read_text(encoding="utf-8")),
         "the lines of its rules": (len(grammar.splitlines()), len(rules(grammar))),
@@ -60,8 +61,8 @@ def main():
         "examples/grammar.bin": ((EXAMPLES / "grammar.bin").read_bytes(), built()),
         "what entries prints of report.txt": (answer, printed(entries, "report.txt")),
         "its last line": (answer.splitlines()[-1] + "\n", printed(reader, "report.txt")),
-        "what entries prints of misplaced.txt": (told and told[1] + "\n", printed(entries, "misplaced.txt")),
-        "what reader prints of misplaced.txt": (told and told[1] + "\n", printed(reader, "misplaced.txt")),
+        "what entries prints of misplaced.txt": (f"{failed}\n{farthest}\n", printed(entries, "misplaced.txt")),
+        "what reader prints of misplaced.txt": (f"{failed}\n", printed(reader, "misplaced.txt")),
     }
     for name, (written, found) in compared.items():
         if written != found:

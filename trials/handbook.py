@@ -14,7 +14,8 @@ LIBRARY is the reader as a shared library (trials/library.py says how it is made
 START is empty or parts with commas between them: `rule NAME`, `mode RELATION`, `from L to H`, `from L on`, `flag set`,
 `by 2014` (the reading) and `entries`. A run by 2014 that is refused has the answer `refused 16`. Below a run with `entries`
 stand its captures as the program `entries` prints them, a line for each, behind five blanks and two more for each capture
-around it: `NAME LINE:COLUMN TEXT`, or `NAME -` for one that read no token.
+around it: `NAME LINE:COLUMN TEXT`, or `NAME -` for one that read no token. Below them, if the run failed or left tokens, stands
+where the farthest place is, as that program prints it too: `farthest LINE:COLUMN`, or `farthest end`.
 """
 
 import itertools
@@ -35,7 +36,7 @@ CASES = ROOT / "crates" / "clauses" / "specs" / "HandbookCases.antt"
 
 CASE = re.compile(r"\((?P<number>\d+)\) (?:(?P<start>.+?) )?-> (?P<answer>.+)")
 ENTRY = " " * 5  # before each line of a list
-ANSWER = re.compile(r"failure|refused 16|success (\d+) (\d+) (\d+|inf) (clear|set)")
+ANSWER = re.compile(r"failure \d+|refused 16|success \d+ \d+ (\d+|inf) (clear|set) \d+")
 BUILDS = re.compile(r"python3 tools/build\.py (?P<grammar>[^-\s]\S*) (?P<file>\S+)")
 READS = re.compile(r"\.\./target/bin/(?P<program>reader|entries) < (?P<report>\S+)")
 WRITES = re.compile(r"target/write_grammar (?P<lending>\S+) (?P<table>\S+) \S+")
@@ -156,24 +157,38 @@ def read_grammar(reader, block):
 # Lists
 
 
+def place_of(report, token):
+    """The line and the column of a token, both from 1."""
+    _, column, offset, _ = token
+    line = report.count(b"\n", 0, offset) + 1
+    return f"{line}:{column + 1}"
+
+
 def entry_line(reader, file, report, tokens, capture):
     """The line of a capture, as the program `entries` prints it."""
     rule, first, after, around = capture
     text = reader.shown(file, report, tokens, capture).decode()
     if first == after:
         return f"{'  ' * around}{text} -"
-    _, column, offset, _ = tokens[first]
-    line = report.count(b"\n", 0, offset) + 1
     first_line = text.split("\n")[0]
-    return f"{'  ' * around}{reader.rule_name(file, rule).decode()} {line}:{column + 1} {first_line}"
+    return f"{'  ' * around}{reader.rule_name(file, rule).decode()} {place_of(report, tokens[first])} {first_line}"
 
 
 def entry_lines(reader, file, report, tokens, captures):
     return [entry_line(reader, file, report, tokens, capture) for capture in captures]
 
 
+def farthest_lines(report, tokens, answer):
+    """The line that says where the farthest place of an answer is; none after a refusal, or where every token was read."""
+    kind, *words = answer.split()
+    if kind == "refused" or kind == "success" and int(words[0]) == len(tokens):
+        return []
+    place = int(words[-1])
+    return [f"farthest {place_of(report, tokens[place]) if place < len(tokens) else 'end'}"]
+
+
 def check_entries(case, written, listed):
-    """The lines below a run are those of its captures. A run without `entries` has none."""
+    """The lines below a run are those of its captures and of its farthest place. A run without `entries` has none."""
     if written and not case.entries:
         raise Wrong(case.line + 1, "entries stand below a run with the part `entries`")
     listed = [ENTRY + line for line in listed]
@@ -189,7 +204,7 @@ def read_case(grammar, number, line):
     """A line below a report: number, start and answer."""
     found = CASE.fullmatch(line)
     if not found or not ANSWER.fullmatch(found["answer"]):
-        raise Wrong(number, "a run is written `(NUMBER) START -> success N L H clear` or `.. -> failure`")
+        raise Wrong(number, "a run is written `(NUMBER) START -> success N L H clear F` or `.. -> failure F`")
     table = grammar.table
     start = {"node": table.start, "mode": table.mode, "lower": 0, "upper": None, "flag": False}
     start |= {"by_2014": False, "entries": False}
@@ -246,7 +261,9 @@ def run_case(reader, report, case, written):
         raise Wrong(case.line, f"the reader answers: {answer}")
     if with_list != answer:
         raise Wrong(case.line, f"the run that lists answers: {with_list}")
-    listed = entry_lines(reader, file, text, report.tokens, captures) if case.entries else []
+    listed = []
+    if case.entries:
+        listed = entry_lines(reader, file, text, report.tokens, captures) + farthest_lines(text, report.tokens, answer)
     check_entries(case, written, listed)
     return case._replace(captures=captures if case.entries else None)
 
@@ -301,12 +318,12 @@ def printed(reader, program, path):
     """The lines that a program prints on a report of the examples."""
     file, report = (ROOT / "examples" / "grammar.bin").read_bytes(), path.read_bytes()
     says = reader.line(file, report)
-    if program == "reader" or not says.startswith("success"):
+    if program == "reader" or says.startswith("refused"):
         return [says]
     nodes, rules, *start = reader.read(file)
     tokens = reader.scan(file, report)
     _, captures = reader.list(nodes, rules, tokens, *start)
-    return [*entry_lines(reader, file, report, tokens, captures), says]
+    return [*entry_lines(reader, file, report, tokens, captures), says, *farthest_lines(report, tokens, says)]
 
 
 # The whole

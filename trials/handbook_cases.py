@@ -13,8 +13,8 @@ HEAD = """\
 -- The blocks of docs/HANDBOOK.md as cases: each run of a report by a grammar, then a check of each grammar, and the runs whose
 -- entries the handbook has once more, with their captures. This file is made from the handbook by trials/handbook.py: nodes as
 -- tools/build.py numbers them, tokens as the scanner gives them, the answers as the handbook has them, where they follow from
--- 01, "Columns and states", 02, notes 1, 2 and 5, 001, section 2.1, and 000, figure 6, by hand; the words of captures as the reader lists them,
--- for the entries that the handbook has. `HandbookHold`, in proofs, computes them all.
+-- 01, "Columns and states", 02, notes 1, 2, 5 and 7, 001, section 2.1, and 000, figure 6, by hand; the words of captures as the
+-- reader lists them, for the entries that the handbook has. `HandbookHold`, in proofs, computes them all.
 use Prim.Native.Nat.{ℕ}
 use mathlib.Core.Bool.{Bool, true, false}
 use mathlib.Core.List.{List, [], _∷_, _++_}
@@ -109,12 +109,14 @@ def report_part(name, report):
 
 def answer(text):
     """An answer of the handbook."""
-    if text == "failure":
-        return "fails"
-    if text.startswith("refused "):
+    kind, *words = text.split()
+    if kind == "refused":
         return f"({text})"
-    _, read, lower, upper, flag = text.split()
-    return f"(reads {read} {lower} {'Endless' if upper == 'inf' else f'(At {upper})'} {'true' if flag == 'set' else 'false'})"
+    if kind == "failure":
+        return f"(fails {words[0]})"
+    read, lower, upper, flag, farthest = words
+    end = "Endless" if upper == "inf" else f"(At {upper})"
+    return f"(reads {read} {lower} {end} {'true' if flag == 'set' else 'false'} {farthest})"
 
 
 def start(case):

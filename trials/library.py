@@ -44,10 +44,10 @@ def start_of(node, mode, lower=0, upper=None, flag=False):
 
 
 def ran_line(ran):
-    """The line of a run's six words."""
+    """The line of a run's seven words."""
     if not ran[0]:
-        return "failure"
-    return f"success {ran[1]} {ran[2]} {'inf' if ran[4] else ran[3]} {'set' if ran[5] else 'clear'}"
+        return f"failure {ran[6]}"
+    return f"success {ran[1]} {ran[2]} {'inf' if ran[4] else ran[3]} {'set' if ran[5] else 'clear'} {ran[6]}"
 
 
 class Reader:
@@ -91,14 +91,14 @@ class Reader:
 
     def run(self, nodes, rules, tokens, *start, by_2014=False):
         """The line of a run from the first token; the start is a node, a mode and, if not as usual, two ends and a flag."""
-        ran = (c_size_t * 6)()
+        ran = (c_size_t * 7)()
         words = self.token_words(tokens)
         passed(self.library.saktroum_run(*self.table(nodes, rules), *words, *start_of(*start), c_bool(by_2014), byref(ran)))
         return ran_line(ran)
 
     def list(self, nodes, rules, tokens, *start, by_2014=False):
         """The line of such a run and its captures: rule, first token, token after the last and number around, of each."""
-        ran, room = (c_size_t * 7)(), 4
+        ran, room = (c_size_t * 8)(), 4
         given = (*self.table(nodes, rules), *self.token_words(tokens), *start_of(*start), c_bool(by_2014))
         while True:
             captures = (c_uint32 * room)()
@@ -107,7 +107,7 @@ class Reader:
                 break
             room *= 2
         passed(answer)
-        return ran_line(ran), fours(captures, ran[6])
+        return ran_line(ran), fours(captures, ran[7])
 
     def shown(self, file, report, tokens, capture):
         """The text shown for a capture: a part of the report, or the name of its rule."""

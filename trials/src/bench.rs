@@ -369,7 +369,7 @@ fn run(name: &str, nodes: &[[u16; 4]], rules: &[u16], tokens: &[u32]) -> Result<
     let nodes = nodes.concat();
     let node = (nodes.len() / 4 - 1) as u16;
     let start = Start::from_first(node, 3);
-    let mut result = [0; 6];
+    let mut result = [0; 7];
     time(
         name,
         || match plain::run(&nodes, rules, tokens, By2017, &start, &mut result) {
@@ -378,7 +378,7 @@ fn run(name: &str, nodes: &[[u16; 4]], rules: &[u16], tokens: &[u32]) -> Result<
         },
         || match second::run(&nodes, rules, tokens, By2017, &start) {
             second::Ran::Success { read, .. } => read as usize,
-            second::Ran::Failure => 10_000,
+            second::Ran::Failure { .. } => 10_000,
             second::Ran::Refused(refused) => 10_000 + usize::from(refused),
             second::Ran::IllFormed(_) => 10_007,
         },
@@ -440,7 +440,7 @@ fn list(name: &str, nodes: &[[u16; 4]], rules: &[u16], tokens: &[u32]) -> Result
     let node = (nodes.len() / 4 - 1) as u16;
     let start = Start::from_first(node, 3);
     let (mut captures, mut others) = (vec![0; 16_384], vec![0; 16_384]);
-    let mut result = [0; 7];
+    let mut result = [0; 8];
     time(
         name,
         || match plain::list(
@@ -452,12 +452,12 @@ fn list(name: &str, nodes: &[[u16; 4]], rules: &[u16], tokens: &[u32]) -> Result
             &mut captures,
             &mut result,
         ) {
-            0 if result[0] == 1 => result[6],
+            0 if result[0] == 1 => result[7],
             refused => 10_000 + refused as usize,
         },
         || match second::list(&nodes, rules, tokens, By2017, &start, &mut others) {
             second::Listed::Success { captures, .. } => captures as usize,
-            second::Listed::Failure => 10_000,
+            second::Listed::Failure { .. } => 10_000,
             second::Listed::Refused(refused) => 10_000 + usize::from(refused),
             second::Listed::IllFormed(_) => 10_007,
         },

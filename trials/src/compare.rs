@@ -211,24 +211,26 @@ fn run_of(listed: &Listed, ran: &Ran) -> Ran {
         Listed::Refused(13) if matches!(ran, Ran::Success { .. }) => *ran,
         Listed::Refused(number) => Ran::Refused(number),
         Listed::IllFormed(node) => Ran::IllFormed(node),
-        Listed::Failure => Ran::Failure,
+        Listed::Failure { farthest } => Ran::Failure { farthest },
         Listed::Success {
             read,
             lower,
             upper,
             flag,
+            farthest,
             ..
         } => Ran::Success {
             read,
             lower,
             upper,
             flag,
+            farthest,
         },
     }
 }
 
-/// The run over sets and ours are alike: both succeed or both fail, with the same tokens read, flag and captures, and the
-/// set has the numbers between our ends. Few steps are known to do for the run.
+/// The run over sets and ours are alike: both succeed or both fail, with the same tokens read, flag, farthest place and
+/// captures, and the set has the numbers between our ends. Few steps are known to do for the run.
 pub fn sets_once(input: &RunInput) -> Result<(), String> {
     let (nodes, rules, tokens, reading, start) = input.parts();
     let (over, captures) = sets::list_within(nodes, rules, tokens, reading, start, u64::MAX)
@@ -236,7 +238,12 @@ pub fn sets_once(input: &RunInput) -> Result<(), String> {
     let list = captures.as_flattened();
     let ours = ours::list(nodes, rules, tokens, reading, start, list.len());
     let alike = match (&ours, &over) {
-        (Ok((Listed::Failure, _)), sets::SetRan::Failure) => list.is_empty(),
+        (
+            Ok((Listed::Failure { farthest }, _)),
+            sets::SetRan::Failure {
+                farthest: farthest_over,
+            },
+        ) => farthest == farthest_over && list.is_empty(),
         (Ok((Listed::Refused(x), _)), sets::SetRan::Refused(y)) => x == y,
         (Ok((Listed::IllFormed(x), _)), sets::SetRan::IllFormed(y)) => x == y,
         (
@@ -246,6 +253,7 @@ pub fn sets_once(input: &RunInput) -> Result<(), String> {
                     lower,
                     upper,
                     flag,
+                    farthest,
                     captures: count,
                 },
                 words,
@@ -254,12 +262,14 @@ pub fn sets_once(input: &RunInput) -> Result<(), String> {
                 read: read_over,
                 set,
                 flag: flag_over,
+                farthest: farthest_over,
             },
         ) => {
             // The runs of a set list it exactly.
             let ends = (u64::from(*lower), upper.map(u64::from));
             read == read_over
                 && flag == flag_over
+                && farthest == farthest_over
                 && set.runs() == [ends]
                 && *count as usize == captures.len()
                 && words == list

@@ -60,7 +60,7 @@ mod c {
             flag: bool,
             mode: u16,
             by_2014: bool,
-            result: *mut [usize; 6],
+            result: *mut [usize; 7],
         ) -> u32;
         pub fn saktroum_list(
             nodes: *const u16,
@@ -79,7 +79,7 @@ mod c {
             by_2014: bool,
             captures: *mut u32,
             capture_words: usize,
-            result: *mut [usize; 7],
+            result: *mut [usize; 8],
         ) -> u32;
         pub fn saktroum_shown(
             file: *const u8,
@@ -189,7 +189,7 @@ pub mod plain {
         tokens: &[u32],
         reading: Reading,
         start: &Start,
-        result: &mut [usize; 6],
+        result: &mut [usize; 7],
     ) -> u32 {
         unsafe {
             c::saktroum_run(
@@ -221,7 +221,7 @@ pub mod plain {
         reading: Reading,
         start: &Start,
         captures: &mut [u32],
-        result: &mut [usize; 7],
+        result: &mut [usize; 8],
     ) -> u32 {
         unsafe {
             c::saktroum_list(
@@ -469,15 +469,15 @@ pub fn run(
     reading: Reading,
     start: &Start,
 ) -> Result<Ran, Odd> {
-    let mut result = Lent::new(6, RESULT_WORD);
+    let mut result = Lent::new(7, RESULT_WORD);
     let answer = plain::run(nodes, rules, tokens, reading, start, result.array());
     if let Some(node) = node_of(answer) {
         return result.reported(0, "result").map(|_| Ran::IllFormed(node));
     }
     let first = result.slice()[0];
     match (number(answer)?, first) {
-        (0, 0) => result.reported(1, "result").map(|_| Ran::Failure),
-        (0, _) => success(&result.reported(6, "result")?),
+        (0, 0) => failure(result).map(|farthest| Ran::Failure { farthest }),
+        (0, _) => success(&result.reported(7, "result")?),
         (refused, _) => result.reported(0, "result").map(|_| Ran::Refused(refused)),
     }
 }
@@ -493,7 +493,7 @@ pub fn list(
     room: usize,
 ) -> Result<(Listed, Vec<u32>), Odd> {
     let mut captures = Lent::new(room, TOKEN_WORD);
-    let mut result = Lent::new(7, RESULT_WORD);
+    let mut result = Lent::new(8, RESULT_WORD);
     let answer = plain::list(
         nodes,
         rules,
@@ -509,29 +509,33 @@ pub fn list(
         return Ok((Listed::IllFormed(node), words));
     }
     let first = result.slice()[0];
-    let (listed, reported) = match (number(answer)?, first) {
-        (0, 0) => (Listed::Failure, 1),
-        (0, _) => (success_listed(result.slice())?, 7),
-        (refused, _) => (Listed::Refused(refused), 0),
+    let listed = match (number(answer)?, first) {
+        (0, 0) => failure(result).map(|farthest| Listed::Failure { farthest })?,
+        (0, _) => success_listed(&result.reported(8, "result")?)?,
+        (refused, _) => {
+            result.reported(0, "result")?;
+            Listed::Refused(refused)
+        }
     };
-    result.reported(reported, "result")?;
     Ok((listed, words))
 }
 
-/// The seven words of a success that lists.
+/// The eight words of a success that lists.
 fn success_listed(words: &[usize]) -> Result<Listed, Odd> {
-    match success(&words[..6])? {
+    match success(&words[..7])? {
         Ran::Success {
             read,
             lower,
             upper,
             flag,
+            farthest,
         } => Ok(Listed::Success {
             read,
             lower,
             upper,
             flag,
-            captures: narrow(words[6])?,
+            farthest,
+            captures: narrow(words[7])?,
         }),
         other => Err(Odd(format!("{other:?} with captures"))),
     }
@@ -574,7 +578,17 @@ pub fn text<'a>(
         .ok_or_else(|| Odd(format!("{length} bytes from {offset} on are not there")))
 }
 
-/// The six words of a success.
+/// The word of a run's result that holds the farthest place, after a failure too.
+const FARTHEST: usize = 6;
+
+/// The farthest place of a failure, which is all that its result holds but for the first word.
+fn failure(mut result: Lent<usize>) -> Result<u32, Odd> {
+    let farthest = std::mem::replace(&mut result.slice()[FARTHEST], RESULT_WORD);
+    result.reported(1, "result")?;
+    narrow(farthest)
+}
+
+/// The seven words of a success.
 fn success(words: &[usize]) -> Result<Ran, Odd> {
     let upper = match words[3..5] {
         [0, 1] => None,
@@ -587,6 +601,7 @@ fn success(words: &[usize]) -> Result<Ran, Odd> {
             lower: narrow(words[2])?,
             upper,
             flag: flag == 1,
+            farthest: narrow(words[FARTHEST])?,
         }),
         _ => Err(Odd(format!("the words are {words:?}"))),
     }

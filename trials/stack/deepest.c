@@ -38,22 +38,22 @@ static void lay_aligns(void)
 static void run_aligns(void *unused)
 {
     const uint16_t rules[1] = {NODES - 1};
-    size_t ran[6];
+    size_t ran[7];
     (void)unused;
     uint32_t answer = saktroum_run(nodes[0], SAKTROUM_NODE_WORDS, rules, 1, tokens, SAKTROUM_TOKEN_WORDS,
                                    NODES - 1, 0, 0, 0, true, false, SAKTROUM_AT_LEAST, false, ran);
     if (answer)
         printf("aligns: refused %u\n", answer);
     else if (ran[0])
-        printf("aligns: success, %zu of %d tokens read\n", ran[1], TOKENS);
+        printf("aligns: success, %zu of %d tokens read, farthest place %zu\n", ran[1], TOKENS, ran[6]);
     else
-        puts("aligns: failure");
+        printf("aligns: failure, farthest place %zu\n", ran[6]);
 }
 
 static void list_aligns(void *unused)
 {
     const uint16_t rules[1] = {NODES - 1};
-    size_t listed[7];
+    size_t listed[8];
     (void)unused;
     uint32_t answer = saktroum_list(nodes[0], SAKTROUM_NODE_WORDS, rules, 1, tokens, SAKTROUM_TOKEN_WORDS,
                                     NODES - 1, 0, 0, 0, true, false, SAKTROUM_AT_LEAST, false,
@@ -61,7 +61,7 @@ static void list_aligns(void *unused)
     if (answer)
         printf("captures: refused %u\n", answer);
     else if (listed[0])
-        printf("captures: %zu, the last with %u around it\n", listed[6], captures[TOKENS * 4 - 1]);
+        printf("captures: %zu, the last with %u around it\n", listed[7], captures[TOKENS * 4 - 1]);
     else
         puts("captures: failure");
 }

@@ -53,14 +53,21 @@ fn agreed(case: usize, input: &RunInput) -> Option<Ran> {
                 lower,
                 upper,
                 flag,
+                farthest,
             }),
             Some(SetRan::Success {
                 read: set_read,
                 set,
                 flag: set_flag,
+                farthest: set_farthest,
             }),
-        ) => read == set_read && flag == set_flag && is_interval(set, *lower, *upper),
-        (Some(Ran::Failure), Some(SetRan::Failure)) => true,
+        ) => {
+            let alike = read == set_read && flag == set_flag && farthest == set_farthest;
+            alike && is_interval(set, *lower, *upper)
+        }
+        (Some(Ran::Failure { farthest: one }), Some(SetRan::Failure { farthest: two })) => {
+            one == two
+        }
         (Some(Ran::Refused(one)), Some(SetRan::Refused(two))) => one == two,
         (Some(Ran::IllFormed(one)), Some(SetRan::IllFormed(two))) => one == two,
         _ => false,
@@ -95,6 +102,14 @@ fn sets_and_two_ends_agree() {
         assert!(stats.share("run", "success, a token read by a step") > success / 5.0);
         assert!(stats.share("run", "success, an upper end past 65,535") > 0.5);
         assert!(stats.share("run", "failure, an upper end past 65,535") > 0.2);
+        for (class, least) in [
+            ("success, the farthest place at the token count", 15.0),
+            ("success, the farthest place past its end", 2.0),
+            ("failure, the farthest place at the token count", 3.0),
+            ("failure, the farthest place past the start", 3.0),
+        ] {
+            assert!(stats.share("run", class) > least, "{class}");
+        }
         for number in [3, 4, 5, 7, 11, 12] {
             assert!(
                 stats.share("run", &format!("refused {number}")) > 0.3,
@@ -115,7 +130,7 @@ fn sets_and_two_ends_agree_by_2014() {
             let ran = agreed(case, &input);
             stats.note_run(&input, ran.as_ref());
             // Where nothing refuses the run, how the readings stand to each other.
-            let Some(ran @ (Ran::Success { .. } | Ran::Failure)) = ran else {
+            let Some(ran @ (Ran::Success { .. } | Ran::Failure { .. })) = ran else {
                 continue;
             };
             input.reading = By2017;
@@ -134,6 +149,8 @@ fn sets_and_two_ends_agree_by_2014() {
             ("failure, an indent under a set flag", 5.0),
             ("success, an align that handed on its own flag", 10.0),
             ("success, the flag set at the end", 10.0),
+            ("success, the farthest place past its end", 3.0),
+            ("failure, the farthest place past the start", 5.0),
             ("refused 16", 6.0),
             ("refused 16: a position in reach", 1.0),
             ("refused 16: a position out of reach", 1.0),
@@ -150,6 +167,7 @@ fn sets_and_two_ends_agree_by_2014() {
             ("differ, in the tokens read", 3.0),
             ("differ, in the ends alone", 3.0),
             ("differ, in the flag", 5.0),
+            ("differ, in the farthest place alone", 2.0),
             ("differ, success by 2014 alone", 3.0),
             ("differ, success by 2017 alone", 1.0),
         ] {
@@ -391,7 +409,10 @@ fn lists_with_every_room() {
         assert_eq!(words, vec![0; room]);
         let entry = Start::from_first(10, 3);
         let (answer, words) = listed(&nodes, &FORK_RULES, &row(&[0, 0]), &entry, room);
-        assert_eq!((answer, words), (Listed::Failure, vec![0; room]));
+        assert_eq!(
+            (answer, words),
+            (Listed::Failure { farthest: 1 }, vec![0; room])
+        );
     }
 }
 

@@ -71,14 +71,16 @@ fn bare(listed: Listed) -> Ran {
             lower,
             upper,
             flag,
+            farthest,
             ..
         } => Ran::Success {
             read,
             lower,
             upper,
             flag,
+            farthest,
         },
-        Listed::Failure => Ran::Failure,
+        Listed::Failure { farthest } => Ran::Failure { farthest },
         Listed::Refused(number) => Ran::Refused(number),
         Listed::IllFormed(node) => Ran::IllFormed(node),
     }
@@ -93,17 +95,20 @@ fn agrees(ran: &Ran, set_ran: &sets::SetRan) -> bool {
                 lower,
                 upper,
                 flag,
+                farthest,
             },
             sets::SetRan::Success {
                 read: set_read,
                 set,
                 flag: set_flag,
+                farthest: set_farthest,
             },
         ) => {
             let ends = (u64::from(*lower), upper.map(u64::from));
-            read == set_read && flag == set_flag && set.runs() == [ends]
+            let alike = read == set_read && flag == set_flag && farthest == set_farthest;
+            alike && set.runs() == [ends]
         }
-        (Ran::Failure, sets::SetRan::Failure) => true,
+        (Ran::Failure { farthest: one }, sets::SetRan::Failure { farthest: two }) => one == two,
         (Ran::Refused(one), sets::SetRan::Refused(two)) => one == two,
         (Ran::IllFormed(one), sets::SetRan::IllFormed(two)) => one == two,
         _ => false,
@@ -152,7 +157,7 @@ fn listed(
     }
     match ran {
         Ran::Success { .. } => Some(captures),
-        Ran::Failure => {
+        Ran::Failure { .. } => {
             // "a failure lists none"
             assert!(captures.is_empty());
             None
@@ -308,6 +313,7 @@ fn start_inside_the_list() {
             lower: 0,
             upper: None,
             flag: false,
+            farthest: 4,
             captures: 3
         }
     );
@@ -434,6 +440,7 @@ fn long_lists() {
         lower: 0,
         upper: None,
         flag: false,
+        farthest: 0,
         captures: count as u32,
     };
     assert_eq!(list(&nodes, &rules, &[], By2017, &start, &mut slice), done);
@@ -598,7 +605,7 @@ fn failure_clears() {
         let mut slice = lent(words);
         let start = Start::from_first(top + 1, EQUAL);
         let went = list_of(&nodes, &rules, &[], &start, &mut slice);
-        assert_eq!(went, Listed::Failure);
+        assert_eq!(went, Listed::Failure { farthest: 0 });
         assert_eq!(slice, vec![0; words]);
     }
 }
@@ -688,6 +695,7 @@ fn deep_lists() {
             lower: 0,
             upper: None,
             flag: false,
+            farthest: 4_096,
             captures: 128 * 4_096,
         };
         assert_eq!(list_of(&nodes, &rules, &tokens, &start, &mut slice), done);
@@ -838,6 +846,8 @@ struct Derivation<'t> {
     rules: &'t [u16],
     terminals: &'t [u16],
     steps: u32,
+    /// The largest place that a terminal was tried at.
+    farthest: Option<u32>,
 }
 
 type Derived = Option<(u32, Vec<[u32; 4]>)>;
@@ -848,7 +858,10 @@ impl Derivation<'_> {
         let [kind, a, b, _] = self.nodes[usize::from(node)];
         Ok(match kind {
             0 => Some((place, vec![])),
-            1 => (self.terminals.get(place as usize) == Some(&a)).then_some((place + 1, vec![])),
+            1 => {
+                self.farthest = self.farthest.max(Some(place));
+                (self.terminals.get(place as usize) == Some(&a)).then_some((place + 1, vec![]))
+            }
             2 => {
                 let inside = self.of(self.rules[usize::from(a)], place)?;
                 inside.map(|(end, inside)| {
@@ -911,13 +924,17 @@ fn the_derivations_list() {
             rules: &rules,
             terminals: &terminals,
             steps: 4_000,
+            farthest: None,
         };
-        let (end, captures) = match went {
+        let (end, captures, farthest) = match went {
             None | Some(Listed::IllFormed(_)) => continue,
-            Some(Listed::Failure) => (None, 0),
-            Some(Listed::Success { read, captures, .. }) => {
-                (Some(start.place + read), captures as usize)
-            }
+            Some(Listed::Failure { farthest }) => (None, 0, farthest),
+            Some(Listed::Success {
+                read,
+                captures,
+                farthest,
+                ..
+            }) => (Some(start.place + read), captures as usize, farthest),
             Some(Listed::Refused(number)) => panic!("{number}"),
         };
         let derived = derivation.of(start.node, start.place).unwrap();
@@ -926,6 +943,7 @@ fn the_derivations_list() {
             Some((end, list)) => (Some(end), list),
         };
         assert_eq!(end, derived_end);
+        assert_eq!(farthest, derivation.farthest.unwrap_or(start.place));
         assert_eq!(list[..captures], derived_list);
         assert!(list[captures..].iter().all(|&place| place == [0; 4]));
         ended += 1;
@@ -1037,6 +1055,7 @@ fn entries() {
             lower: 0,
             upper: None,
             flag: false,
+            farthest: 8,
             captures: 7
         }
     );

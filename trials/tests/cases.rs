@@ -69,10 +69,13 @@ fn success(read: u32, lower: u32, upper: impl Into<Option<u32>>, flag: bool) -> 
         lower,
         upper: upper.into(),
         flag,
+        farthest: 0,
     }
 }
 
-/// Runs by both readings of the clauses, which must agree.
+const FAILURE: Ran = Ran::Failure { farthest: 0 };
+
+/// Runs by both readings of the clauses, which must agree. The farthest place, which has cases of its own, is given as 0.
 fn ran(nodes: &[[u16; 4]], rules: &[u16], list: &[(u16, u32)], start: Start) -> Ran {
     let nodes = nodes.concat();
     let tokens = tokens(list);
@@ -84,23 +87,41 @@ fn ran(nodes: &[[u16; 4]], rules: &[u16], list: &[(u16, u32)], start: Start) -> 
                 lower,
                 upper,
                 flag,
+                farthest,
             },
             sets::SetRan::Success {
                 read: set_read,
                 set,
                 flag: set_flag,
+                farthest: set_farthest,
             },
         ) => {
             assert_eq!((*read, *flag), (set_read, set_flag));
+            assert_eq!(*farthest, set_farthest);
             let ends = (u64::from(*lower), upper.map(u64::from));
             assert_eq!(set.runs(), [ends]);
         }
-        (Ran::Failure, sets::SetRan::Failure) => {}
+        (
+            Ran::Failure { farthest },
+            sets::SetRan::Failure {
+                farthest: set_farthest,
+            },
+        ) => assert_eq!(*farthest, set_farthest),
         (Ran::Refused(one), sets::SetRan::Refused(two)) => assert_eq!(*one, two),
         (Ran::IllFormed(one), sets::SetRan::IllFormed(two)) => assert_eq!(*one, two),
         (one, two) => panic!("{one:?} but {two:?}"),
     }
-    ran
+    match ran {
+        Ran::Success {
+            read,
+            lower,
+            upper,
+            flag,
+            ..
+        } => success(read, lower, upper, flag),
+        Ran::Failure { .. } => FAILURE,
+        refused => refused,
+    }
 }
 
 #[test]
@@ -126,7 +147,7 @@ fn case_b() {
         ran(&nodes, &[], &[(A, 5)], start(0, GREATER)),
         success(1, 0, 4, false)
     );
-    assert_eq!(ran(&nodes, &[], &[(A, 0)], start(0, GREATER)), Ran::Failure);
+    assert_eq!(ran(&nodes, &[], &[(A, 0)], start(0, GREATER)), FAILURE);
 }
 
 #[test]
@@ -157,7 +178,7 @@ fn case_e() {
             flag,
             ..start(0, GREATER)
         };
-        assert_eq!(ran(&[terminal(A)], &[], &[], from), Ran::Failure);
+        assert_eq!(ran(&[terminal(A)], &[], &[], from), FAILURE);
         assert_eq!(ran(&[empty()], &[], &[], from), success(0, 3, 9, flag));
     }
 }
@@ -227,7 +248,7 @@ fn case_j() {
 fn indent_over_sequence() {
     let whole = [terminal(A), terminal(B), sequence(0, 1), indent(2, GREATER)];
     let list = [(A, 1), (B, 2)];
-    assert_eq!(ran(&whole, &[], &list, start(3, EQUAL)), Ran::Failure);
+    assert_eq!(ran(&whole, &[], &list, start(3, EQUAL)), FAILURE);
     let parts = [
         terminal(A),
         terminal(B),
@@ -317,7 +338,7 @@ fn lower_end_past_the_columns() {
         lower: 65_535,
         ..start(2, AT_LEAST)
     };
-    assert_eq!(ran(&nodes, &[], &[(A, 65_535)], from), Ran::Failure);
+    assert_eq!(ran(&nodes, &[], &[(A, 65_535)], from), FAILURE);
 }
 
 #[test]
@@ -329,7 +350,13 @@ fn steps_are_counted() {
     assert_eq!(run_within(&nodes, &[], &list, By2017, &from, 2), None);
     assert_eq!(
         run_within(&nodes, &[], &list, By2017, &from, 3),
-        Some(success(2, 1, 1, false))
+        Some(Ran::Success {
+            read: 2,
+            lower: 1,
+            upper: Some(1),
+            flag: false,
+            farthest: 1
+        })
     );
     assert_eq!(sets::run_within(&nodes, &[], &list, By2017, &from, 2), None);
     assert!(sets::run_within(&nodes, &[], &list, By2017, &from, 3).is_some());
@@ -367,7 +394,7 @@ fn indent_of_exactly_two() {
         (7, 5),
         (7, 7),
     ] {
-        assert_eq!(read(a, b), Ran::Failure, "{a} {b}");
+        assert_eq!(read(a, b), FAILURE, "{a} {b}");
     }
 }
 
@@ -384,7 +411,7 @@ fn amounts_from_both_sides() {
             let expected = if b == 40 + amount {
                 success(2, 40, 40, false)
             } else {
-                Ran::Failure
+                FAILURE
             };
             let list = [(A, 40), (B, b)];
             assert_eq!(ran(&nodes, &[], &list, start(3, EQUAL)), expected);
@@ -400,22 +427,22 @@ fn step_moves_both_ends() {
     for a in 5..=11 {
         assert_eq!(read(EQUAL, a), success(1, a - 2, a - 2, false));
     }
-    assert_eq!(read(EQUAL, 4), Ran::Failure);
-    assert_eq!(read(EQUAL, 12), Ran::Failure);
+    assert_eq!(read(EQUAL, 4), FAILURE);
+    assert_eq!(read(EQUAL, 12), FAILURE);
     // At least: 5 on, then 5 to 8 or all of 5 to 11 on the way out.
-    assert_eq!(read(AT_LEAST, 4), Ran::Failure);
+    assert_eq!(read(AT_LEAST, 4), FAILURE);
     assert_eq!(read(AT_LEAST, 5), success(1, 3, 3, false));
     assert_eq!(read(AT_LEAST, 8), success(1, 3, 6, false));
     assert_eq!(read(AT_LEAST, 20), success(1, 3, 9, false));
     // Greater: 6 on, then 5 to 7.
-    assert_eq!(read(GREATER, 5), Ran::Failure);
+    assert_eq!(read(GREATER, 5), FAILURE);
     assert_eq!(read(GREATER, 6), success(1, 3, 3, false));
     assert_eq!(read(GREATER, 8), success(1, 3, 5, false));
     // A step in a step: 7 to 13.
-    assert_eq!(read(STEP_2, 6), Ran::Failure);
+    assert_eq!(read(STEP_2, 6), FAILURE);
     assert_eq!(read(STEP_2, 7), success(1, 3, 3, false));
     assert_eq!(read(STEP_2, 13), success(1, 9, 9, false));
-    assert_eq!(read(STEP_2, 14), Ran::Failure);
+    assert_eq!(read(STEP_2, 14), FAILURE);
     assert_eq!(read(ANY, 0), success(1, 3, 9, false));
 }
 
@@ -424,10 +451,10 @@ fn endless_raised_and_lowered() {
     let nodes = [terminal(A), indent(0, STEP_31), empty(), indent(2, STEP_31)];
     let read = |mode: u16, a: u32| ran(&nodes, &[], &[(A, a)], from(4, None, start(1, mode)));
     assert_eq!(read(ANY, 0), success(1, 4, None, false));
-    assert_eq!(read(EQUAL, 34), Ran::Failure);
+    assert_eq!(read(EQUAL, 34), FAILURE);
     assert_eq!(read(EQUAL, 35), success(1, 4, 4, false));
     assert_eq!(read(EQUAL, 65_535), success(1, 65_504, 65_504, false));
-    assert_eq!(read(AT_LEAST, 34), Ran::Failure);
+    assert_eq!(read(AT_LEAST, 34), FAILURE);
     assert_eq!(read(AT_LEAST, 40), success(1, 4, 9, false));
     let unread = from(4, None, start(3, EQUAL));
     assert_eq!(ran(&nodes, &[], &[], unread), success(0, 4, None, false));
@@ -440,12 +467,12 @@ fn step_as_mode() {
         let read = |a: u32, from: Start| ran(&[terminal(A)], &[], &[(A, a)], from);
         let one = from(6, 6, start(0, mode));
         assert_eq!(read(6 + amount, one), success(1, 6, 6, false));
-        assert_eq!(read(6 + amount - 1, one), Ran::Failure);
-        assert_eq!(read(6 + amount + 1, one), Ran::Failure);
+        assert_eq!(read(6 + amount - 1, one), FAILURE);
+        assert_eq!(read(6 + amount + 1, one), FAILURE);
         // A column below the amount has no outer one.
         let all = start(0, mode);
-        assert_eq!(read(0, all), Ran::Failure);
-        assert_eq!(read(amount - 1, all), Ran::Failure);
+        assert_eq!(read(0, all), FAILURE);
+        assert_eq!(read(amount - 1, all), FAILURE);
         assert_eq!(read(amount, all), success(1, 0, 0, false));
         assert_eq!(read(amount + 1, all), success(1, 1, 1, false));
         let last = 65_535 - amount;
@@ -453,7 +480,7 @@ fn step_as_mode() {
         // Under a set flag the mode is of no matter.
         let flag = Start { flag: true, ..one };
         assert_eq!(read(6, flag), success(1, 6, 6, false));
-        assert_eq!(read(6 + amount, flag), Ran::Failure);
+        assert_eq!(read(6 + amount, flag), FAILURE);
     }
 }
 
@@ -474,17 +501,17 @@ fn step_within_other_relations() {
         ran(&nodes, &[], &[(A, a)], from(3, 3, start(2, EQUAL)))
     };
     for (inside, outside) in [(STEP_2, STEP_31), (STEP_31, STEP_2)] {
-        assert_eq!(read(inside, outside, 35), Ran::Failure);
+        assert_eq!(read(inside, outside, 35), FAILURE);
         assert_eq!(read(inside, outside, 36), success(1, 3, 3, false));
-        assert_eq!(read(inside, outside, 37), Ran::Failure);
+        assert_eq!(read(inside, outside, 37), FAILURE);
     }
     for (inside, outside) in [(STEP_2, GREATER), (GREATER, STEP_2)] {
-        assert_eq!(read(inside, outside, 5), Ran::Failure);
+        assert_eq!(read(inside, outside, 5), FAILURE);
         assert_eq!(read(inside, outside, 6), success(1, 3, 3, false));
         assert_eq!(read(inside, outside, 60), success(1, 3, 3, false));
     }
     // 0 on, then 2 on.
-    assert_eq!(read(STEP_2, ANY, 1), Ran::Failure);
+    assert_eq!(read(STEP_2, ANY, 1), FAILURE);
     assert_eq!(read(STEP_2, ANY, 2), success(1, 3, 3, false));
     assert_eq!(read(ANY, STEP_2, 0), success(1, 3, 3, false));
 }
@@ -503,9 +530,9 @@ fn step_under_not() {
     let read = |node: u16, a: u32| ran(&nodes, &[], &[(A, a)], from(4, 9, start(node, EQUAL)));
     for (a, inside) in [(0, false), (5, false), (6, true), (11, true), (12, false)] {
         let (one, two) = if inside {
-            (Ran::Failure, success(0, 4, 9, false))
+            (FAILURE, success(0, 4, 9, false))
         } else {
-            (success(1, 4, 9, false), Ran::Failure)
+            (success(1, 4, 9, false), FAILURE)
         };
         assert_eq!(read(4, a), one, "{a}");
         assert_eq!(read(5, a), two, "{a}");
@@ -525,8 +552,8 @@ fn step_over_align() {
     let read = |a: u32, b: u32| ran(&nodes, &[], &[(A, a), (B, b)], start(4, AT_LEAST));
     assert_eq!(read(2, 3), success(2, 0, 0, false));
     assert_eq!(read(5, 7), success(2, 3, 3, false));
-    assert_eq!(read(5, 4), Ran::Failure);
-    assert_eq!(read(1, 3), Ran::Failure);
+    assert_eq!(read(5, 4), FAILURE);
+    assert_eq!(read(1, 3), FAILURE);
 }
 
 #[test]
@@ -536,17 +563,17 @@ fn step_under_align() {
     let read = |a: u32| ran(&nodes, &[], &[(A, a)], from(1, 1, start(2, EQUAL)));
     assert_eq!(read(3), success(1, 1, 1, false));
     for a in [0, 1, 2, 4] {
-        assert_eq!(read(a), Ran::Failure);
+        assert_eq!(read(a), FAILURE);
     }
     // The flag comes from outside: 1 to 4 by 2 is 3 to 6, and the mode is of no matter.
     let flagged = |a: u32| {
         let from = from(1, 4, start(1, STEP_31));
         ran(&nodes, &[], &[(A, a)], Start { flag: true, ..from })
     };
-    assert_eq!(flagged(2), Ran::Failure);
+    assert_eq!(flagged(2), FAILURE);
     assert_eq!(flagged(3), success(1, 1, 1, false));
     assert_eq!(flagged(6), success(1, 4, 4, false));
-    assert_eq!(flagged(7), Ran::Failure);
+    assert_eq!(flagged(7), FAILURE);
     // A step that reads nothing leaves the flag.
     let unread = [empty(), indent(0, STEP_2), align(1)];
     for flag in [false, true] {
@@ -571,7 +598,7 @@ fn ends_past_the_columns_and_back() {
         let from = from(65_530, 65_535, start(1, mode));
         ran(&nodes, &[], &[(A, a)], from)
     };
-    assert_eq!(read(EQUAL, 65_531), Ran::Failure);
+    assert_eq!(read(EQUAL, 65_531), FAILURE);
     assert_eq!(read(EQUAL, 65_532), success(1, 65_530, 65_530, false));
     assert_eq!(read(EQUAL, 65_535), success(1, 65_533, 65_533, false));
     assert_eq!(read(AT_LEAST, 65_535), success(1, 65_530, 65_533, false));
@@ -583,7 +610,7 @@ fn ends_past_the_columns_and_back() {
     }
     // Nothing can stand past 65,535.
     let from = from(65_535, 65_535, start(1, EQUAL));
-    assert_eq!(ran(&nodes, &[], &[(A, 65_535)], from), Ran::Failure);
+    assert_eq!(ran(&nodes, &[], &[(A, 65_535)], from), FAILURE);
 }
 
 /// A stair of exactly 31: a at 0, 31, 62 and on to 65,534, and the last indent's
@@ -672,7 +699,7 @@ fn levels_of_two() {
         [0, 2, 6],
         [0, 2, 0],
     ] {
-        assert_eq!(read(&stray), Ran::Failure, "{stray:?}");
+        assert_eq!(read(&stray), FAILURE, "{stray:?}");
     }
 }
 
@@ -680,14 +707,14 @@ fn levels_of_two() {
 fn program_with_steps() {
     let made = file(&[], &[(7, "entry")], &levels(), 10, EQUAL as u8);
     let good = b"a\n  b\n    c\n  d\n";
-    assert_eq!(line(&made, good), b"success 8 0 0 clear\n");
-    assert_eq!(line(&made, b"a\n b\n"), b"failure\n");
-    assert_eq!(line(&made, b"a\n   b\n"), b"failure\n");
+    assert_eq!(line(&made, good), b"success 8 0 0 clear 8\n");
+    assert_eq!(line(&made, b"a\n b\n"), b"failure 2\n");
+    assert_eq!(line(&made, b"a\n   b\n"), b"failure 2\n");
     // A step as the file's mode, and the first that is none.
     let word = |mode: u8| file(&[], &[], &[terminal(1)], 0, mode);
-    assert_eq!(line(&word(5), b"   a"), b"success 1 1 1 clear\n");
-    assert_eq!(line(&word(5), b" a"), b"failure\n");
-    assert_eq!(line(&word(34), b"a"), b"failure\n");
+    assert_eq!(line(&word(5), b"   a"), b"success 1 1 1 clear 0\n");
+    assert_eq!(line(&word(5), b" a"), b"failure 0\n");
+    assert_eq!(line(&word(34), b"a"), b"failure 0\n");
     assert_eq!(line(&word(35), b"\0"), b"refused 5\n");
 }
 
@@ -743,13 +770,16 @@ fn example() -> Vec<u8> {
 
 #[test]
 fn program_example() {
-    assert_eq!(line(&example(), b"  loss: 0.03"), b"success 4 0 1 clear\n");
+    assert_eq!(
+        line(&example(), b"  loss: 0.03"),
+        b"success 4 0 1 clear 3\n"
+    );
     assert_eq!(
         line(&example(), b"  loss: 0.03\n"),
-        b"success 4 0 1 clear\n"
+        b"success 4 0 1 clear 3\n"
     );
-    assert_eq!(line(&example(), b"loss: 0.03"), b"failure\n");
-    assert_eq!(line(&example(), b""), b"failure\n");
+    assert_eq!(line(&example(), b"loss: 0.03"), b"failure 0\n");
+    assert_eq!(line(&example(), b""), b"failure 0\n");
 }
 
 #[test]
@@ -765,7 +795,7 @@ fn program_lines() {
     let far = [&b"\t".repeat(8_192)[..], b"a"].concat();
     assert_eq!(line(&plain, &far), b"refused 9\n");
     assert_eq!(line(&plain, &b":".repeat(4_096)), b"refused 10\n");
-    assert_eq!(line(&plain, b"anything"), b"success 0 0 inf clear\n");
+    assert_eq!(line(&plain, b"anything"), b"success 0 0 inf clear 0\n");
     // A rule's node that is not there: 5, though there is a node.
     let gone = file(&[], &[(1, "r")], &[empty()], 0, 0);
     assert_eq!(line(&gone, b"\0"), b"refused 5\n");

@@ -388,14 +388,14 @@ fn entries_behind_a_micro_sign() {
     let head = [field(1, &[1]), field(2, b"loss")].concat();
     let file = [head, nodes.concat(), field(5, &[0, 7, 0])].concat();
     for report in ["u loss\n  loss\n", "µ loss\n  loss\n", "€ loss\n  loss\n"] {
-        assert_eq!(line(&file, report.as_bytes()), b"success 5 2 2 clear\n");
+        assert_eq!(line(&file, report.as_bytes()), b"success 5 2 2 clear 4\n");
     }
     for report in ["µ  loss\n  loss\n", "µ loss\n   loss\n"] {
-        assert_eq!(line(&file, report.as_bytes()), b"failure\n");
+        assert_eq!(line(&file, report.as_bytes()), b"failure 3\n");
     }
     // A continuation byte leaves the column, a blank behind it does not.
     let lone = b"\x80 loss\n loss\n";
-    assert_eq!(line(&file, lone), b"success 5 1 1 clear\n");
+    assert_eq!(line(&file, lone), b"success 5 1 1 clear 4\n");
 }
 
 /// "offsets still count bytes", and so does a shown text.

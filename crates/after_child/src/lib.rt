@@ -1,10 +1,11 @@
-// The state after an indent and after an align, from the one before it and the one that its child ended in.
+// The state after an indent and after an align, from the one before it and the one that its child ended in; and the one behind
+// a child that failed.
 use columns::State;
 use intervals::leave;
 use readings::handed_on;
 ghost use mathlib.Core.Path.{_≡_};
 ghost use Rattle.readings.specs.Readings.{readingOf};
-ghost use Rattle.after_child.specs.AfterChild.{leftState, alignedState};
+ghost use Rattle.after_child.specs.AfterChild.{leftState, alignedState, failedState};
 
 // After an indent: the old interval met with the outer set of the child's, the rest as the child left it.
 pub fn left(r: u16, s: State, u: State) -> State
@@ -13,6 +14,7 @@ pub fn left(r: u16, s: State, u: State) -> State
     let out = leave(r, s.interval, u.interval);
     State {
         place: u.place,
+        farthest: u.farthest,
         interval: out,
         flag: u.flag,
     }
@@ -25,7 +27,21 @@ pub fn aligned(by_2014: bool, s: State, u: State) -> State
     let d = u.interval;
     State {
         place: u.place,
+        farthest: u.farthest,
         interval: d,
         flag: handed_on(by_2014, s.flag, u.flag),
+    }
+}
+
+// After a child that failed, where the form goes on: the old place, interval and flag, and how far the child looked.
+pub fn failed(s: State, farthest: u32) -> State
+    ensures { λ x. ⌜ x ≡ failedState s farthest ⌝ }
+{
+    let c = s.interval;
+    State {
+        place: s.place,
+        farthest,
+        interval: c,
+        flag: s.flag,
     }
 }

@@ -28,8 +28,8 @@ use Rattle.capture_checks.proofs.CaptureLaws.{Right, right-capture}
 use Rattle.shown_text.proofs.ShownLaws.{first-given}
 use Rattle.shown_text.proofs.PartLaws.{report-inside, report-cut}
 use Rattle.answer_line.specs.EntryLine.{breaks, firstLine, lineOf, columnOf, readBytes, unreadBytes, entryBytes, entryCount, entryAfter}
-use Rattle.answer_line.specs.InternalPut.{pasted, Puts}
-use Rattle.answer_line.proofs.PutLaws.{put-none, put-same}
+use Rattle.answer_line.specs.InternalPut.{Puts}
+use Rattle.answer_line.proofs.PutLaws.{put-none, put-same, written-none, written-whole}
 
 -- A name has at most 32 bytes.
 by-tests :
@@ -90,14 +90,29 @@ part-of-file : (b : Bool) (o n o' n' o'' n'' : ℕ) → inFile o n ≡ cond b (i
 part-of-file true o n o' n' o'' n'' e = absurd (let z : _≡_ {A = ℕ} 0 1 = cc in omega arith)
 part-of-file false o n o' n' o'' n'' e = refl
 
+-- What 8 and 11 leave: a report of 65,535 bytes at most, and a column of 65,535 at most for a token that is there.
+pub report-most : (report : List ℕ) → fails8 report ≡ false → length report ≤ 65535
+unfolding fails8
+report-most report e = ltb-false 65535 (length report) (both-false _ _ e .0)
+
+pub column-most : (words : List ℕ) → fails11 words ≡ false → (w : ℕ) → w < length words / 4 → getD words (w * 4 + 1) 0 ≤ 65535
+unfolding fails11
+column-most words e w l =
+    let all =
+    not-false (every (length words / 4) (λ v. leb (getD words (v * 4) 0) 255 && leb (getD words (v * 4 + 1) 0) 65535))
+    (both-false (not (eqb (length words % 4) 0) || ltb 4096 (length words / 4)) _ e .1) in
+    leb-true (getD words (w * 4 + 1) 0) 65535
+    (and-right (leb (getD words (w * 4) 0) 255) (leb (getD words (w * 4 + 1) 0) 65535)
+    (every-at (length words / 4) (λ v. leb (getD words (v * 4) 0) 255 && leb (getD words (v * 4 + 1) 0) 65535) all w l))
+
 -- Where a part is shown.
 module _ (file report words : List ℕ) (c : Capture) {p : Part} (e : given p ≡ shownAnswer file report words c) where
   report-short : length report ≤ 65535
-  unfolding shownAnswer firstAnswer fails8
+  unfolding shownAnswer firstAnswer
   report-short =
       let first = first-given (firstAnswer file report) _ p e in
       let eight = passes (fails8 report) 8 (given tt) (first .0) (second-given (fileAnswer file) _ (first .0) (first .1)) in
-      ltb-false 65535 (length report) (both-false _ _ (eight .0) .0)
+      report-most report (eight .0)
 
   tests : (fails11 words ≡ false) × (fails14 (length (ruleList (fieldsOf file))) (length report) words c ≡ false) × (p ≡ partShown (fieldsOf file) words c)
   unfolding shownAnswer
@@ -107,19 +122,12 @@ module _ (file report words : List ℕ) (c : Capture) {p : Part} (e : given p �
       (eleven .0, fourteen .0, cc (fourteen .1))
 
   column-small : c .first < c .after → getD words (c .first * 4 + 1) 0 ≤ 65535
-  unfolding fails11
   column-small h =
       let right = right-capture (length (ruleList (fieldsOf file))) (length report) words c (tests .1) in
-      let all =
-      not-false (every (length words / 4) (λ w. leb (getD words (w * 4) 0) 255 && leb (getD words (w * 4 + 1) 0) 65535))
-      (both-false (not (eqb (length words % 4) 0) || ltb 4096 (length words / 4)) _ (tests .0) .1) in
-      leb-true (getD words (c .first * 4 + 1) 0) 65535
-      (and-right (leb (getD words (c .first * 4) 0) 255) (leb (getD words (c .first * 4 + 1) 0) 65535)
-      (every-at (length words / 4) (λ w. leb (getD words (w * 4) 0) 255 && leb (getD words (w * 4 + 1) 0) 65535) all (c .first)
-      (omega (arith, right .reached))))
+      column-most words (tests .0) (c .first) (omega (arith, right .reached))
 
   bytes-are : cond (readsTokens c)
-      (readBytes (nameBytes file (c .rule)) (lineOf report words c) (columnOf words c) (firstLine (shownBytes file report words c)))
+      (readBytes (nameBytes file (c .rule)) (lineOf report words (c .first)) (columnOf words (c .first)) (firstLine (shownBytes file report words c)))
       (unreadBytes (nameBytes file (c .rule)))
       ≡ entryBytes file report words c
   unfolding entryBytes
@@ -137,7 +145,7 @@ module _ (file report words : List ℕ) (c : Capture) {r : ShownPart} (e : numbe
       let d : given (inFile o n) ≡ shownAnswer file report words c = ap numbers (sym told) ∙ e in
       let b = part-of-file (readsTokens c) o n _ _ _ _ (tests file report words c d .2) in
       ap (λ (x : Bool). cond x
-      (readBytes (nameBytes file (c .rule)) (lineOf report words c) (columnOf words c) (firstLine (shownBytes file report words c)))
+      (readBytes (nameBytes file (c .rule)) (lineOf report words (c .first)) (columnOf words (c .first)) (firstLine (shownBytes file report words c)))
       (unreadBytes (nameBytes file (c .rule)))) (sym b)
       ∙ bytes-are file report words c d
 
@@ -178,10 +186,10 @@ module _ (file report words : List ℕ) (c : Capture) {r : ShownPart} (e : numbe
         → readBytes name line (column + 1) text ≡ entryBytes file report words c
     from-report a b d f =
         let text-is : _ ≡ firstLine (shownBytes file report words c) = b ∙ ap firstLine (report-cut file report words c e told) in
-        let line-is : _ ≡ lineOf report words c = d ∙ ap (λ (k : ℕ). 1 + breaks (take k report)) (reads .1) in
+        let line-is : _ ≡ lineOf report words (c .first) = d ∙ ap (λ (k : ℕ). 1 + breaks (take k report)) (reads .1) in
         rw (a, text-is, line-is, f)
         (ap (λ (x : Bool). cond x
-        (readBytes (nameBytes file (c .rule)) (lineOf report words c) (columnOf words c) (firstLine (shownBytes file report words c)))
+        (readBytes (nameBytes file (c .rule)) (lineOf report words (c .first)) (columnOf words (c .first)) (firstLine (shownBytes file report words c)))
         (unreadBytes (nameBytes file (c .rule)))) (sym (reads .0))
         ∙ bytes-are file report words c shows)
 
@@ -189,7 +197,7 @@ module _ (file report words : List ℕ) (c : Capture) {r : ShownPart} (e : numbe
 module _ (file report words : List ℕ) (c : Capture) (o : List ℕ) where
   pub entry-none : length o < 65664 → (0 ≡ entryCount file report words c (length o)) × (o ≡ entryAfter file report words c o)
   unfolding entryCount entryAfter
-  entry-none h = rw (lt-ltb (length o) 65664 h) (refl, refl)
+  entry-none h = written-none 65664 o (entryBytes file report words c) h
 
   pub entry-whole :
       {bytes : List ℕ} {r : ℕ} {o' : List ℕ}
@@ -197,8 +205,8 @@ module _ (file report words : List ℕ) (c : Capture) (o : List ℕ) where
       → bytes ≡ entryBytes file report words c
       → Puts o 0 bytes r o'
       → (r ≡ entryCount file report words c (length o)) × (o' ≡ entryAfter file report words c o)
-  unfolding entryCount entryAfter pasted
-  entry-whole h e p = let q = put-same e p in rw (le-ltb (length o) 65664 h) (q .place ∙ zero-add _, q .slice)
+  unfolding entryCount entryAfter
+  entry-whole h e p = written-whole 65664 o h (put-same e p)
 
   pub entry-refused :
       65664 ≤ length o

@@ -1,3 +1,4 @@
 pub mod PutLaws
 pub mod EntryLaws
 pub mod EntryCases
+pub mod FarthestLaws

@@ -9,12 +9,10 @@ use borrow.Author.Tests.{lt-ltb, le-ltb}
 use native.Mathlib.Nat.{zero-add, suc-add}
 use native.Mathlib.Numerals.{add-one}
 use native.Mathlib.Omega.{arith}
-use Rattle.table.specs.Answer.{Answer, given}
 use Rattle.columns.specs.Intervals.{to}
-use Rattle.columns.specs.declared.Interval.{Interval}
 use Rattle.columns.specs.declared.Upper.{Upper}
-use Rattle.clauses.specs.Clauses.{Outcome, success}
-use Rattle.answer_line.specs.AnswerLine.{decimalTo, decimal, successWord, space, break, upperWord, flagWord, lineBytes, writtenCount, writtenAfter}
+use Rattle.clauses.specs.Clauses.{success}
+use Rattle.answer_line.specs.AnswerLine.{decimalTo, decimal, successWord, space, break, upperWord, flagWord, endBytes, countIn, sliceIn}
 use Rattle.answer_line.specs.InternalPut.{pasted, Puts}
 
 -- One element that is stored.
@@ -109,21 +107,28 @@ put-more {w = w} v u p q = put-same (sym (append-assoc w v u)) (put-then p q)
 
 -- The line of a success, part by part.
 pub success-line :
-    {o o₁ o₂ o₃ o₄ : List ℕ} {r₁ r₂ r₃ r₄ : ℕ} (read lower : ℕ) (upper : Upper) (flag : Bool)
+    {o o₁ o₂ o₃ o₄ o₅ o₆ : List ℕ} {r₁ r₂ r₃ r₄ r₅ r₆ : ℕ} (read lower : ℕ) (upper : Upper) (flag : Bool) (farthest : ℕ)
     → Puts o 0 (successWord ++ space ++ decimal read) r₁ o₁
     → Puts o₁ r₁ (space ++ decimal lower) r₂ o₂
     → Puts o₂ r₂ (space ++ upperWord upper) r₃ o₃
-    → Puts o₃ r₃ (space ++ flagWord flag ++ break) r₄ o₄
-    → Puts o 0 (lineBytes (given (success (0 + read, to lower upper, flag)))) r₄ o₄
-success-line read lower upper flag a b c d =
-    rw (zero-add read) (put-then (put-more space (upperWord upper) (put-more space (decimal lower) a b) c) d)
+    → Puts o₃ r₃ (space ++ flagWord flag) r₄ o₄
+    → Puts o₄ r₄ (space ++ decimal farthest) r₅ o₅
+    → Puts o₅ r₅ break r₆ o₆
+    → Puts o 0 (endBytes (success (0 + read, to lower upper, flag)) farthest) r₆ o₆
+success-line read lower upper flag farthest a b c d e f =
+    rw (zero-add read)
+    (put-then (put-more space (flagWord flag) (put-more space (upperWord upper) (put-more space (decimal lower) a b) c) d)
+    (put-same (append-assoc space (decimal farthest) break) (put-then e f)))
 
--- A lent slice with too little room, and one with enough.
-module _ (a : Answer (Outcome Interval)) (o : List ℕ) where
-  pub write-none : length o < 64 → (0 ≡ writtenCount a (length o)) × (o ≡ writtenAfter a o)
-  unfolding writtenCount writtenAfter
-  write-none h = rw (lt-ltb (length o) 64 h) (refl, refl)
+-- A lent slice with less room than is asked for, and one with enough.
+module _ (room : ℕ) (o : List ℕ) where
+  pub written-none : (bytes : List ℕ) → length o < room → (0 ≡ countIn room bytes (length o)) × (o ≡ sliceIn room bytes o)
+  written-none bytes h = rw (lt-ltb (length o) room h) (refl, refl)
 
-  pub write-whole : {r : ℕ} {o' : List ℕ} → 64 ≤ length o → Puts o 0 (lineBytes a) r o' → (r ≡ writtenCount a (length o)) × (o' ≡ writtenAfter a o)
-  unfolding writtenCount writtenAfter pasted
-  write-whole h p = rw (le-ltb (length o) 64 h) (p .place ∙ zero-add _, p .slice)
+  pub written-whole :
+      {bytes : List ℕ} {r : ℕ} {o' : List ℕ}
+      → room ≤ length o
+      → Puts o 0 bytes r o'
+      → (r ≡ countIn room bytes (length o)) × (o' ≡ sliceIn room bytes o)
+  unfolding pasted
+  written-whole h p = rw (le-ltb (length o) room h) (p .place ∙ zero-add _, p .slice)

@@ -3,13 +3,13 @@
 use Prim.Native.Nat.{ℕ, suc, _+_}
 use mathlib.Core.Bool.{cond}
 use mathlib.Core.List.{List, [], _∷_, _++_}
-use lib.ListN.{length, take, drop}
-use lib.Dec.{ltb, eqb}
+use lib.ListN.{take}
+use lib.Dec.{eqb}
 use Rattle.columns.specs.declared.Capture.{Capture}
 use Rattle.clauses.specs.Limits.{tokensOf}
 use Rattle.grammar_file.specs.File.{nameBytes}
 use Rattle.shown_text.specs.Shown.{tokenOffset, readsTokens, shownAnswer, shownBytes, unlessRefused}
-use Rattle.answer_line.specs.AnswerLine.{decimal, space, break}
+use Rattle.answer_line.specs.AnswerLine.{decimal, space, break, countIn, sliceIn}
 
 -- How many line breaks there are in some bytes.
 unfoldable pub breaks : List ℕ → ℕ
@@ -21,13 +21,13 @@ unfoldable pub firstLine : List ℕ → List ℕ
 firstLine [] = []
 firstLine (b ∷ bs) = cond (eqb b 10) [] (b ∷ firstLine bs)
 
--- The line and the column of a capture's first token, both from 1: one more than the line breaks before it, and one more
--- than its column.
-abbrev pub lineOf : List ℕ → List ℕ → Capture → ℕ
-lineOf report words c = 1 + breaks (take (tokenOffset words (c .first)) report)
+-- The line and the column of the token at a place, both from 1: one more than the line breaks before it, and one more than its
+-- column.
+abbrev pub lineOf : List ℕ → List ℕ → ℕ → ℕ
+lineOf report words w = 1 + breaks (take (tokenOffset words w) report)
 
-abbrev pub columnOf : List ℕ → Capture → ℕ
-columnOf words c = tokensOf words .column (c .first) + 1
+abbrev pub columnOf : List ℕ → ℕ → ℕ
+columnOf words w = tokensOf words .column w + 1
 
 -- `:`
 abbrev pub colon : List ℕ
@@ -52,7 +52,7 @@ unfoldable pub entryBytes : List ℕ → List ℕ → List ℕ → Capture → L
 entryBytes file report words c =
     unlessRefused (shownAnswer file report words c)
     (cond (readsTokens c)
-    (readBytes (nameBytes file (c .rule)) (lineOf report words c) (columnOf words c)
+    (readBytes (nameBytes file (c .rule)) (lineOf report words (c .first)) (columnOf words (c .first))
     (firstLine (shownBytes file report words c)))
     (unreadBytes (nameBytes file (c .rule))))
 
@@ -60,12 +60,9 @@ entryBytes file report words c =
 abbrev pub entryRoom : ℕ
 entryRoom = 65664
 
--- How many bytes are written to a slice of so many: all of the line, or none where it has less room.
+-- The line of a capture in a lent slice: how many bytes are written, and the slice afterwards.
 unfoldable pub entryCount : List ℕ → List ℕ → List ℕ → Capture → ℕ → ℕ
-entryCount file report words c lent = cond (ltb lent entryRoom) 0 (length (entryBytes file report words c))
+entryCount file report words c lent = countIn entryRoom (entryBytes file report words c) lent
 
--- The slice afterwards: the line, and behind it what was there; as it was where it has less room.
 unfoldable pub entryAfter : List ℕ → List ℕ → List ℕ → Capture → List ℕ → List ℕ
-entryAfter file report words c before =
-    cond (ltb (length before) entryRoom) before
-    (entryBytes file report words c ++ drop (length (entryBytes file report words c)) before)
+entryAfter file report words c before = sliceIn entryRoom (entryBytes file report words c) before

@@ -1,3 +1,4 @@
 pub mod AnswerLine
 pub mod EntryLine
+pub mod FarthestLine
 pub mod InternalPut

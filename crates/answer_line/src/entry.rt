@@ -87,7 +87,7 @@ fn first_line(text: &[u8]) -> &[u8]
 }
 
 // The line, from 1, in which the byte at an offset stands.
-fn line_at(report: &[u8], offset: usize) -> u32
+pub(crate) fn line_at(report: &[u8], offset: usize) -> u32
     requires { ⌜ (offset ≤ length (now report)) × (length (now report) ≤ 65535) ⌝ }
     ensures { λ r. ⌜ r ≡ 1 + breaks (take offset (now (report .entry))) ⌝ }
 {
@@ -103,7 +103,7 @@ fn line_at(report: &[u8], offset: usize) -> u32
 }
 
 // The column of a token, from 0; 0 where there is no such token.
-fn column_at(tokens: &[u32], w: u32) -> u32
+pub(crate) fn column_at(tokens: &[u32], w: u32) -> u32
     ensures { λ r. ⌜ r ≡ getD (now (tokens .entry)) (w * 4 + 1) 0 ⌝ }
 {
     let i = w as usize * 4 + 1;

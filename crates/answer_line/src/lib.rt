@@ -1,5 +1,7 @@
-// The lines that the programs print: that of an answer, from what a run answered, and that of an entry (`entry`).
+// The lines that the programs print: that of an answer, from what a run answered, that of an entry (`entry`), and where the
+// farthest place is (`farthest`).
 pub mod entry;
+pub mod farthest;
 mod text;
 
 use columns::State;
@@ -32,21 +34,21 @@ pub fn write(x: Ran, out: &mut [u8]) -> usize
     put_answer(out, x)
 }
 
-// Puts the line of an answer, which has 47 bytes at most.
+// Puts the line of an answer, which has 58 bytes at most.
 fn put_answer(out: &mut [u8], x: Ran) -> usize
-    requires { ⌜ 47 ≤ length (now out) ⌝ }
+    requires { ⌜ 58 ≤ length (now out) ⌝ }
     ensures { λ r. ⌜ Puts (now (out .entry)) 0 (lineBytes (numbers 0 x)) r (now (out .exit)) ⌝ }
 {
     match x {
         Ran::Success(read, s) => put_success(out, read, s),
-        Ran::Failure => put_word(out, 0, b"failure\n"),
-        Ran::Refused(number) => put_refused(out, b"refused ", number as u32),
-        Ran::IllFormed(node) => put_refused(out, b"refused 7 ", node as u32),
+        Ran::Failure(farthest) => put_line(out, b"failure ", farthest),
+        Ran::Refused(number) => put_line(out, b"refused ", number as u32),
+        Ran::IllFormed(node) => put_line(out, b"refused 7 ", node as u32),
     }
 }
 
 // Puts a line of a word and a number.
-fn put_refused(out: &mut [u8], word: &[u8], n: u32) -> usize
+fn put_line(out: &mut [u8], word: &[u8], n: u32) -> usize
     requires { ⌜ length (now word) + 11 ≤ length (now out) ⌝ }
     ensures { λ r. ⌜ Puts (now (out .entry)) 0 (now (word .entry) ++ decimal n ++ break) r (now (out .exit)) ⌝ }
 {
@@ -54,9 +56,9 @@ fn put_refused(out: &mut [u8], word: &[u8], n: u32) -> usize
     put(out, end, b'\n')
 }
 
-// Puts the line of a success: tokens read, lower end, upper end, flag.
+// Puts the line of a success: tokens read, lower end, upper end, flag, farthest place.
 fn put_success(out: &mut [u8], read: u32, s: State) -> usize
-    requires { ⌜ 47 ≤ length (now out) ⌝ }
+    requires { ⌜ 58 ≤ length (now out) ⌝ }
     ensures { λ r. ⌜ Puts (now (out .entry)) 0 (lineBytes (numbers 0 (Success read s))) r (now (out .exit)) ⌝ }
 {
     let c = s.interval;
@@ -64,7 +66,9 @@ fn put_success(out: &mut [u8], read: u32, s: State) -> usize
     let first = put_number(out, 0, b"success ", read);
     let second = put_number(out, first, b" ", c.lower);
     let third = put_upper(out, second, upper);
-    put_flag(out, third, s.flag)
+    let fourth = put_flag(out, third, s.flag);
+    let fifth = put_number(out, fourth, b" ", s.farthest);
+    put(out, fifth, b'\n')
 }
 
 // Puts a space and an upper end.
@@ -79,14 +83,15 @@ fn put_upper(out: &mut [u8], at: usize, h: Upper) -> usize
     }
 }
 
-// Puts the flag and ends the line.
+// Puts a space and the flag.
 fn put_flag(out: &mut [u8], at: usize, flag: bool) -> usize
-    requires { ⌜ at + 7 ≤ length (now out) ⌝ }
-    ensures { λ r. ⌜ Puts (now (out .entry)) at (space ++ flagWord flag ++ break) r (now (out .exit)) ⌝ }
+    requires { ⌜ at + 6 ≤ length (now out) ⌝ }
+    ensures { λ r. ⌜ Puts (now (out .entry)) at (space ++ flagWord flag) r (now (out .exit)) ⌝ }
+    ensures { λ r. ⌜ r ≤ at + 6 ⌝ }
 {
     if flag {
-        put_word(out, at, b" set\n")
+        put_word(out, at, b" set")
     } else {
-        put_word(out, at, b" clear\n")
+        put_word(out, at, b" clear")
     }
 }

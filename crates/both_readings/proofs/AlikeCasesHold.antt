@@ -18,7 +18,7 @@ use Rattle.well_formed.specs.Facts.{nothing, May, empty-nothing, rule-child, se
 use Rattle.well_formed.specs.Rounds.{gives, knownAfter, passes, wellAfter}
 use Rattle.well_formed.specs.Check.{mayNothing, isWell, verdictFrom, checkAnswer}
 use Rattle.clauses.specs.Limits.{fails11, fails12, fails16}
-use Rattle.clauses.specs.Evaluation.{evaluate, outcomeFor}
+use Rattle.clauses.specs.Evaluation.{evaluate, outcomeFor, traceFor}
 use Rattle.clauses.specs.RunAnswer.{runAnswer}
 use Rattle.clauses.specs.ListAnswer.{listAnswer, listAfter}
 use Rattle.clauses.specs.Cases as cases
@@ -157,8 +157,8 @@ pub fibre-words :
 fibre-words words place interval before = same-words fibreNodes fibreRules words (startAt 2 place interval) fibre-alike (no-positions place interval) before
 
 -- The report of the case is read whole, by either reading.
-pub fibre-read : (reading : Reading) → runAnswer reading fibreNodes fibreRules fibreReport (startAt 2 0 (to 0 Endless)) ≡ cases.reads 6 0 (At 0) false
-unfolding fibreNodes fibreRules fibreReport eachWords form evaluate outcomeFor runAnswer fails11 fails12 fails16 every fails3
+pub fibre-read : (reading : Reading) → runAnswer reading fibreNodes fibreRules fibreReport (startAt 2 0 (to 0 Endless)) ≡ cases.reads 6 0 (At 0) false 6
+unfolding fibreNodes fibreRules fibreReport eachWords form evaluate outcomeFor traceFor runAnswer fails11 fails12 fails16 every fails3
     fails4 fails5 rightWords tableAnswer gives knownAfter passes wellAfter mayNothing isWell verdictFrom checkAnswer
 fibre-read By2017 = refl
 fibre-read By2014 = refl
@@ -181,8 +181,8 @@ aligned-empty alike = alike .aligns 0 (sequence-first begins) empty-nothing
 -- The three, in this order, as 2014 answers them,
 pub answers-2014 :
     answerAt By2014 alignedIndent 2 1 ∷ answerAt By2014 alignedInNot 3 1 ∷ answerAt By2014 alignedEmpty 4 0 ∷ []
-    ≡ cases.reads 1 1 (At 1) false ∷ cases.fails ∷ cases.reads 1 0 (At 0) false ∷ []
-unfolding answerAt alignedIndent alignedInNot alignedEmpty eachWords form evaluate outcomeFor runAnswer fails11 fails12 fails16
+    ≡ cases.reads 1 1 (At 1) false 0 ∷ cases.fails 0 ∷ cases.reads 1 0 (At 0) false 0 ∷ []
+unfolding answerAt alignedIndent alignedInNot alignedEmpty eachWords form evaluate outcomeFor traceFor runAnswer fails11 fails12 fails16
     every fails3 fails4 fails5 rightWords tableAnswer gives knownAfter passes wellAfter mayNothing isWell verdictFrom
     checkAnswer
 answers-2014 = refl
@@ -190,8 +190,8 @@ answers-2014 = refl
 -- and as 2017 does.
 pub answers-2017 :
     answerAt By2017 alignedIndent 2 1 ∷ answerAt By2017 alignedInNot 3 1 ∷ answerAt By2017 alignedEmpty 4 0 ∷ []
-    ≡ cases.fails ∷ cases.reads 0 1 (At 1) false ∷ cases.fails ∷ []
-unfolding answerAt alignedIndent alignedInNot alignedEmpty eachWords form evaluate outcomeFor runAnswer fails11 fails12 fails16
+    ≡ cases.fails 0 ∷ cases.reads 0 1 (At 1) false 0 ∷ cases.fails 0 ∷ []
+unfolding answerAt alignedIndent alignedInNot alignedEmpty eachWords form evaluate outcomeFor traceFor runAnswer fails11 fails12 fails16
     every fails3 fails4 fails5 rightWords tableAnswer gives knownAfter passes wellAfter mayNothing isWell verdictFrom
     checkAnswer
 answers-2017 = refl

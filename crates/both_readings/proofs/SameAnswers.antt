@@ -1,5 +1,5 @@
 -- Where a grammar reads alike from a start, the clauses over sets give the same by both readings, and so does a run: its outcome,
--- its trace, its captures, what it answers and the words that it leaves.
+-- its trace, and so its farthest place and its captures, what it answers and the words that it leaves.
 use Prim.Native.Nat.{ℕ, _/_}
 use mathlib.Core.Path.{_≡_, refl, sym, ap, ap₂, _∙_}
 use mathlib.Core.Bool.{Bool, true, false}
@@ -21,17 +21,17 @@ use Rattle.well_formed.specs.Check.{checkAnswer}
 use Rattle.well_formed.proofs.VerdictLaws.{check-means}
 use Rattle.clauses.specs.Clauses.{Outcome}
 use Rattle.clauses.specs.Limits.{tokensOf, fails11, fails12, fails16, WithinLimits}
-use Rattle.clauses.specs.Trace.{Trace, Gives, listed}
-use Rattle.clauses.specs.RunAnswer.{SetRun, ourOutcome, ourTrace, runAnswer}
+use Rattle.clauses.specs.Trace.{Trace, Gives, farthestFrom, listed}
+use Rattle.clauses.specs.RunAnswer.{SetRun, setFarthest, ourOutcome, ourTrace, Ended, ourEnd, runAnswer}
 use Rattle.clauses.specs.ListAnswer.{setCaptures, ourCaptures, fails13, Listing, listAnswer, listWords, listAfter}
 use Rattle.theorems.proofs.OneOutcome.{Same, one-run, one-trace}
 use Rattle.theorems.proofs.Agreement.{run-given, answered-within, listing-within}
 use Rattle.both_readings.specs.BothReadings.{begins, ReadAlike}
 use Rattle.both_readings.proofs.SameRuns.{same-run}
 
--- The answer of a run that lists, by its outcome and its captures, where nothing before 13 turns it down.
-abbrev listing : ℕ → Outcome Interval → List Capture → Answer Listing
-listing lent o captures = refuseIf (ltb (lent / 4) (length captures)) 13 (given (record { outcome = o; count = length captures }))
+-- The answer of a run that lists, by its end and its captures, where nothing before 13 turns it down.
+abbrev listing : ℕ → Ended → List Capture → Answer Listing
+listing lent e captures = refuseIf (ltb (lent / 4) (length captures)) 13 (given (record { ended = e; count = length captures }))
 
 -- 16 never applies by 2017.
 never-16 : (nodes : List ℕ) (start : Start) → fails16 By2017 nodes start ≡ false
@@ -53,6 +53,14 @@ module _ (nodes rules words : List ℕ) (start : Start) (alike : ReadAlike nodes
     λ d. same-gives sets (λ k. Lies k (start .interval)) o _ .0 (record { run = d; shows = refl }) .run,
     λ d. same-gives sets (λ k. Lies k (start .interval)) o _ .1 (record { run = d; shows = refl }) .run,
   )
+
+  -- the same farthest place,
+  pub same-set-farthest :
+      (o o' : Outcome ColumnSet) (d : SetRun By2014 nodes rules words start o) (e : SetRun By2017 nodes rules words start o')
+      → setFarthest By2014 nodes rules words start o d ≡ setFarthest By2017 nodes rules words start o' e
+  same-set-farthest o o' d e =
+      let x = same-gives sets (λ k. Lies k (start .interval)) o _ .0 (record { run = d; shows = refl }) in
+      ap (farthestFrom (start .place)) (sym (x .shows) ∙ one-run sets By2017 nodes rules (tokensOf words) (x .run) e .shown)
 
   -- and the same captures.
   pub same-set-captures :
@@ -83,6 +91,10 @@ module _ (nodes rules words : List ℕ) (start : Start) (alike : ReadAlike nodes
     pub same-trace : ourTrace By2014 nodes rules words start ≡ ourTrace By2017 nodes rules words start
     same-trace = same .shown
 
+    -- so what the run ends in,
+    pub same-end : ourEnd By2014 nodes rules words start ≡ ourEnd By2017 nodes rules words start
+    same-end = ap₂ (λ (o : Outcome Interval) (t : Trace). record { outcome = o; farthest = farthestFrom (start .place) t }) same-outcome same-trace
+
     -- and the captures.
     pub same-captures : ourCaptures By2014 nodes rules words start ≡ ourCaptures By2017 nodes rules words start
     same-captures = ap₂ listed same-outcome same-trace
@@ -94,11 +106,11 @@ module _ (nodes rules words : List ℕ) (start : Start) (alike : ReadAlike nodes
         → checkAnswer nodes rules ≡ c
         → fails11 words ≡ t
         → fails12 nodes words start ≡ b
-        → andThen c (refuseIf t 11 (refuseIf b 12 (given (ourOutcome By2014 nodes rules words start))))
-        ≡ andThen c (refuseIf t 11 (refuseIf b 12 (given (ourOutcome By2017 nodes rules words start))))
+        → andThen c (refuseIf t 11 (refuseIf b 12 (given (ourEnd By2014 nodes rules words start))))
+        ≡ andThen c (refuseIf t 11 (refuseIf b 12 (given (ourEnd By2017 nodes rules words start))))
     after-checks (given tt) false false p q r =
         let m = check-means nodes rules .passes .0 p in
-        ap given (same-outcome (record { table = m .0; tokens = q; start-right = r; reading-right = positionless }) (m .1))
+        ap given (same-end (record { table = m .0; tokens = q; start-right = r; reading-right = positionless }) (m .1))
     after-checks (given tt) false true p q r = refl
     after-checks (given tt) true b p q r = refl
     after-checks (refused k) t b p q r = refl
@@ -110,13 +122,13 @@ module _ (nodes rules words : List ℕ) (start : Start) (alike : ReadAlike nodes
     same-answer = rw (positionless, never-16 nodes start) (after-checks (checkAnswer nodes rules) (fails11 words) (fails12 nodes words start) refl refl refl)
 
     after-answer :
-        (lent : ℕ) (r : Answer (Outcome Interval))
+        (lent : ℕ) (r : Answer Ended)
         → runAnswer By2014 nodes rules words start ≡ r
-        → andThen r (listing lent (ourOutcome By2014 nodes rules words start) (ourCaptures By2014 nodes rules words start))
-        ≡ andThen r (listing lent (ourOutcome By2017 nodes rules words start) (ourCaptures By2017 nodes rules words start))
+        → andThen r (listing lent (ourEnd By2014 nodes rules words start) (ourCaptures By2014 nodes rules words start))
+        ≡ andThen r (listing lent (ourEnd By2017 nodes rules words start) (ourCaptures By2017 nodes rules words start))
     after-answer lent (given o) p =
         let m = answered-within By2014 nodes rules words start o p in
-        ap₂ (listing lent) (same-outcome (m .0) (m .1)) (same-captures (m .0) (m .1))
+        ap₂ (listing lent) (same-end (m .0) (m .1)) (same-captures (m .0) (m .1))
     after-answer lent (refused k) p = refl
     after-answer lent (refusedAt k n) p = refl
 
@@ -126,7 +138,7 @@ module _ (nodes rules words : List ℕ) (start : Start) (alike : ReadAlike nodes
     same-listing lent =
         after-answer lent (runAnswer By2014 nodes rules words start) refl
         ∙ ap
-        (λ (r : Answer (Outcome Interval)). andThen r (listing lent (ourOutcome By2017 nodes rules words start) (ourCaptures By2017 nodes rules words start)))
+        (λ (r : Answer Ended). andThen r (listing lent (ourEnd By2017 nodes rules words start) (ourCaptures By2017 nodes rules words start)))
         same-answer
 
     after-listing :

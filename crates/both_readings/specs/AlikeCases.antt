@@ -12,8 +12,7 @@ use Rattle.columns.specs.declared.Upper.the-variants.{At}
 use Rattle.columns.specs.declared.Interval.{Interval}
 use Rattle.columns.specs.declared.Start.{Start}
 use Rattle.columns.specs.declared.Reading.{Reading}
-use Rattle.clauses.specs.Clauses.{Outcome}
-use Rattle.clauses.specs.RunAnswer.{runAnswer}
+use Rattle.clauses.specs.RunAnswer.{Ended, runAnswer}
 use Rattle.clauses.specs.Cases.{fourWords, tokenWords, _at_}
 
 -- A start in mode equal under a clear flag: node, place, columns.
@@ -53,6 +52,6 @@ unfoldable pub alignedEmpty : List ℕ
 alignedEmpty = eachWords fourWords (empty ∷ align 0 ∷ terminal 3 ∷ indent 2 greater ∷ sequence 1 3 ∷ [])
 
 -- What a run of a node without rules answers by a reading, to the one token a, from the column at which it stands.
-unfoldable pub answerAt : Reading → List ℕ → ℕ → ℕ → Answer (Outcome Interval)
+unfoldable pub answerAt : Reading → List ℕ → ℕ → ℕ → Answer Ended
 answerAt reading nodes node column =
     runAnswer reading nodes [] (eachWords tokenWords (3 at column ∷ [])) (startAt node 0 (to column (At column)))

@@ -53,7 +53,7 @@ module _ {levels : ℕ} {c l : List ℕ} (room : Room levels c l) where
 
   pub left-none : {t : Trace} (o : Outcome) → shownIn c t ≡ [] → Leaves t c l c l o
   left-none (Success u) e = lists (lists-none e)
-  left-none Failure e = keeps keeps-all
+  left-none (Failure farthest) e = keeps keeps-all
 
   -- One part after another.
   pub keeps-then : {c' l' c'' l'' : List ℕ} {t : Trace} → Lists t c l c' l' → Keeps c' l' c'' l'' → Keeps c l c'' l''

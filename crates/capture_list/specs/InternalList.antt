@@ -48,4 +48,4 @@ pub record Lists (t : Trace) (counts list counts' list' : List ℕ) : Type 0 whe
 -- What a part leaves, by its outcome: after a failure the count may be any.
 pub data Leaves (t : Trace) (counts list counts' list' : List ℕ) : Outcome → Type 0 where
   lists : {u : State} → Lists t counts list counts' list' → Leaves t counts list counts' list' (Success u)
-  keeps : Keeps counts list counts' list' → Leaves t counts list counts' list' Failure
+  keeps : {farthest : ℕ} → Keeps counts list counts' list' → Leaves t counts list counts' list' (Failure farthest)

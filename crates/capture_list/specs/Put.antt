@@ -20,7 +20,7 @@ oneMore n = min (n + 1) mostCount
 -- and a repeat's last, failed round". Kind 5 is a not.
 abbrev pub putsBack : ℕ → Outcome → Bool
 putsBack q (Success u) = eqb q 5
-putsBack q Failure = true
+putsBack q (Failure farthest) = true
 
 -- A slice with a capture's four words at place n.
 abbrev pub placed : ℕ → Capture → List ℕ → List ℕ

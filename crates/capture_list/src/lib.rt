@@ -25,7 +25,7 @@ pub fn puts_back(kind: u16, x: Outcome) -> bool
     ensures { λ b. ⌜ b ≡ putsBack kind x ⌝ }
 {
     match x {
-        Outcome::Failure => true,
+        Outcome::Failure(_) => true,
         Outcome::Success(_) => kind == kinds::NOT,
     }
 }

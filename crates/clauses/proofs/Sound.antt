@@ -16,7 +16,7 @@ use Rattle.columns.specs.declared.Interval.{Interval}
 use Rattle.columns.specs.declared.Reading.{Reading}
 use Rattle.clauses.specs.Clauses as clauses
 use Rattle.clauses.specs.Clauses.{Tokens, Next, State, Outcome, success, failure, Fits, clear, aligned, counts, Run}
-use Rattle.clauses.specs.Trace.{Trace, silent, _then_, captured, trace, Gives}
+use Rattle.clauses.specs.Trace.{Trace, tried, _then_, captured, trace, Gives}
 use Rattle.clauses.specs.Evaluation.{Result, ended, unfinished, after, behind, ruled, reads, indented, step, evaluate}
 
 never : {o : Outcome Interval} {t : Trace} → unfinished ≡ ended o t → ⊥
@@ -105,13 +105,13 @@ module _ (reading : Reading) (nodes rules : List ℕ) (tokens : Tokens) where
       {τ a i w : ℕ} {I : Interval} {b : Bool}
       → Next tokens a i w
       → Fits ends τ i I b
-      → Given τ (table.terminal a) (w, I, b) (success (w + 1, afterToken b τ I i, false)) silent
+      → Given τ (table.terminal a) (w, I, b) (success (w + 1, afterToken b τ I i, false)) (tried w)
   unfolding trace
   read n (clear m) = record { run = clauses.terminal-clear n m; shows = refl }
   read n (aligned m) = record { run = clauses.terminal-aligned n m; shows = refl }
 
   pub terminal-read : (τ a w : ℕ) (I : Interval) (b : Bool) → reads tokens τ a (w, I, b) ≡ true
-      → Given τ (table.terminal a) (w, I, b) (success (w + 1, afterToken b τ I (tokens .column w), false)) silent
+      → Given τ (table.terminal a) (w, I, b) (success (w + 1, afterToken b τ I (tokens .column w), false)) (tried w)
   terminal-read τ a w I b e =
       let x = ltb w (tokens .count) in
       let y = eqb (tokens .terminal w) a in
@@ -124,7 +124,7 @@ module _ (reading : Reading) (nodes rules : List ℕ) (tokens : Tokens) where
         column = refl;
       }) (fitting b I (and-right (x && y) z e))
 
-  pub terminal-unread : (τ a w : ℕ) (I : Interval) (b : Bool) → reads tokens τ a (w, I, b) ≡ false → Given τ (table.terminal a) (w, I, b) failure silent
+  pub terminal-unread : (τ a w : ℕ) (I : Interval) (b : Bool) → reads tokens τ a (w, I, b) ≡ false → Given τ (table.terminal a) (w, I, b) failure (tried w)
   unfolding trace
   terminal-unread τ a w I b e = record { run = clauses.terminal-fails not-read; shows = refl }
     where
@@ -134,7 +134,7 @@ module _ (reading : Reading) (nodes rules : List ℕ) (tokens : Tokens) where
           true≢false (sym (rw (lt-ltb w (tokens .count) (n .there), eq-eqb (tokens .terminal w) a (n .terminal), h) refl) ∙ e)
 
   terminal-derived : (τ a w : ℕ) (I : Interval) (b : Bool) (t : Bool) → reads tokens τ a (w, I, b) ≡ t
-      → Derived τ (table.terminal a) (w, I, b) (ended (cond t (success (w + 1, afterToken b τ I (tokens .column w), false)) failure) silent)
+      → Derived τ (table.terminal a) (w, I, b) (ended (cond t (success (w + 1, afterToken b τ I (tokens .column w), false)) failure) (tried w))
   terminal-derived τ a w I b true e = is (terminal-read τ a w I b e)
   terminal-derived τ a w I b false e = is (terminal-unread τ a w I b e)
 

@@ -11,7 +11,7 @@ use Rattle.columns.specs.Intervals.{innerEnds, outerEnds, meetEnds, fits, after
 use Rattle.columns.specs.declared.Interval.{Interval}
 use Rattle.columns.specs.declared.Reading.{Reading}
 use Rattle.clauses.specs.Clauses.{Tokens, State, Outcome, success, failure, counts, handedOn}
-use Rattle.clauses.specs.Trace.{Trace, silent, _then_, dropped, captured}
+use Rattle.clauses.specs.Trace.{Trace, silent, tried, _then_, dropped, captured}
 
 -- An outcome with its trace, or that the bound was met first.
 pub data Result : Type 0 where
@@ -66,7 +66,7 @@ module _ (reading : Reading) (nodes rules : List ℕ) (tokens : Tokens) where
   step run τ (terminal a) s =
       ended
       (cond (reads tokens τ a s)
-      (success (s .0 + 1, afterToken (s .2) τ (s .1) (tokens .column (s .0)), false)) failure) silent
+      (success (s .0 + 1, afterToken (s .2) τ (s .1) (tokens .column (s .0)), false)) failure) (tried (s .0))
   step run τ (rule x) s = ruled x (s .0) (run τ (form nodes (standsFor rules x)) s)
   step run τ (sequence p q) s =
       after (run τ (form nodes p) s) (λ s' t. behind t (run τ (form nodes q) s')) (λ t. ended failure t)

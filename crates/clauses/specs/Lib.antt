@@ -1,5 +1,6 @@
 pub mod Clauses
 pub mod Trace
+pub mod Trials
 pub mod AlikeOutcomes
 pub mod Evaluation
 pub mod Limits
@@ -8,5 +9,6 @@ pub mod ListAnswer
 pub mod ThirdDemand
 pub mod Cases
 pub mod CaptureCases
+pub mod FarthestCases
 pub mod ReadingCases
 pub mod HandbookCases

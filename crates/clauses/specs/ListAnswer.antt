@@ -15,7 +15,7 @@ use Rattle.columns.specs.declared.Capture.{Capture}
 use Rattle.clauses.specs.Clauses.{Outcome}
 use Rattle.clauses.specs.Trace.{trace, listed}
 use Rattle.clauses.specs.Limits.{tokensOf}
-use Rattle.clauses.specs.RunAnswer.{SetRun, EndsRun, ourOutcome, ourTrace, runAnswer}
+use Rattle.clauses.specs.RunAnswer.{SetRun, EndsRun, ourOutcome, ourTrace, Ended, ourEnd, runAnswer}
 
 -- "the one that the clauses' own derivation gives": the captures of a derivation over two ends, and of one over sets.
 abbrev pub endsCaptures :
@@ -39,12 +39,12 @@ ourCaptures reading nodes rules words start =
 unfoldable pub fails13 : Reading → List ℕ → List ℕ → List ℕ → Start → ℕ → Bool
 fails13 reading nodes rules words start lent = ltb (lent / 4) (length (ourCaptures reading nodes rules words start))
 
--- An outcome, and how many captures are listed with it.
+-- What a run ends in, and how many captures are listed with it.
 pub record Listing : Type 0 where
-  pub outcome : Outcome Interval
+  pub ended : Ended
   pub count : ℕ
 
--- "13 .. after 12", and 16 "before 13": the numbers of the run without a list, then 13, then the outcome and the number of
+-- "13 .. after 12", and 16 "before 13": the numbers of the run without a list, then 13, then what it ends in and the number of
 -- captures.
 unfoldable pub listAnswer : Reading → List ℕ → List ℕ → List ℕ → Start → ℕ → Answer Listing
 listAnswer reading nodes rules words start lent =
@@ -52,7 +52,7 @@ listAnswer reading nodes rules words start lent =
     (refuseIf (fails13 reading nodes rules words start lent) 13
     (given
     (record {
-      outcome = ourOutcome reading nodes rules words start;
+      ended = ourEnd reading nodes rules words start;
       count = length (ourCaptures reading nodes rules words start);
     })))
 

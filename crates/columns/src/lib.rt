@@ -13,17 +13,19 @@ pub struct Interval {
     pub upper: Upper,
 }
 
-// The place in the token list, the interval and the alignment flag.
+// The place in the token list, the farthest place that a terminal was tried at so far (02, Note 7), the interval and the
+// alignment flag.
 pub struct State {
     pub place: u32,
+    pub farthest: u32,
     pub interval: Interval,
     pub flag: bool,
 }
 
-// What a run ends in.
+// What a run ends in: a failure with the farthest place alone.
 pub enum Outcome {
     Success(State),
-    Failure,
+    Failure(u32),
 }
 
 // Where a run begins: a node, a token place, an interval, a flag and a mode.

@@ -1,5 +1,6 @@
 // The program `entries`: reads the grammar file `grammar.bin` and a report on standard input, and prints the entries of the
-// run, a line each behind two blanks for each entry around it, and then the line of the run.
+// run, a line each behind two blanks for each entry around it, and then the line of the run. Where that failed, or left tokens,
+// a line more says where the farthest token is that was tried.
 ghost use Rattle.io.specs.Counts.{Counts};
 
 // A file or report that fills its buffer of 65,536 bytes is over length.
@@ -35,6 +36,8 @@ fn print(file: &[u8], report: &[u8]) {
     let answer = x.answer;
     let k = answer_line::write(answer, &mut out);
     io::write_all(libc::STDOUT_FILENO, slices::front(&out, k));
+    let n = answer_line::farthest::write(report, read, answer, &mut out);
+    io::write_all(libc::STDOUT_FILENO, slices::front(&out, n));
 }
 
 // Prints so many entries. A line has room in as many bytes as `answer_line::entry::ROOM`.

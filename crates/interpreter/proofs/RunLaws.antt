@@ -14,18 +14,17 @@ use Rattle.columns.specs.declared.State.{State}
 use Rattle.columns.specs.declared.Start.{Start}
 use Rattle.columns.specs.declared.Reading.{Reading}
 use Rattle.well_formed.specs.WellFormed.{Passes}
-use Rattle.clauses.specs.Clauses.{Outcome, success, failure}
-use Rattle.clauses.specs.Trace.{listed}
+use Rattle.clauses.specs.Clauses.{Outcome, success}
 use Rattle.clauses.specs.Limits.{tokensOf, WithinLimits}
-use Rattle.clauses.specs.RunAnswer.{EndsRun, ourOutcome, ourTrace, runAnswer, Reads}
+use Rattle.clauses.specs.RunAnswer.{EndsRun, endsFarthest, Ended, ourEnd, runAnswer, Reads}
 use Rattle.clauses.specs.ListAnswer.{ourCaptures, fails13, Listing, listAnswer, listWords, listAfter}
 use Rattle.clauses.proofs.ListWords.{length-list, list-fills}
 use Rattle.theorems.proofs.Narrows.{onward}
-use Rattle.theorems.proofs.Agreement.{run-given, captures-only, outcome-answered, answered-within}
+use Rattle.theorems.proofs.Agreement.{run-given, farthest-only, captures-only, outcome-answered, answered-within}
 use Rattle.capture_list.specs.Put.{mostCount}
 use Rattle.walk.specs.WalkAnswer.{numbers as walkNumbers, walkAnswer, walkAfter}
 use Rattle.walk.specs.declared.Walk.{Walk}
-use Rattle.interpreter.specs.Numbers.{CapturesStand}
+use Rattle.interpreter.specs.Numbers.{failing, endOf, Looked, CapturesStand}
 
 -- What refuses the second of two answers refuses the first, where the second is given.
 refused-first : {A B : Type 0} {number : ℕ} (r : Answer B) (x : A) → refused number ≡ andThen r (given x) → refused number ≡ r
@@ -59,65 +58,68 @@ module _ (reading : Reading) (nodes rules words : List ℕ) (start : Start) wher
   unfolding walkAnswer
   run-named e = named-first (runAnswer reading nodes rules words start) _ e
 
-  -- What an outcome that is answered shows.
-  pub record Shown (o : Outcome Interval) (n : ℕ) : Type 0 where
+  -- What an end that is answered shows.
+  pub record Shown (x : Ended) (n : ℕ) : Type 0 where
     pub limits : WithinLimits reading nodes rules words start
     pub well : Passes nodes rules
-    pub outcome : o ≡ ourOutcome reading nodes rules words start
+    pub end : x ≡ ourEnd reading nodes rules words start
     pub counted : n ≡ min (length (ourCaptures reading nodes rules words start)) mostCount
 
   -- What the walk gives where nothing refuses.
   abbrev whole : Listing
   whole =
       record {
-        outcome = ourOutcome reading nodes rules words start;
+        ended = ourEnd reading nodes rules words start;
         count = min (length (ourCaptures reading nodes rules words start)) mostCount;
       }
 
-  shown-by : (x : Listing) (r : Answer (Outcome Interval)) → runAnswer reading nodes rules words start ≡ r → given x ≡ andThen r (given whole) → Shown (x .outcome) (x .count)
+  shown-by : (x : Listing) (r : Answer Ended) → runAnswer reading nodes rules words start ≡ r → given x ≡ andThen r (given whole) → Shown (x .ended) (x .count)
   shown-by x (given ours) p e =
       let l = answered-within reading nodes rules words start ours p in
       let q : x ≡ whole = cc in
-      record { limits = l .0; well = l .1; outcome = ap (λ (v : Listing). v .outcome) q; counted = ap (λ (v : Listing). v .count) q }
+      record { limits = l .0; well = l .1; end = ap (λ (v : Listing). v .ended) q; counted = ap (λ (v : Listing). v .count) q }
   shown-by x (refused k) p e = absurd (let z : _≡_ {A = ℕ} 0 1 = cc in omega arith)
   shown-by x (refusedAt k m) p e = absurd (let z : _≡_ {A = ℕ} 0 1 = cc in omega arith)
 
   pub shown :
-      {o : Outcome Interval} {n : ℕ}
-      → given (record { outcome = o; count = n }) ≡ walkAnswer reading nodes rules words start
-      → Shown o n
+      {x : Ended} {n : ℕ}
+      → given (record { ended = x; count = n }) ≡ walkAnswer reading nodes rules words start
+      → Shown x n
   unfolding walkAnswer
-  shown {o} {n} e = shown-by (record { outcome = o; count = n }) (runAnswer reading nodes rules words start) refl e
+  shown {x} {n} e = shown-by (record { ended = x; count = n }) (runAnswer reading nodes rules words start) refl e
 
-  module _ {o : Outcome Interval} {n : ℕ} (h : Shown o n) where
-    answered : runAnswer reading nodes rules words start ≡ given (ourOutcome reading nodes rules words start)
+  module _ {x : Ended} {n : ℕ} (h : Shown x n) where
+    answered : runAnswer reading nodes rules words start ≡ given (ourEnd reading nodes rules words start)
     answered = outcome-answered reading nodes rules words start (h .limits) (h .well)
 
-    derived : EndsRun reading nodes rules words start o
+    derived : Looked reading nodes rules words start x
     derived =
-        subst (λ (v : Outcome Interval). EndsRun reading nodes rules words start v) (sym (h .outcome))
-        (run-given reading nodes rules words start (h .limits) (h .well) .run)
+        let d = run-given reading nodes rules words start (h .limits) (h .well) .run in
+        subst (Looked reading nodes rules words start) (sym (h .end))
+        (record { run = d; looked = sym (farthest-only reading nodes rules words start (h .limits) (h .well) _ d) })
 
   pub answer-failure :
-      {n : ℕ}
-      → Shown failure n
-      → (given failure ≡ runAnswer reading nodes rules words start) × EndsRun reading nodes rules words start failure
-  answer-failure h = (ap given (h .outcome) ∙ sym (answered h), derived h)
+      {m n : ℕ}
+      → Shown (failing m) n
+      → (given (failing m) ≡ runAnswer reading nodes rules words start) × Looked reading nodes rules words start (failing m)
+  answer-failure h = (ap given (h .end) ∙ sym (answered h), derived h)
 
-  module _ (u : State) {n : ℕ} (h : Shown (success (u .place, u .interval, u .flag)) n) where
+  -- What a state ends in, at a place.
+  abbrev reached : State → ℕ → Ended
+  reached u w = record { outcome = success (w, u .interval, u .flag); farthest = u .farthest }
+
+  module _ (u : State) {n : ℕ} (h : Shown (endOf u) n) where
     pub success-onward : start .place ≤ u .place
-    success-onward = onward ends reading nodes rules (tokensOf words) (derived h)
+    success-onward = onward ends reading nodes rules (tokensOf words) (derived h .run)
 
     -- The tokens read end at the walk's place.
     read : Reads (start .place) (u .place - start .place) (u .place)
     read = let l = success-onward in omega arith
 
     pub answer-success :
-        (given (success (start .place + (u .place - start .place), u .interval, u .flag)) ≡ runAnswer reading nodes rules words start)
-        × (EndsRun reading nodes rules words start (success (u .place, u .interval, u .flag))
-        × Reads (start .place) (u .place - start .place) (u .place))
-    answer-success =
-        (ap (λ (w : ℕ). given (success (w, u .interval, u .flag))) read ∙ (ap given (h .outcome) ∙ sym (answered h)), (derived h, read))
+        (given (reached u (start .place + (u .place - start .place))) ≡ runAnswer reading nodes rules words start)
+        × (Looked reading nodes rules words start (endOf u) × Reads (start .place) (u .place - start .place) (u .place))
+    answer-success = (ap (λ (w : ℕ). given (reached u w)) read ∙ (ap given (h .end) ∙ sym (answered h)), (derived h, read))
 
   -- The lent words, and those that the walk left.
   module _ (lent : List ℕ) {l' : List ℕ} (after : l' ≡ walkAfter reading nodes rules words start lent) where
@@ -138,7 +140,7 @@ module _ (reading : Reading) (nodes rules words : List ℕ) (start : Start) wher
     list-named e =
         (rw (← e) refl, rw (← e) (after ∙ either (leb (length (ourCaptures reading nodes rules words start)) (length lent / 4)) _ lent (rw (← e) refl)))
 
-    module _ (short : length lent < 2 ^ 64) (m : length l' ≡ length lent) {o : Outcome Interval} {n : ℕ} (h : Shown o n) where
+    module _ (short : length lent < 2 ^ 64) (m : length l' ≡ length lent) {x : Ended} {n : ℕ} (h : Shown x n) where
       -- 13.
       pub list-13 :
           length l' / 4 < n
@@ -163,10 +165,10 @@ module _ (reading : Reading) (nodes rules words : List ℕ) (start : Start) wher
         passes = le-ltb (length lent / 4) (length (ourCaptures reading nodes rules words start)) (let e = exact in omega arith)
 
         given-list :
-            given (record { outcome = o; count = n })
+            given (record { ended = x; count = n })
             ≡ listAnswer reading nodes rules words start (length lent)
         unfolding listAnswer
-        given-list = rw (answered h, passes, exact, h .outcome) refl
+        given-list = rw (answered h, passes, exact, h .end) refl
 
         room : leb (length (ourCaptures reading nodes rules words start)) (length lent / 4) ≡ true
         room = le-leb (length (ourCaptures reading nodes rules words start)) (length lent / 4) (let e = exact in omega arith)
@@ -186,37 +188,38 @@ module _ (reading : Reading) (nodes rules words : List ℕ) (start : Start) wher
         unfolding listAfter
         left = rw (← given-list) written
 
-        stands : CapturesStand reading nodes rules words start o n l'
+        stands : CapturesStand reading nodes rules words start x n l'
         stands =
             let f = derived h in
-            let c = captures-only reading nodes rules words start (h .limits) (h .well) o f in
-            record { run = f; counted = exact ∙ ap length (sym c); stands = rw (c, m) slice }
+            let c = captures-only reading nodes rules words start (h .limits) (h .well) (x .outcome) (f .run) in
+            record { derived = f; counted = exact ∙ ap length (sym c); stands = rw (c, m) slice }
 
         pub list-given :
-            (given (record { outcome = o; count = n }) ≡ listAnswer reading nodes rules words start (length lent))
-            × ((l' ≡ listAfter reading nodes rules words start lent) × CapturesStand reading nodes rules words start o n l')
+            (given (record { ended = x; count = n }) ≡ listAnswer reading nodes rules words start (length lent))
+            × ((l' ≡ listAfter reading nodes rules words start lent) × CapturesStand reading nodes rules words start x n l')
         list-given = (given-list, (left, stands))
 
     module _ (short : length lent < 2 ^ 64) (m : length l' ≡ length lent) where
       -- A failure lists none, so it has room.
       pub list-failure :
-          Shown failure 0
-          → (given (record { outcome = failure; count = 0 }) ≡ listAnswer reading nodes rules words start (length lent))
-          × ((l' ≡ listAfter reading nodes rules words start lent) × CapturesStand reading nodes rules words start failure 0 l')
+          {f : ℕ}
+          → Shown (failing f) 0
+          → (given (record { ended = failing f; count = 0 }) ≡ listAnswer reading nodes rules words start (length lent))
+          × ((l' ≡ listAfter reading nodes rules words start lent) × CapturesStand reading nodes rules words start (failing f) 0 l')
       list-failure h = list-given short m h (omega arith)
 
       pub list-success :
           (u : State) {n : ℕ}
-          → Shown (success (u .place, u .interval, u .flag)) n
+          → Shown (endOf u) n
           → n ≤ length l' / 4
-          → (given (record { outcome = success (start .place + (u .place - start .place), u .interval, u .flag); count = n })
+          → (given (record { ended = reached u (start .place + (u .place - start .place)); count = n })
           ≡ listAnswer reading nodes rules words start (length lent))
           × ((l' ≡ listAfter reading nodes rules words start lent)
-          × (CapturesStand reading nodes rules words start (success (u .place, u .interval, u .flag)) n l'
+          × (CapturesStand reading nodes rules words start (endOf u) n l'
           × Reads (start .place) (u .place - start .place) (u .place)))
       list-success u {n} h k =
           let x = list-given short m h k in
           let r = read u h in (
-            ap (λ (v : ℕ). given (record { outcome = success (v, u .interval, u .flag); count = n })) r ∙ x .0,
+            ap (λ (v : ℕ). given (record { ended = reached u v; count = n })) r ∙ x .0,
             (x .1 .0, (x .1 .1, r)),
           )

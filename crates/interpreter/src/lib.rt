@@ -11,11 +11,11 @@ ghost use Rattle.clauses.specs.RunAnswer.{runAnswer};
 ghost use Rattle.clauses.specs.ListAnswer.{listAnswer, listAfter};
 ghost use Rattle.interpreter.specs.Numbers.{numbers, Derived, listNumbers, ListDerived};
 
-// What a run answers: success with the number of tokens read and the state, failure, the number of the first check that
-// fails, or the lowest node that is not well formed (7).
+// What a run answers: success with the number of tokens read and the state, failure with the farthest place, the number of the
+// first check that fails, or the lowest node that is not well formed (7).
 pub enum Ran {
     Success(u32, State),
-    Failure,
+    Failure(u32),
     Refused(u8),
     IllFormed(u16),
 }
@@ -23,7 +23,7 @@ pub enum Ran {
 // What a run that lists answers: the same, a success with the number of its captures.
 pub enum Listed {
     Success(u32, State, usize),
-    Failure,
+    Failure(u32),
     Refused(u8),
     IllFormed(u16),
 }
@@ -41,7 +41,7 @@ pub fn run(nodes: &[u16], rules: &[u16], tokens: &[u32], start: Start, reading: 
     match w {
         Walk::Refused(number) => Ran::Refused(number),
         Walk::IllFormed(node) => Ran::IllFormed(node),
-        Walk::Failure => Ran::Failure,
+        Walk::Failure(farthest) => Ran::Failure(farthest),
         Walk::Success(u, _) => {
             let read = u.place - start.place;
             Ran::Success(read, u)
@@ -76,7 +76,7 @@ pub fn list(
     match w {
         Walk::Refused(number) => Listed::Refused(number),
         Walk::IllFormed(node) => Listed::IllFormed(node),
-        Walk::Failure => Listed::Failure,
+        Walk::Failure(farthest) => Listed::Failure(farthest),
         Walk::Success(u, count) => {
             if captures.len() / 4 < count {
                 return Listed::Refused(refusals::CAPTURE_ROOM);

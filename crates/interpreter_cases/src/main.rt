@@ -183,8 +183,8 @@ fn show_list(
             show_one(b" | captures", count as u64);
             show_listed(captures, count);
         }
-        Listed::Failure => {
-            show_run(Ran::Failure);
+        Listed::Failure(farthest) => {
+            show_run(Ran::Failure(farthest));
             show_listed(captures, 0);
         }
         Listed::Refused(number) => {

@@ -11,10 +11,8 @@ use Rattle.table.specs.Form.{nodeCount}
 use Rattle.table.specs.Limits.{mostNodes, mostRules, mostTokens}
 use Rattle.file_fields.specs.Fields.{Field}
 use Rattle.columns.specs.declared.Start.{Start}
-use Rattle.columns.specs.declared.Interval.{Interval}
 use Rattle.columns.specs.declared.Reading.the-variants.{By2017}
-use Rattle.clauses.specs.Clauses.{Outcome}
-use Rattle.clauses.specs.RunAnswer.{ourOutcome, runAnswer}
+use Rattle.clauses.specs.RunAnswer.{Ended, ourEnd, runAnswer}
 use lib.ListN.{length}
 use Rattle.grammar_file.specs.File.{Contents, fieldsOf, nodeTable, ruleList, startNode, startMode, fails1, fails2, fails5ByFile, fails6, contents, fileAnswer, readAnswer}
 use Rattle.token_words.specs.Places.{places}
@@ -60,7 +58,7 @@ checked f3 f4 t5 v = andThen {B = Unit} (refuseIf f3 3 (refuseIf f4 4 (refuseIf 
 abbrev scanned : (g8 g9 g10 : Bool) → ℕ → Answer ℕ
 scanned g8 g9 g10 count = refuseIf g8 8 (refuseIf g9 9 (refuseIf g10 10 (given count)))
 
-abbrev ran : (e11 e12 : Bool) → Outcome Interval → Answer (Outcome Interval)
+abbrev ran : (e11 e12 : Bool) → Ended → Answer Ended
 ran e11 e12 x = refuseIf e11 11 (refuseIf e12 12 (given x))
 
 -- n is the lowest of what four answers refuse with.
@@ -91,7 +89,7 @@ over-scanned k false true g10 count h m e = omega arith
 over-scanned k false false true count h m e = omega arith
 over-scanned k false false false count h m e = absurd e
 
-over-ran : (k : ℕ) (check : Answer Unit) (e11 e12 : Bool) (x : Outcome Interval) → k ≤ 11 → Over k check → Over k (andThen check (ran e11 e12 x))
+over-ran : (k : ℕ) (check : Answer Unit) (e11 e12 : Bool) (x : Ended) → k ≤ 11 → Over k check → Over k (andThen check (ran e11 e12 x))
 over-ran k (given t) true e12 x h o m e = omega arith
 over-ran k (given t) false true x h o m e = omega arith
 over-ran k (given t) false false x h o m e = absurd e
@@ -99,7 +97,7 @@ over-ran k (refused number) e11 e12 x h o m e = o m e
 over-ran k (refusedAt number node) e11 e12 x h o m e = o m e
 
 -- The line's number is the least, by the checks one after the other.
-module _ (e11 e12 : Bool) (count : ℕ) (c : Contents) (x : Outcome Interval) where
+module _ (e11 e12 : Bool) (count : ℕ) (c : Contents) (x : Ended) where
   abbrev Lowers : (f1 f2 f3 f4 f5 t5 f6 g8 g9 g10 : Bool) → Answer Unit → ℕ → Type 0
   Lowers f1 f2 f3 f4 f5 t5 f6 g8 g9 g10 v n =
       let read = of-file f1 f2 f3 f4 f5 c (refuseIf f6 6 (given c)) in
@@ -175,7 +173,7 @@ module _ (e11 e12 : Bool) (count : ℕ) (c : Contents) (x : Outcome Interval) wh
   by-file false false false false false false f6 g8 g9 g10 v n s h e = by-verdict f6 g8 g9 g10 v n s e
 
   -- An outcome: no part refuses.
-  abbrev None : (f1 f2 f3 f4 f5 t5 f6 g8 g9 g10 : Bool) → Answer Unit → Outcome Interval → ℕ → Type 0
+  abbrev None : (f1 f2 f3 f4 f5 t5 f6 g8 g9 g10 : Bool) → Answer Unit → Ended → ℕ → Type 0
   None f1 f2 f3 f4 f5 t5 f6 g8 g9 g10 v y m =
       let read = of-file f1 f2 f3 f4 f5 c (refuseIf f6 6 (given c)) in
       let check = checked f3 f4 t5 v in
@@ -183,19 +181,19 @@ module _ (e11 e12 : Bool) (count : ℕ) (c : Contents) (x : Outcome Interval) wh
       let run = andThen check (ran e11 e12 x) in
       given y ≡ andThen read (andThen check (andThen scan run)) → Refuses read m ⊎ (Refuses check m ⊎ (Refuses scan m ⊎ Refuses run m)) → ⊥
 
-  none-run : (a b : Bool) (y : Outcome Interval) (m : ℕ) → given y ≡ ran a b x → Refuses (ran a b x) m → ⊥
+  none-run : (a b : Bool) (y : Ended) (m : ℕ) → given y ≡ ran a b x → Refuses (ran a b x) m → ⊥
   none-run true b y m e r = no-refusal e
   none-run false true y m e r = no-refusal e
   none-run false false y m e r = r
 
-  none-scan : (g8 g9 g10 : Bool) (y : Outcome Interval) (m : ℕ) → None false false false false false false false g8 g9 g10 (given tt) y m
+  none-scan : (g8 g9 g10 : Bool) (y : Ended) (m : ℕ) → None false false false false false false false g8 g9 g10 (given tt) y m
   none-scan true g9 g10 y m e r = no-refusal e
   none-scan false true g10 y m e r = no-refusal e
   none-scan false false true y m e r = no-refusal e
   none-scan false false false y m e r = ⊎-elim (λ z. z) (⊎-elim (λ z. z) (⊎-elim (λ z. z) (none-run e11 e12 y m e))) r
 
   none-file :
-      (f1 f2 f3 f4 f5 t5 f6 g8 g9 g10 : Bool) (v : Answer Unit) (y : Outcome Interval) (m : ℕ)
+      (f1 f2 f3 f4 f5 t5 f6 g8 g9 g10 : Bool) (v : Answer Unit) (y : Ended) (m : ℕ)
       → (t5 ≡ true → f5 ≡ true)
       → None f1 f2 f3 f4 f5 t5 f6 g8 g9 g10 v y m
   none-file true f2 f3 f4 f5 t5 f6 g8 g9 g10 v y m h e r = no-refusal e
@@ -234,7 +232,7 @@ module _ (file report : List ℕ) where
   pub lowest-number : (n : ℕ) → Refuses (lineAnswer file report) n → Lowest file report n
   unfolding lineAnswer afterParts readAnswer scanAnswer fileAnswer checkAnswer tableAnswer runAnswer fails16
   lowest-number n e =
-      let least = by-file (fails11 words) (fails12 nodes words start) (length (places report)) (contents fs) (ourOutcome By2017 nodes rules words start)
+      let least = by-file (fails11 words) (fails12 nodes words start) (length (places report)) (contents fs) (ourEnd By2017 nodes rules words start)
       (fails1 file) (fails2 fs) (fails3 nodes rules) (fails4 nodes rules) (fails5ByFile fs) (fails5 nodes rules)
       (fails6 fs (mostNodes * 4) mostRules) (fails8 report) (fails9 report) (fails10 report (mostTokens * 4))
       (verdictFrom (isWell nodes rules) 0 (nodeCount nodes)) n (verdict-seven (isWell nodes rules) 0 (nodeCount nodes)) (five-by-table fs) e in
@@ -267,10 +265,10 @@ module _ (file report : List ℕ) where
   part-of (by-interpreter r) = inr (inr (inr r))
 
   -- Where the line has no number, no part gives one.
-  pub no-number : (y : Outcome Interval) → given y ≡ lineAnswer file report → (m : ℕ) → Gives file report m → ⊥
+  pub no-number : (y : Ended) → given y ≡ lineAnswer file report → (m : ℕ) → Gives file report m → ⊥
   unfolding lineAnswer afterParts readAnswer scanAnswer fileAnswer checkAnswer tableAnswer runAnswer fails16
   no-number y e m g =
-      none-file (fails11 words) (fails12 nodes words start) (length (places report)) (contents fs) (ourOutcome By2017 nodes rules words start)
+      none-file (fails11 words) (fails12 nodes words start) (length (places report)) (contents fs) (ourEnd By2017 nodes rules words start)
       (fails1 file) (fails2 fs) (fails3 nodes rules) (fails4 nodes rules) (fails5ByFile fs) (fails5 nodes rules)
       (fails6 fs (mostNodes * 4) mostRules) (fails8 report) (fails9 report) (fails10 report (mostTokens * 4))
       (verdictFrom (isWell nodes rules) 0 (nodeCount nodes)) y m (five-by-table fs) e (part-of g)

@@ -15,7 +15,7 @@ use Rattle.interpreter.specs.declared.Ran.{Ran}
 use Rattle.interpreter.specs.declared.Ran.the-variants.{Refused as RanRefused, IllFormed as RanIllFormed}
 use Rattle.interpreter.specs.declared.Listed.{Listed}
 use Rattle.line.specs.Line.{startAt, fileStart, afterParts, partsAnswer, lineAnswer}
-use Rattle.line.specs.Entries.{entriesAnswer, outcomeAnswer, captureCount, givenCount, tokenCount, tokensAfter, capturesAfter, entries}
+use Rattle.line.specs.Entries.{entriesAnswer, endAnswer, captureCount, givenCount, tokenCount, tokensAfter, capturesAfter, entries}
 use Rattle.line.specs.InternalParts.{Stands, Says, PartsGive}
 use Rattle.line.specs.declared.Parts.{Parts}
 use Rattle.line.specs.declared.Parts.the-variants.{Ready, Refused, IllFormed}
@@ -90,7 +90,7 @@ module _ {file report : List ℕ} {room n r t node mode : ℕ} {nodes rules toke
 -- A list where the parts refuse.
 module _ (file report before : List ℕ) (room : ℕ) (x : Entries) where
   pub record Nothing (a : Answer Listing) : Type 0 where
-    pub answer : numbers 0 (x .answer) ≡ outcomeAnswer a
+    pub answer : numbers 0 (x .answer) ≡ endAnswer a
     pub tokens : x .tokens ≡ tokenCount file report room
     pub captures : x .captures ≡ captureCount a
     pub unchanged : before ≡ capturesAfter file report room before
@@ -104,7 +104,7 @@ module _ (file report before : List ℕ) (room : ℕ) (x : Entries) where
   none-refused e d =
       let q = parts-refuse file report room _ e in
       record {
-        answer = ap (numbers 0) (d .0) ∙ ap outcomeAnswer q;
+        answer = ap (numbers 0) (d .0) ∙ ap endAnswer q;
         tokens = d .1 ∙ ap givenCount (parts-refuse file report room _ e);
         captures = d .2 ∙ ap captureCount q;
         unchanged = ap (λ (a : Answer Listing). afterwards a (listWords (entries file report) (length before)) before) q;
@@ -119,7 +119,7 @@ module _ (file report before : List ℕ) (room : ℕ) (x : Entries) where
   none-named e d =
       let q = parts-name file report room _ e in
       record {
-        answer = ap (numbers 0) (d .0) ∙ ap outcomeAnswer q;
+        answer = ap (numbers 0) (d .0) ∙ ap endAnswer q;
         tokens = d .1 ∙ ap givenCount (parts-name file report room _ e);
         captures = d .2 ∙ ap captureCount q;
         unchanged = ap (λ (a : Answer Listing). afterwards a (listWords (entries file report) (length before)) before) q;

@@ -8,13 +8,12 @@ use Rattle.table.specs.Answer.{Answer, given, refused, refusedAt, afterwards}
 use Rattle.grammar_file.specs.File.{fieldsOf, nodeTable, ruleList}
 use Rattle.token_words.specs.Scan.{wordsOf, scanTokens}
 use Rattle.columns.specs.declared.Capture.{Capture}
-use Rattle.columns.specs.declared.Interval.{Interval}
 use Rattle.columns.specs.declared.Reading.the-variants.{By2017}
-use Rattle.clauses.specs.Clauses.{Outcome}
+use Rattle.clauses.specs.RunAnswer.{Ended}
 use Rattle.clauses.specs.ListAnswer.{ourCaptures, Listing, listAnswer, listWords}
 use Rattle.line.specs.Line.{fileStart, afterParts, partsAnswer}
 
--- The lowest number of the parts, then 13, then the outcome with the number of captures: for so many words lent for the
+-- The lowest number of the parts, then 13, then what the run ends in with the number of captures: for so many words lent for the
 -- tokens and for the captures.
 unfoldable pub entriesAnswer : List ℕ → List ℕ → ℕ → ℕ → Answer Listing
 entriesAnswer file report tokensLent capturesLent =
@@ -22,11 +21,11 @@ entriesAnswer file report tokensLent capturesLent =
     (listAnswer By2017 (nodeTable (fieldsOf file)) (ruleList (fieldsOf file)) (wordsOf (scanTokens file report))
     (fileStart file) capturesLent)
 
--- The outcome alone, by which the last line is printed.
-abbrev pub outcomeAnswer : Answer Listing → Answer (Outcome Interval)
-outcomeAnswer (given x) = given (x .outcome)
-outcomeAnswer (refused number) = refused number
-outcomeAnswer (refusedAt number node) = refusedAt number node
+-- What the run ends in alone, by which the last lines are printed.
+abbrev pub endAnswer : Answer Listing → Answer Ended
+endAnswer (given x) = given (x .ended)
+endAnswer (refused number) = refused number
+endAnswer (refusedAt number node) = refusedAt number node
 
 -- The number of captures; none where the call is refused.
 abbrev pub captureCount : Answer Listing → ℕ

@@ -1,22 +1,18 @@
 -- The program's line (01, "Bench cases", last paragraph): from the bytes of a grammar file and a report.
 use Prim.Native.Nat.{ℕ, _*_}
-use mathlib.Core.Bool.{false, cond}
-use mathlib.Core.List.{List, _++_}
-use lib.ListN.{length, drop}
-use lib.Dec.{ltb}
+use mathlib.Core.Bool.{false}
+use mathlib.Core.List.{List}
 use Rattle.table.specs.Answer.{Answer, given, andThen}
 use Rattle.table.specs.Limits.{mostNodes, mostRules, mostTokens}
 use Rattle.columns.specs.Intervals.{to}
 use Rattle.columns.specs.declared.Upper.the-variants.{Endless}
-use Rattle.columns.specs.declared.Interval.{Interval}
 use Rattle.columns.specs.declared.Start.{Start}
 use Rattle.grammar_file.specs.File.{fieldsOf, nodeTable, ruleList, startNode, startMode, readAnswer}
 use Rattle.token_words.specs.Scan.{wordsOf, scanTokens, scanAnswer}
 use Rattle.well_formed.specs.Check.{checkAnswer}
 use Rattle.columns.specs.declared.Reading.the-variants.{By2017}
-use Rattle.clauses.specs.Clauses.{Outcome}
-use Rattle.clauses.specs.RunAnswer.{runAnswer}
-use Rattle.answer_line.specs.AnswerLine.{lineBytes, room}
+use Rattle.clauses.specs.RunAnswer.{Ended, runAnswer}
+use Rattle.answer_line.specs.AnswerLine.{lineBytes, countIn, sliceIn, room}
 
 -- "runs the file's start from token 0, interval 0 without end, flag clear": node and mode.
 abbrev pub startAt : ℕ → ℕ → Start
@@ -39,17 +35,14 @@ abbrev pub partsAnswer : List ℕ → List ℕ → ℕ → Answer Unit
 partsAnswer file report lent = afterParts file report lent (given tt)
 
 -- Then the run. The scanner is lent what the most tokens need.
-unfoldable pub lineAnswer : List ℕ → List ℕ → Answer (Outcome Interval)
+unfoldable pub lineAnswer : List ℕ → List ℕ → Answer Ended
 lineAnswer file report =
     afterParts file report (mostTokens * 4)
     (runAnswer By2017 (nodeTable (fieldsOf file)) (ruleList (fieldsOf file)) (wordsOf (scanTokens file report)) (fileStart file))
 
--- How many bytes are written to a slice of so many: all of the line, or none where it has fewer than 64.
+-- The line in a lent slice: how many bytes are written, all of it or none where it has fewer than 64, and the slice afterwards.
 unfoldable pub lineCount : List ℕ → List ℕ → ℕ → ℕ
-lineCount file report lent = cond (ltb lent room) 0 (length (lineBytes (lineAnswer file report)))
+lineCount file report lent = countIn room (lineBytes (lineAnswer file report)) lent
 
--- The slice afterwards: the line, and behind it what was there; as it was where it has fewer than 64 bytes.
 unfoldable pub lineAfter : List ℕ → List ℕ → List ℕ → List ℕ
-lineAfter file report before =
-    cond (ltb (length before) room) before
-    (lineBytes (lineAnswer file report) ++ drop (length (lineBytes (lineAnswer file report))) before)
+lineAfter file report before = sliceIn room (lineBytes (lineAnswer file report)) before

@@ -15,7 +15,7 @@ ghost use mathlib.Core.Path.{_≡_};
 ghost use lib.ListN.{length};
 ghost use Rattle.interpreter.specs.Numbers.{numbers, listNumbers};
 ghost use Rattle.line.specs.Line.{startAt, lineAnswer, lineCount, lineAfter};
-ghost use Rattle.line.specs.Entries.{entriesAnswer, outcomeAnswer, captureCount, tokenCount, tokensAfter, capturesAfter};
+ghost use Rattle.line.specs.Entries.{entriesAnswer, endAnswer, captureCount, tokenCount, tokensAfter, capturesAfter};
 ghost use Rattle.line.specs.Entries.{captureAt};
 ghost use Rattle.line.specs.InternalParts.{PartsGive};
 
@@ -55,7 +55,7 @@ pub fn write(file: &[u8], report: &[u8], out: &mut [u8]) -> usize
 pub fn list(file: &[u8], report: &[u8], tokens: &mut [u32], captures: &mut [u32]) -> Entries
     ensures { λ r. ⌜
         numbers 0 (r .answer)
-        ≡ outcomeAnswer
+        ≡ endAnswer
         (entriesAnswer (now (file .entry)) (now (report .entry)) (length (now (tokens .entry)))
         (length (now (captures .entry))))
         ⌝ }
@@ -229,7 +229,7 @@ fn none(answer: Ran) -> Entries
 // What a run that lists answered, over so many tokens.
 fn counted(x: Listed, tokens: usize) -> Entries
     ensures { λ r. ⌜
-        (numbers 0 (r .answer) ≡ outcomeAnswer (listNumbers 0 x))
+        (numbers 0 (r .answer) ≡ endAnswer (listNumbers 0 x))
         × (r .tokens ≡ tokens)
         × (r .captures ≡ captureCount (listNumbers 0 x))
         ⌝ }
@@ -240,8 +240,8 @@ fn counted(x: Listed, tokens: usize) -> Entries
             tokens,
             captures,
         },
-        Listed::Failure => Entries {
-            answer: Ran::Failure,
+        Listed::Failure(farthest) => Entries {
+            answer: Ran::Failure(farthest),
             tokens,
             captures: 0,
         },

@@ -4,7 +4,7 @@ use mathlib.Core.Path.{_≡_, refl, ap}
 use native.Mathlib.Omega.{arith}
 use mathlib.Core.Bool.{Bool}
 use mathlib.Core.List.{List, [], _∷_, _++_}
-use lib.ListN.{getD, set}
+use lib.ListN.{getD}
 use Rattle.table.specs.Answer.{Answer}
 use Rattle.columns.specs.Intervals.{to}
 use Rattle.columns.specs.declared.Interval.{Interval}
@@ -15,21 +15,23 @@ use Rattle.clauses.specs.ListAnswer.{Listing}
 use Rattle.interpreter.specs.Numbers.{listNumbers}
 use Rattle.interpreter.specs.declared.Listed.{Listed}
 use Rattle.interpreter.specs.declared.Listed.the-variants.{Success, Failure, Refused, IllFormed}
-use Rattle.reported.specs.Reported.{number, successWords}
+use Rattle.reported.specs.Reported.{number, successWords, failureWords}
 use Rattle.reported.specs.Reported.{ListReported, list-success, list-failure, list-refused, list-refusedAt}
 
--- Six words, taken one by one, and a seventh behind them.
-abbrev pub sevenWords : List ℕ → ℕ → List ℕ
-sevenWords w n = getD w 0 0 ∷ getD w 1 0 ∷ getD w 2 0 ∷ getD w 3 0 ∷ getD w 4 0 ∷ getD w 5 0 ∷ n ∷ []
+-- Seven words, taken one by one, and an eighth behind them.
+abbrev pub eightWords : List ℕ → ℕ → List ℕ
+eightWords w n = getD w 0 0 ∷ getD w 1 0 ∷ getD w 2 0 ∷ getD w 3 0 ∷ getD w 4 0 ∷ getD w 5 0 ∷ getD w 6 0 ∷ n ∷ []
 
 by-upper :
-    (read lower : ℕ) (upper : Upper) (flag : Bool) (n : ℕ)
-    → let w = successWords read (to lower upper) flag in sevenWords w n ≡ w ++ (n ∷ [])
-by-upper read lower (At h) flag n = refl
-by-upper read lower Endless flag n = refl
+    (read lower : ℕ) (upper : Upper) (flag : Bool) (farthest n : ℕ)
+    → let w = successWords read (to lower upper) flag farthest in eightWords w n ≡ w ++ (n ∷ [])
+by-upper read lower (At h) flag farthest n = refl
+by-upper read lower Endless flag farthest n = refl
 
-seven-words : (read : ℕ) (c : Interval) (flag : Bool) (n : ℕ) → let w = successWords read c flag in sevenWords w n ≡ w ++ (n ∷ [])
-seven-words read c flag n = by-upper read (c .lower) (c .upper) flag n
+eight-words :
+    (read : ℕ) (c : Interval) (flag : Bool) (farthest n : ℕ)
+    → let w = successWords read c flag farthest in eightWords w n ≡ w ++ (n ∷ [])
+eight-words read c flag farthest n = by-upper read (c .lower) (c .upper) flag farthest n
 
 module _ {x : Listed} {read n : ℕ} {s : State} (e : x ≡ Success read s n) (place : ℕ) where
   pub number-listed : 0 ≡ number (listNumbers place x)
@@ -37,16 +39,16 @@ module _ {x : Listed} {read n : ℕ} {s : State} (e : x ≡ Success read s n) (p
 
   pub words-listed :
       {w : List ℕ}
-      → w ≡ successWords read (s .interval) (s .flag)
+      → w ≡ successWords read (s .interval) (s .flag) (s .farthest)
       → (before : List ℕ)
-      → ListReported place before (listNumbers place x) (sevenWords w n)
-  words-listed q before = rw (e, q, seven-words) (list-success refl)
+      → ListReported place before (listNumbers place x) (eightWords w n)
+  words-listed q before = rw (e, q, eight-words) (list-success refl)
 
-module _ {x : Listed} (e : x ≡ Failure) (place : ℕ) where
+module _ {x : Listed} {m : ℕ} (e : x ≡ Failure m) (place : ℕ) where
   pub number-failed : 0 ≡ number (listNumbers place x)
   number-failed = rw e refl
 
-  pub words-failed : (before : List ℕ) → ListReported place before (listNumbers place x) (set before 0 0)
+  pub words-failed : (before : List ℕ) → ListReported place before (listNumbers place x) (failureWords before m)
   words-failed before = rw e list-failure
 
 module _ {x : Listed} {n : ℕ} where
@@ -68,8 +70,8 @@ pub one-report :
     → ListReported place before a after
     → ListReported place before a after'
     → after ≡ after'
-one-report (list-success {read = read} {count = count} {c = c} {flag = flag} e) (list-success {read = read'} e') =
-    ap (λ (n : ℕ). successWords n c flag ++ (count ∷ [])) (let q : read ≡ read' = omega arith in q)
+one-report (list-success {read = read} {farthest = farthest} {count = count} {c = c} {flag = flag} e) (list-success {read = read'} e') =
+    ap (λ (n : ℕ). successWords n c flag farthest ++ (count ∷ [])) (let q : read ≡ read' = omega arith in q)
 one-report list-failure list-failure = refl
 one-report list-refused list-refused = refl
 one-report list-refusedAt list-refusedAt = refl

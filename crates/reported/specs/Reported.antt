@@ -11,8 +11,8 @@ use Rattle.columns.specs.declared.Interval.{Interval}
 use Rattle.columns.specs.declared.Start.{Start}
 use Rattle.columns.specs.declared.Capture.{Capture}
 use Rattle.grammar_file.specs.File.{Contents}
-use Rattle.clauses.specs.Clauses.{Outcome, success, failure}
-use Rattle.clauses.specs.RunAnswer.{Reads}
+use Rattle.clauses.specs.Clauses.{success, failure}
+use Rattle.clauses.specs.RunAnswer.{Ended, Reads}
 use Rattle.clauses.specs.ListAnswer.{Listing}
 use Rattle.shown_text.specs.Shown.{Part, inReport, inFile}
 
@@ -45,25 +45,34 @@ abbrev pub upperWords : Upper → List ℕ
 upperWords (At h) = h ∷ 0 ∷ []
 upperWords Endless = 0 ∷ 1 ∷ []
 
--- Success, six words: 1, the tokens read, the lower end, the two of the upper end, the flag.
-abbrev pub successWords : (read : ℕ) → Interval → Bool → List ℕ
-successWords read c flag = 1 ∷ read ∷ c .lower ∷ (upperWords (c .upper) ++ (bit flag ∷ []))
+-- Success, seven words: 1, the tokens read, the lower end, the two of the upper end, the flag, the farthest place.
+abbrev pub successWords : (read : ℕ) → Interval → Bool → (farthest : ℕ) → List ℕ
+successWords read c flag farthest = 1 ∷ read ∷ c .lower ∷ (upperWords (c .upper) ++ (bit flag ∷ farthest ∷ []))
 
--- The lent words before and after a run from a place: those of a success, which has read from the place on to its end place;
--- 0 in the first for failure; as they were for a refused call.
-pub data RunReported (place : ℕ) (before : List ℕ) : Answer (Outcome Interval) → List ℕ → Type 0 where
-  of-success : {read end : ℕ} {c : Interval} {flag : Bool} → Reads place read end
-      → RunReported place before (given (success (end, c, flag))) (successWords read c flag)
-  of-failure : RunReported place before (given failure) (set before 0 0)
+-- Failure: 0 in the first, the farthest place in the seventh, and the others as they were.
+abbrev pub failureWords : List ℕ → (farthest : ℕ) → List ℕ
+failureWords before farthest = set (set before 0 0) 6 farthest
+
+-- The lent words before and after a run from a place: those of a success, which has read from the place on to its end place,
+-- or of a failure; as they were for a refused call.
+pub data RunReported (place : ℕ) (before : List ℕ) : Answer Ended → List ℕ → Type 0 where
+  of-success : {read end farthest : ℕ} {c : Interval} {flag : Bool} → Reads place read end
+      → RunReported place before (given (record { outcome = success (end, c, flag); farthest = farthest }))
+      (successWords read c flag farthest)
+  of-failure : {farthest : ℕ}
+      → RunReported place before (given (record { outcome = failure; farthest = farthest })) (failureWords before farthest)
   of-refused : {n : ℕ} → RunReported place before (refused n) before
   of-refusedAt : {n node : ℕ} → RunReported place before (refusedAt n node) before
 
--- The same for a run that lists: a success has a seventh word, the number of captures.
+-- The same for a run that lists: a success has an eighth word, the number of captures.
 pub data ListReported (place : ℕ) (before : List ℕ) : Answer Listing → List ℕ → Type 0 where
-  list-success : {read end count : ℕ} {c : Interval} {flag : Bool} → Reads place read end
-      → ListReported place before (given (record { outcome = success (end, c, flag); count = count }))
-      (successWords read c flag ++ (count ∷ []))
-  list-failure : ListReported place before (given (record { outcome = failure; count = 0 })) (set before 0 0)
+  list-success : {read end farthest count : ℕ} {c : Interval} {flag : Bool} → Reads place read end
+      → ListReported place before
+      (given (record { ended = record { outcome = success (end, c, flag); farthest = farthest }; count = count }))
+      (successWords read c flag farthest ++ (count ∷ []))
+  list-failure : {farthest : ℕ}
+      → ListReported place before (given (record { ended = record { outcome = failure; farthest = farthest }; count = 0 }))
+      (failureWords before farthest)
   list-refused : {n : ℕ} → ListReported place before (refused n) before
   list-refusedAt : {n node : ℕ} → ListReported place before (refusedAt n node) before
 

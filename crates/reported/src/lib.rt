@@ -81,7 +81,7 @@ pub fn report_check(x: Verdict) -> u32
 }
 
 // Reports what a run answered, wherever it began.
-pub fn report(x: Ran, result: &mut [usize; 6]) -> u32
+pub fn report(x: Ran, result: &mut [usize; 7]) -> u32
     ensures { λ r. ⌜ ((place : ℕ) → r ≡ number (numbers place x)) ⌝ }
     ensures { λ r. ⌜ ((place : ℕ) → RunReported place (now (result .entry)) (numbers place x) (now (result .exit))) ⌝ }
 {
@@ -90,8 +90,9 @@ pub fn report(x: Ran, result: &mut [usize; 6]) -> u32
             *result = success_words(read, s);
             0
         }
-        Ran::Failure => {
+        Ran::Failure(farthest) => {
             result[0] = 0;
+            result[6] = farthest as usize;
             0
         }
         Ran::Refused(n) => n as u32,
@@ -100,18 +101,19 @@ pub fn report(x: Ran, result: &mut [usize; 6]) -> u32
 }
 
 // Reports what a run that lists answered, wherever it began.
-pub fn report_list(x: Listed, result: &mut [usize; 7]) -> u32
+pub fn report_list(x: Listed, result: &mut [usize; 8]) -> u32
     ensures { λ r. ⌜ ((place : ℕ) → r ≡ number (listNumbers place x)) ⌝ }
     ensures { λ r. ⌜ ((place : ℕ) → ListReported place (now (result .entry)) (listNumbers place x) (now (result .exit))) ⌝ }
 {
     match x {
         Listed::Success(read, s, count) => {
             let w = success_words(read, s);
-            *result = [w[0], w[1], w[2], w[3], w[4], w[5], count];
+            *result = [w[0], w[1], w[2], w[3], w[4], w[5], w[6], count];
             0
         }
-        Listed::Failure => {
+        Listed::Failure(farthest) => {
             result[0] = 0;
+            result[6] = farthest as usize;
             0
         }
         Listed::Refused(n) => n as u32,
@@ -145,12 +147,13 @@ fn seven_at(node: u16) -> u32
 }
 
 // The words of a success.
-fn success_words(read: u32, s: State) -> [usize; 6]
-    ensures { λ r. ⌜ r ≡ successWords read (s .interval) (s .flag) ⌝ }
+fn success_words(read: u32, s: State) -> [usize; 7]
+    ensures { λ r. ⌜ r ≡ successWords read (s .interval) (s .flag) (s .farthest) ⌝ }
 {
     let interval = s.interval;
     let upper = interval.upper;
     let flag = s.flag as usize;
+    let farthest = s.farthest as usize;
     match upper {
         Upper::At(h) => [
             1,
@@ -159,7 +162,16 @@ fn success_words(read: u32, s: State) -> [usize; 6]
             h as usize,
             0,
             flag,
+            farthest,
         ],
-        Upper::Endless => [1, read as usize, interval.lower as usize, 0, 1, flag],
+        Upper::Endless => [
+            1,
+            read as usize,
+            interval.lower as usize,
+            0,
+            1,
+            flag,
+            farthest,
+        ],
     }
 }

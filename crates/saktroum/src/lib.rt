@@ -118,7 +118,7 @@ pub extern "C" fn saktroum_run(
     flag: bool,
     mode: u16,
     by_2014: bool,
-    result: &mut [usize; 6],
+    result: &mut [usize; 7],
 ) -> u32
     ensures { λ r. ⌜ r
         ≡ number (runAnswer (readingOf by_2014) (now (nodes .entry)) (now (rules .entry)) (now (tokens .entry))
@@ -149,7 +149,7 @@ pub extern "C" fn saktroum_list(
     mode: u16,
     by_2014: bool,
     captures: &mut [u32],
-    result: &mut [usize; 7],
+    result: &mut [usize; 8],
 ) -> u32
     ensures { λ r. ⌜ r
         ≡ number (listAnswer (readingOf by_2014) (now (nodes .entry)) (now (rules .entry)) (now (tokens .entry))

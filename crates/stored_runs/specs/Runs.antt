@@ -46,14 +46,14 @@ pub record Answers (reading : Reading) (nodes rules tokens : List ℕ) (start : 
 abbrev pub StoredAnswers : Reading → List ℕ → List ℕ → List ℕ → Start → Ran → Type 0
 StoredAnswers reading nodes rules tokens start ran = Answers reading (pairs 2100 nodes) (pairs 200 rules) tokens start ran
 
--- How many numbers a success has: the tokens read, the lower end, and the upper end where it is a column.
+-- How many numbers a success has: the tokens read, the lower end, the upper end where it is a column, and the farthest place.
 abbrev pub shownUpper : Upper → ℕ
-shownUpper (At column) = 3
-shownUpper Endless = 2
+shownUpper (At column) = 4
+shownUpper Endless = 3
 
 -- How many numbers are printed of what a run ended in.
 abbrev pub shownCount : Ran → ℕ
 shownCount (Success read state) = shownUpper (state .interval .upper)
-shownCount Failure = 0
+shownCount (Failure farthest) = 1
 shownCount (Refused number) = 1
 shownCount (IllFormed node) = 1

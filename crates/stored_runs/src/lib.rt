@@ -127,17 +127,14 @@ fn run_over(
     run(nodes, rules, words, start, reading)
 }
 
-// Prints `success` with the tokens read, the interval's ends and the flag, `failure`, or `refused` with the number, and
-// for 7 the node. The answer is how many numbers that were.
+// Prints `success` with the tokens read, the interval's ends, the flag and the farthest place, `failure` with the farthest
+// place, or `refused` with the number, and for 7 the node. The answer is how many numbers that were.
 pub fn show(ran: Ran) -> usize
     ensures { λ r. ⌜ r ≡ shownCount ran ⌝ }
 {
     match ran {
         Ran::Success(read, state) => show_success(read, state),
-        Ran::Failure => {
-            io::write_all(1, b"failure");
-            0
-        }
+        Ran::Failure(farthest) => show_one(b"failure", farthest as u64),
         Ran::Refused(n) => show_one(b"refused", n as u64),
         Ran::IllFormed(node) => show_one(b"refused 7", node as u64),
     }
@@ -153,6 +150,7 @@ fn show_success(read: u32, state: State) -> usize
     stored_cases::show(b"success", &numbers);
     let count = show_upper(upper);
     stored_cases::show_either(state.flag, b" set", b" clear");
+    show_one(b"", state.farthest as u64);
     count
 }
 
@@ -163,11 +161,11 @@ fn show_upper(upper: Upper) -> usize
     match upper {
         Upper::At(column) => {
             show_one(b"", column as u64);
-            3
+            4
         }
         Upper::Endless => {
             io::write_all(1, b" inf");
-            2
+            3
         }
     }
 }

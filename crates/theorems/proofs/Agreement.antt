@@ -1,4 +1,4 @@
--- Demand 3, in its words, with the captures; and the likeness of two ends and sets for every grammar.
+-- Demand 3, in its words, with the farthest place and the captures; and the likeness of two ends and sets for every grammar.
 use Prim.Native.Nat.{ℕ, _-_, _*_, _/_, _≤_}
 use mathlib.Core.Path.{_≡_, refl, sym, ap, ap₂, subst, _∙_}
 use mathlib.Core.Bool.{Bool, true, false}
@@ -23,8 +23,8 @@ use Rattle.well_formed.proofs.VerdictLaws.{check-means}
 use Rattle.clauses.specs.Clauses.{Tokens, State, Outcome, success}
 use Rattle.clauses.specs.Limits.{tokensOf, fails11, fails12, fails16, WithinLimits}
 use Rattle.clauses.specs.AlikeOutcomes.{AlikeOutcome, alike-success, alike-failure}
-use Rattle.clauses.specs.Trace.{Trace, Gives, trace, listed}
-use Rattle.clauses.specs.RunAnswer.{SetRun, EndsRun, ourOutcome, ourTrace, runAnswer, Reads}
+use Rattle.clauses.specs.Trace.{Trace, Gives, trace, farthestFrom, listed}
+use Rattle.clauses.specs.RunAnswer.{SetRun, EndsRun, ourOutcome, ourTrace, endsFarthest, setFarthest, ourFarthest, Ended, ourEnd, runAnswer, Reads}
 use Rattle.clauses.specs.ListAnswer.{endsCaptures, setCaptures, ourCaptures, fails13, Listing, listAnswer, listWords, listAfter}
 use Rattle.clauses.specs.ThirdDemand.{ThirdDemand, ListDemand}
 use Rattle.clauses.proofs.ListWords.{list-fills}
@@ -74,14 +74,22 @@ module _ (reading : Reading) (nodes rules words : List ℕ) (start : Start) wher
     pub outcome-only : (o : Outcome Interval) → EndsRun reading nodes rules words start o → o ≡ ourOutcome reading nodes rules words start
     outcome-only o d = one-outcome ends reading nodes rules (tokensOf words) d (run-given .run)
 
-    -- whatever its derivation, the captures are those that are computed.
+    -- whatever its derivation, the farthest place is the one that is computed,
+    pub farthest-only :
+        (o : Outcome Interval) (d : EndsRun reading nodes rules words start o)
+        → endsFarthest reading nodes rules words start o d ≡ ourFarthest reading nodes rules words start
+    farthest-only o d =
+        let q = one-run ends reading nodes rules (tokensOf words) d (run-given .run) in
+        ap (farthestFrom (start .place)) (q .shown ∙ run-given .shows)
+
+    -- and the captures are those that are computed.
     pub captures-only :
         (o : Outcome Interval) (d : EndsRun reading nodes rules words start o)
         → endsCaptures reading nodes rules words start o d ≡ ourCaptures reading nodes rules words start
     captures-only o d = let q = one-run ends reading nodes rules (tokensOf words) d (run-given .run) in ap₂ listed (q .outcome) (q .shown ∙ run-given .shows)
 
     -- It is what a run answers,
-    pub outcome-answered : runAnswer reading nodes rules words start ≡ given (ourOutcome reading nodes rules words start)
+    pub outcome-answered : runAnswer reading nodes rules words start ≡ given (ourEnd reading nodes rules words start)
     unfolding runAnswer
     outcome-answered = rw (check-means nodes rules .passes .1 (limits .table, well), limits .tokens, limits .start-right, limits .reading-right) refl
 
@@ -93,6 +101,13 @@ module _ (reading : Reading) (nodes rules words : List ℕ) (start : Start) wher
         let b = begins nodes words start (limits .start-right) in
         ends-to-sets reading nodes rules (tokensOf words) run-given (record { some = b .some; members = λ k. (λ m. m, λ m. m) })
 
+    set-farthest :
+        (o : Outcome ColumnSet) (d : SetRun reading nodes rules words start o)
+        → setFarthest reading nodes rules words start o d ≡ ourFarthest reading nodes rules words start
+    set-farthest o d =
+        let q = one-run sets reading nodes rules (tokensOf words) d (set-run .gives .run) in
+        ap (farthestFrom (start .place)) (q .shown ∙ set-run .gives .shows)
+
     set-captures :
         (o : Outcome ColumnSet) (d : SetRun reading nodes rules words start o)
         → setCaptures reading nodes rules words start o d ≡ ourCaptures reading nodes rules words start
@@ -101,17 +116,18 @@ module _ (reading : Reading) (nodes rules words : List ℕ) (start : Start) wher
         ap₂ listed (q .outcome) (q .shown ∙ set-run .gives .shows) ∙ same-list (ourTrace reading nodes rules words start) (set-run .alike)
 
     -- For every table that passes 3 to 5 and is well formed, every token list and start within the limits, by either reading: a run answers an
-    -- outcome, the clauses over sets give exactly one, the two are alike, and their captures are the same.
+    -- outcome, the clauses over sets give exactly one, the two are alike, and their farthest place and their captures are the same.
     pub third-demand : ThirdDemand reading nodes rules words start
     third-demand =
         record {
-          ours = ourOutcome reading nodes rules words start;
+          ours = ourEnd reading nodes rules words start;
           answered = outcome-answered;
           theirs = set-run .outcome;
           derived = set-run .gives .run;
           only = λ o e. one-outcome sets reading nodes rules (tokensOf words) e (set-run .gives .run);
           alike = set-run .alike;
           read = λ s e. has-read (rw e at (run-given .run));
+          looked = set-farthest;
           captures = set-captures;
         }
 
@@ -124,7 +140,7 @@ module _ (reading : Reading) (nodes rules words : List ℕ) (start : Start) wher
 
       listing-answered :
           listAnswer reading nodes rules words start lent
-          ≡ given (record { outcome = ourOutcome reading nodes rules words start; count = length (ourCaptures reading nodes rules words start) })
+          ≡ given (record { ended = ourEnd reading nodes rules words start; count = length (ourCaptures reading nodes rules words start) })
       unfolding listAnswer
       listing-answered = rw (outcome-answered, e) refl
 
@@ -146,7 +162,7 @@ module _ (reading : Reading) (nodes rules words : List ℕ) (start : Start) wher
             stands = λ before l o d. list-after before l ∙ ap (λ (cs : List Capture). listWords cs lent) (sym (set-captures o d));
           }
 
-  unrefused : (c : Answer Unit) (t b d : Bool) (o ours : Outcome Interval) → checkAnswer nodes rules ≡ c → fails11 words ≡ t → fails12 nodes words start ≡ b
+  unrefused : (c : Answer Unit) (t b d : Bool) (o ours : Ended) → checkAnswer nodes rules ≡ c → fails11 words ≡ t → fails12 nodes words start ≡ b
       → fails16 reading nodes start ≡ d → andThen c (refuseIf t 11 (refuseIf b 12 (refuseIf d 16 (given o)))) ≡ given ours
       → WithinLimits reading nodes rules words start × Passes nodes rules
   unrefused (given tt) false false false o ours p q r z e =
@@ -159,13 +175,13 @@ module _ (reading : Reading) (nodes rules words : List ℕ) (start : Start) wher
   unrefused (refusedAt k m) t b d o ours p q r z e = absurd (let n : _≡_ {A = ℕ} 0 1 = cc in omega arith)
 
   -- No other run answers an outcome: where one is answered, grammar, tokens and start are such.
-  pub answered-within : (ours : Outcome Interval) → runAnswer reading nodes rules words start ≡ given ours → WithinLimits reading nodes rules words start × Passes nodes rules
+  pub answered-within : (ours : Ended) → runAnswer reading nodes rules words start ≡ given ours → WithinLimits reading nodes rules words start × Passes nodes rules
   unfolding runAnswer
   answered-within ours e =
-      unrefused (checkAnswer nodes rules) (fails11 words) (fails12 nodes words start) (fails16 reading nodes start) (ourOutcome reading nodes rules words start) ours
+      unrefused (checkAnswer nodes rules) (fails11 words) (fails12 nodes words start) (fails16 reading nodes start) (ourEnd reading nodes rules words start) ours
       refl refl refl refl e
 
-  run-first : (r : Answer (Outcome Interval)) (next : Answer Listing) (x : Listing) → runAnswer reading nodes rules words start ≡ r → andThen r next ≡ given x
+  run-first : (r : Answer Ended) (next : Answer Listing) (x : Listing) → runAnswer reading nodes rules words start ≡ r → andThen r next ≡ given x
       → WithinLimits reading nodes rules words start × Passes nodes rules
   run-first (given ours) next x p e = answered-within ours p
   run-first (refused k) next x p e = absurd (let z : _≡_ {A = ℕ} 0 1 = cc in omega arith)

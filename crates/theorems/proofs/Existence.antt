@@ -23,7 +23,7 @@ use Rattle.well_formed.specs.InternalRank.{enters-other, enters-not, enters-rep
 use Rattle.well_formed.specs.InternalRank.{enters-align, rank}
 use Rattle.well_formed.proofs.RankLaws.{rank-falls, rank-most, repeat-reads}
 use Rattle.clauses.specs.Clauses.{Tokens, State, Outcome, success, failure, counts, Run}
-use Rattle.clauses.specs.Trace.{Trace, silent, _then_, dropped, captured, Gives}
+use Rattle.clauses.specs.Trace.{Trace, silent, tried, _then_, dropped, captured, Gives}
 use Rattle.clauses.specs.Evaluation.{Result, ended, unfinished, after, behind, ruled, indented, step, evaluate, enough}
 use Rattle.clauses.specs.Evaluation.{outcomeFor, traceFor}
 use Rattle.theorems.proofs.Narrows.{onward, within}
@@ -121,7 +121,7 @@ module _ (reading : Reading) (nodes rules : List ℕ) (tokens : Tokens) (passing
 
     by-form : (f : Form) → form nodes n ≡ f → Ended (step reading nodes rules tokens (λ τ' f' s'. call k τ' f' s') τ f s)
     by-form table.empty e = this (success s) silent
-    by-form (table.terminal a) e = this _ silent
+    by-form (table.terminal a) e = this _ (tried (s .0))
     by-form (table.rule x) e = ruled-ended x (s .0) _ (child _ e (standsFor rules x) τ s refl (inside _ e) enters-rule)
     by-form (table.sequence p q) e =
         after-ended (call k τ (form nodes p) s) _ _ (child _ e p τ s refl (inside _ e .0) enters-first)

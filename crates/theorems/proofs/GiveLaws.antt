@@ -9,7 +9,7 @@ use Rattle.columns.specs.Domain.{Domain}
 use Rattle.columns.specs.declared.Reading.{Reading}
 use Rattle.clauses.specs.Clauses as clauses
 use Rattle.clauses.specs.Clauses.{Tokens, Next, State, Outcome, success, failure, Fits, counts, handedOn}
-use Rattle.clauses.specs.Trace.{Trace, silent, _then_, dropped, captured, trace, Gives}
+use Rattle.clauses.specs.Trace.{Trace, silent, tried, _then_, dropped, captured, trace, Gives}
 
 module _ {ℓ κ} {D : Domain {ℓ, κ}} {reading : Reading} {nodes rules : List ℕ} {tokens : Tokens} {τ : ℕ} where
   pub empty : {s : State (D .Columns)} → Gives D reading nodes rules tokens τ table.empty s (success s) silent
@@ -20,7 +20,7 @@ module _ {ℓ κ} {D : Domain {ℓ, κ}} {reading : Reading} {nodes rules : List
       {a i w : ℕ} {I : D .Columns}
       → Next tokens a i w
       → D .Member i (D .inner τ I)
-      → Gives D reading nodes rules tokens τ (table.terminal a) (w, I, false) (success (w + 1, D .meet I (D .outer τ (D .one i)), false)) silent
+      → Gives D reading nodes rules tokens τ (table.terminal a) (w, I, false) (success (w + 1, D .meet I (D .outer τ (D .one i)), false)) (tried w)
   unfolding trace
   terminal-clear n m = record { run = clauses.terminal-clear n m; shows = refl }
 
@@ -28,14 +28,14 @@ module _ {ℓ κ} {D : Domain {ℓ, κ}} {reading : Reading} {nodes rules : List
       {a i w : ℕ} {I : D .Columns}
       → Next tokens a i w
       → D .Member i I
-      → Gives D reading nodes rules tokens τ (table.terminal a) (w, I, true) (success (w + 1, D .one i, false)) silent
+      → Gives D reading nodes rules tokens τ (table.terminal a) (w, I, true) (success (w + 1, D .one i, false)) (tried w)
   unfolding trace
   terminal-aligned n m = record { run = clauses.terminal-aligned n m; shows = refl }
 
   pub terminal-fails :
       {a w : ℕ} {I : D .Columns} {b : Bool}
       → ((i : ℕ) → Next tokens a i w → Fits D τ i I b → ⊥)
-      → Gives D reading nodes rules tokens τ (table.terminal a) (w, I, b) failure silent
+      → Gives D reading nodes rules tokens τ (table.terminal a) (w, I, b) failure (tried w)
   unfolding trace
   terminal-fails h = record { run = clauses.terminal-fails h; shows = refl }
 

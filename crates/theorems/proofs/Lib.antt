@@ -6,6 +6,7 @@ pub mod Likeness
 pub mod Existence
 pub mod LimitLaws
 pub mod Agreement
+pub mod FarthestPlace
 pub mod Nested
 pub mod CapturesInside
 pub mod OffsetsUnread

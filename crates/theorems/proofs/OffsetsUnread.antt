@@ -16,11 +16,11 @@ use Rattle.columns.specs.declared.Start.{Start}
 use Rattle.columns.specs.declared.Capture.{Capture}
 use Rattle.columns.specs.declared.Reading.{Reading}
 use Rattle.well_formed.specs.Check.{checkAnswer}
-use Rattle.clauses.specs.Clauses.{Tokens, State, Outcome}
+use Rattle.clauses.specs.Clauses.{Tokens, State}
 use Rattle.clauses.specs.Limits.{tokensOf, fails11, fails12, fails16, finiteOver}
-use Rattle.clauses.specs.Trace.{listed}
+use Rattle.clauses.specs.Trace.{farthestFrom, listed}
 use Rattle.clauses.specs.Evaluation.{outcomeFor, traceFor}
-use Rattle.clauses.specs.RunAnswer.{runAnswer}
+use Rattle.clauses.specs.RunAnswer.{Ended, runAnswer}
 use Rattle.clauses.specs.ListAnswer.{fails13, Listing, listAnswer, listWords, listAfter}
 
 abbrev made : ℕ → (ℕ → ℕ) → (ℕ → ℕ) → Tokens
@@ -38,8 +38,17 @@ same-tokens words words' l t c =
     ∙ ap (λ (f : ℕ → ℕ). made (length words' / 4) f (λ w. getD words (w * 4 + 1) 0)) (fun-ext t)
     ∙ ap (λ (f : ℕ → ℕ). made (length words' / 4) (λ w. getD words' (w * 4) 0) f) (fun-ext c)
 
+-- What a run ends in, by its tokens.
+abbrev endBy : Reading → List ℕ → List ℕ → Start → Tokens → Ended
+endBy reading nodes rules start tokens =
+    let state : State Interval = (start .place, start .interval, start .flag) in
+    record {
+      outcome = outcomeFor reading nodes rules tokens (start .mode) (start .node) state;
+      farthest = farthestFrom (start .place) (traceFor reading nodes rules tokens (start .mode) (start .node) state);
+    }
+
 -- A run looks at the tokens and at how many words there are.
-answerBy : Reading → List ℕ → List ℕ → Start → ℕ → Tokens → Answer (Outcome Interval)
+answerBy : Reading → List ℕ → List ℕ → Start → ℕ → Tokens → Answer Ended
 answerBy reading nodes rules start n tokens =
     andThen (checkAnswer nodes rules)
     (refuseIf
@@ -56,9 +65,7 @@ answerBy reading nodes rules start n tokens =
     || finiteOver (start .interval .upper)
     || not (isRelation (start .mode))) 12
     (refuseIf (fails16 reading nodes start) 16
-    (given
-    (outcomeFor reading nodes rules tokens (start .mode) (start .node)
-    (start .place, start .interval, start .flag))))))
+    (given (endBy reading nodes rules start tokens)))))
 
 answered-by :
     (reading : Reading) (nodes rules words : List ℕ) (start : Start)
@@ -73,15 +80,12 @@ capturesBy reading nodes rules start tokens =
     listed (outcomeFor reading nodes rules tokens (start .mode) (start .node) state) (traceFor reading nodes rules tokens (start .mode) (start .node) state)
 
 -- What a run that lists answers, by what the run answers and by its tokens.
-listBy : Reading → List ℕ → List ℕ → Start → ℕ → Answer (Outcome Interval) → Tokens → Answer Listing
+listBy : Reading → List ℕ → List ℕ → Start → ℕ → Answer Ended → Tokens → Answer Listing
 listBy reading nodes rules start lent answer tokens =
     andThen answer
     (refuseIf (ltb (lent / 4) (length (capturesBy reading nodes rules start tokens))) 13
     (given
-    (record {
-      outcome = outcomeFor reading nodes rules tokens (start .mode) (start .node) (start .place, start .interval, start .flag);
-      count = length (capturesBy reading nodes rules start tokens);
-    })))
+    (record { ended = endBy reading nodes rules start tokens; count = length (capturesBy reading nodes rules start tokens) })))
 
 listed-by :
     (reading : Reading) (nodes rules words : List ℕ) (start : Start) (lent : ℕ)

@@ -1,5 +1,5 @@
 -- At most one outcome, in any column domain (001, theorem 2.1): e, τ ⊢ s → o, e, τ ⊢ s → o' ⟹ o = o'. And with it one trace:
--- two derivations of the same run have the same captures.
+-- two derivations of the same run have the same captures and the same farthest place.
 use Prim.Native.Nat.{ℕ, _+_}
 use mathlib.Core.Path.{_≡_, refl, sym, ap, ap₂, subst, _∙_}
 use mathlib.Core.Bool.{false, true≢false}

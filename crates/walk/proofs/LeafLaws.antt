@@ -1,5 +1,5 @@
 -- What the walk's leaf functions show, over plain values.
-use Prim.Native.Nat.{ℕ, zero, suc, _+_, _*_, _/_, _%_, _≤_, _<_, _^_}
+use Prim.Native.Nat.{ℕ, zero, suc, _+_, _*_, _/_, _%_, _≤_, _<_, _^_, max}
 use mathlib.Core.Path.{_≡_, refl}
 use mathlib.Core.Bool.{true}
 use mathlib.Core.List.{List}
@@ -54,17 +54,17 @@ room-at d e l = rw e at l
 pub same-state : (s : State) (u : Upper) → s .interval .upper ≡ u → withInterval s (to (s .interval .lower) u) ≡ s
 same-state s u e = rw (← e) refl
 
--- One token: none there, another terminal, that terminal at a column.
-module _ (words : List ℕ) (τ a : ℕ) (s : State) (whole : length words % 4 ≡ 0) where
-  pub token-none : length words ≤ s .place * 4 → Failure ≡ tokenOutcome words τ a s
+-- One token, tried as far as a place: none there, another terminal, that terminal at a column.
+module _ (words : List ℕ) (τ a : ℕ) (s : State) (whole : length words % 4 ≡ 0) {m : ℕ} (far : m ≡ max (s .farthest) (s .place)) where
+  pub token-none : length words ≤ s .place * 4 → Failure m ≡ tokenOutcome words τ a s
   unfolding tokenOutcome
-  token-none h = rw (le-ltb (s .place) (length words / 4) (omega arith)) refl
+  token-none h = rw (far, le-ltb (s .place) (length words / 4) (omega arith)) refl
 
   module _ (there : s .place * 4 < length words) where
-    pub token-other : (getD words (s .place * 4) 0 ≡ a → ⊥) → Failure ≡ tokenOutcome words τ a s
+    pub token-other : (getD words (s .place * 4) 0 ≡ a → ⊥) → Failure m ≡ tokenOutcome words τ a s
     unfolding tokenOutcome
-    token-other h = rw (lt-ltb (s .place) (length words / 4) (omega arith), ne-eqb (getD words (s .place * 4) 0) a h) refl
+    token-other h = rw (far, lt-ltb (s .place) (length words / 4) (omega arith), ne-eqb (getD words (s .place * 4) 0) a h) refl
 
-    pub token-there : getD words (s .place * 4) 0 ≡ a → columnOutcome τ s (getD words (s .place * 4 + 1) 0) ≡ tokenOutcome words τ a s
+    pub token-there : getD words (s .place * 4) 0 ≡ a → columnOutcome τ s m (getD words (s .place * 4 + 1) 0) ≡ tokenOutcome words τ a s
     unfolding tokenOutcome
-    token-there h = rw (lt-ltb (s .place) (length words / 4) (omega arith), eq-eqb (getD words (s .place * 4) 0) a h) refl
+    token-there h = rw (far, lt-ltb (s .place) (length words / 4) (omega arith), eq-eqb (getD words (s .place * 4) 0) a h) refl

@@ -27,18 +27,18 @@ use Rattle.well_formed.specs.Check.{checkAnswer}
 use Rattle.well_formed.proofs.VerdictLaws.{check-means}
 use Rattle.table.specs.Words.{eachWords}
 use Rattle.clauses.specs.Clauses as clauses
-use Rattle.clauses.specs.Trace.{Trace, listed}
+use Rattle.clauses.specs.Trace.{Trace, farthestFrom, listed}
 use Rattle.clauses.specs.Limits.{tokensOf, finiteOver, fails11, fails12, fails16, WithinLimits}
-use Rattle.clauses.specs.RunAnswer.{EndsRun, ourOutcome, ourTrace, runAnswer}
+use Rattle.clauses.specs.RunAnswer.{EndsRun, ourOutcome, ourTrace, ourFarthest, Ended, ourEnd, runAnswer}
 use Rattle.clauses.specs.ListAnswer.{ourCaptures, captureWords}
 use Rattle.clauses.proofs.ListWords.{list-fills}
-use Rattle.theorems.proofs.Agreement.{outcome-only, captures-only, outcome-answered}
+use Rattle.theorems.proofs.Agreement.{outcome-only, farthest-only, captures-only, outcome-answered}
 use Rattle.theorems.proofs.LimitLaws.{begins}
 use Rattle.capture_list.specs.Put.{mostCount, clearedFrom}
 use Rattle.capture_list.specs.InternalList.{soFar, Room, Leaves, lists, keeps}
 use Rattle.capture_list.proofs.ClearLaws.{list-is}
 use Rattle.walk.specs.declared.Whole.{Whole}
-use Rattle.walk.specs.InternalWalk.{stateOf, outcomeOf, weight, Checked, Ready, Walked}
+use Rattle.walk.specs.InternalWalk.{stateOf, outcomeOf, farthestOf, weight, Checked, Ready, Walked}
 use Rattle.walk.specs.InternalRun.{Admitted, Counted, WholeWalk}
 use Rattle.walk.specs.WalkAnswer.{walkAnswer, walkAfter}
 use Rattle.walk.proofs.WalkLaws.{weight-most}
@@ -80,7 +80,7 @@ words-left {l' = l'} (lists x) f i b = ap (λ (k : ℕ). getD l' k 0) (omega ari
 words-left (keeps x) f i b = absurd (omega arith)
 
 module _ (reading : Reading) (nodes rules words : List ℕ) (start : Start) where
-  abbrev Answered : Answer (clauses.Outcome Interval) → Type 0
+  abbrev Answered : Answer Ended → Type 0
   Answered v = v ≡ runAnswer reading nodes rules words start
 
   -- The grammar is refused.
@@ -147,7 +147,7 @@ module _ (reading : Reading) (nodes rules words : List ℕ) (start : Start) wher
 
     -- The walk may begin.
     abbrev from : State
-    from = record { place = start .place; interval = start .interval; flag = start .flag }
+    from = record { place = start .place; farthest = start .place; interval = start .interval; flag = start .flag }
 
     pub begin-ready : Ready nodes rules words (start .node) from
     begin-ready =
@@ -167,7 +167,7 @@ module _ (reading : Reading) (nodes rules words : List ℕ) (start : Start) wher
     settled : (o : clauses.Outcome Interval) → EndsRun reading nodes rules words start o → o ≡ ourOutcome reading nodes rules words start
     settled o d = outcome-only reading nodes rules words start limits (checked .well) o d
 
-    answered : Answered (given (ourOutcome reading nodes rules words start))
+    answered : Answered (given (ourEnd reading nodes rules words start))
     answered = sym (outcome-answered reading nodes rules words start limits (checked .well))
 
     -- What a whole walk shows, from what the expression walk shows.
@@ -178,11 +178,18 @@ module _ (reading : Reading) (nodes rules words : List ℕ) (start : Start) wher
           ap (listed (outcomeOf o)) (sym (d .gives .derived .shows))
           ∙ captures-only reading nodes rules words start limits (checked .well) (outcomeOf o) (d .gives .derived .run)
 
+      looked : farthestOf o ≡ ourFarthest reading nodes rules words start
+      looked =
+          d .gives .looked
+          ∙ ap (farthestFrom (start .place)) (sym (d .gives .derived .shows))
+          ∙ farthest-only reading nodes rules words start limits (checked .well) (outcomeOf o) (d .gives .derived .run)
+
       whole : (n : ℕ) → n ≡ min (length (listed (outcomeOf o) (d .shown))) mostCount
           → WholeWalk reading nodes rules words start l (record { outcome = o; count = n }) l'
       whole n e =
           record {
             run = d .gives .derived .run;
+            farthest = looked;
             count = rw (← same) e;
             long = long-left (d .left);
             there = rw (← same) (words-left (d .left));
@@ -190,13 +197,13 @@ module _ (reading : Reading) (nodes rules words : List ℕ) (start : Start) wher
 
     -- By a reading that is the run's.
     pub whole-failed :
-        {v : Reading} {l : List ℕ} {o : Outcome} {c' l' : List ℕ}
+        {v : Reading} {l : List ℕ} {o : Outcome} {c' l' : List ℕ} (m : ℕ)
         → v ≡ reading
         → Walked v nodes rules words (start .mode) (form nodes (start .node)) from (0 ∷ 0 ∷ []) l o c' l'
-        → o ≡ Failure
-        → WholeWalk reading nodes rules words start l (record { outcome = Failure; count = 0 }) l'
-    whole-failed {v} {l} {o} {c'} {l'} p d e =
-        let f : Walked reading nodes rules words (start .mode) (form nodes (start .node)) from (0 ∷ 0 ∷ []) l Failure c' l' = rw (e, p) at d in
+        → o ≡ Failure m
+        → WholeWalk reading nodes rules words start l (record { outcome = Failure m; count = 0 }) l'
+    whole-failed {v} {l} {o} {c'} {l'} m p d e =
+        let f : Walked reading nodes rules words (start .mode) (form nodes (start .node)) from (0 ∷ 0 ∷ []) l (Failure m) c' l' = rw (e, p) at d in
         whole f 0 (omega arith)
 
     pub whole-read :
@@ -209,33 +216,41 @@ module _ (reading : Reading) (nodes rules words : List ℕ) (start : Start) wher
         let f : Walked reading nodes rules words (start .mode) (form nodes (start .node)) from (0 ∷ 0 ∷ []) l (Success u) c' l' = rw (e, p) at d in
         whole f (soFar c') (count-left (f .left))
 
-    -- What a walk answers, by its outcome and its count.
+    -- What a walk answers, by its outcome, its farthest place and its count.
     given-walk :
-        {n : ℕ} {o : clauses.Outcome Interval}
+        {n m : ℕ} {o : clauses.Outcome Interval}
         → o ≡ ourOutcome reading nodes rules words start
+        → m ≡ ourFarthest reading nodes rules words start
         → Counted reading nodes rules words start n
-        → given (record { outcome = o; count = n }) ≡ walkAnswer reading nodes rules words start
+        → given (record { ended = record { outcome = o; farthest = m }; count = n }) ≡ walkAnswer reading nodes rules words start
     unfolding walkAnswer
-    given-walk e c = rw (← answered, e, c) refl
+    given-walk e m c = rw (← answered, e, m, c) refl
 
     module _ {l : List ℕ} {w : Whole} {l' : List ℕ} (d : WholeWalk reading nodes rules words start l w l') where
       outcome : (o : Outcome) → w .outcome ≡ o → outcomeOf o ≡ ourOutcome reading nodes rules words start
       outcome o e = settled (outcomeOf o) (subst (λ (v : Outcome). EndsRun reading nodes rules words start (outcomeOf v)) e (d .run))
 
+      looked-to : (o : Outcome) → w .outcome ≡ o → farthestOf o ≡ ourFarthest reading nodes rules words start
+      looked-to o e = sym (ap farthestOf e) ∙ d .farthest
+
       -- A failure lists none.
-      none : w .outcome ≡ Failure → Counted reading nodes rules words start 0
-      none e =
-          let q = ap (λ (o : clauses.Outcome Interval). length (listed o (ourTrace reading nodes rules words start))) (outcome Failure e) in
+      none : (m : ℕ) → w .outcome ≡ Failure m → Counted reading nodes rules words start 0
+      none m e =
+          let q = ap (λ (o : clauses.Outcome Interval). length (listed o (ourTrace reading nodes rules words start))) (outcome (Failure m) e) in
           omega arith
 
-      pub walk-failure : w .outcome ≡ Failure → given (record { outcome = clauses.failure; count = 0 }) ≡ walkAnswer reading nodes rules words start
-      walk-failure e = given-walk (outcome Failure e) (none e)
+      pub walk-failure :
+          (m : ℕ)
+          → w .outcome ≡ Failure m
+          → given (record { ended = record { outcome = clauses.failure; farthest = m }; count = 0 }) ≡ walkAnswer reading nodes rules words start
+      walk-failure m e = given-walk (outcome (Failure m) e) (looked-to (Failure m) e) (none m e)
 
       pub walk-success :
           (u : State)
           → w .outcome ≡ Success u
-          → given (record { outcome = clauses.success (stateOf u); count = w .count }) ≡ walkAnswer reading nodes rules words start
-      walk-success u e = given-walk (outcome (Success u) e) (d .count)
+          → given (record { ended = record { outcome = clauses.success (stateOf u); farthest = u .farthest }; count = w .count })
+          ≡ walkAnswer reading nodes rules words start
+      walk-success u e = given-walk (outcome (Success u) e) (looked-to (Success u) e) (d .count)
 
     -- The lent words, of so many captures.
     module _ (lent : List ℕ) (short : length lent < 2 ^ 64) {n : ℕ} (e : Counted reading nodes rules words start n) where

@@ -1,6 +1,6 @@
 -- The walk, step by step, over plain values: what each call is asked, and what each way out has shown.
-use Prim.Native.Nat.{ℕ, zero, suc, _+_, _-_, _*_, _≤_, _<_}
-use mathlib.Core.Path.{_≡_, refl, sym, subst, _∙_}
+use Prim.Native.Nat.{ℕ, zero, suc, _+_, _-_, _*_, _≤_, _<_, max}
+use mathlib.Core.Path.{_≡_, refl, sym, ap, subst, _∙_}
 use mathlib.Core.Bool.{Bool, true, false, cond, true≢false}
 use mathlib.Core.List.{List, [], _∷_}
 use mathlib.Core.Logic.{⊎-elim}
@@ -33,7 +33,7 @@ use Rattle.well_formed.specs.InternalRank.{enters-align, rank}
 use Rattle.well_formed.proofs.RankLaws.{rank-falls, rank-some, rank-most, repeat-reads}
 use Rattle.clauses.specs.Clauses.{counts}
 use Rattle.clauses.specs.Trace as trace
-use Rattle.clauses.specs.Trace.{Trace, silent, _then_, dropped, captured}
+use Rattle.clauses.specs.Trace.{Trace, silent, tried, _then_, dropped, captured}
 use Rattle.theorems.proofs.GiveLaws as give
 use Rattle.clauses.specs.Evaluation.{reads}
 use Rattle.clauses.specs.Limits.{tokensOf}
@@ -43,12 +43,12 @@ use Rattle.theorems.proofs.ShownFacts.{shown, at-once}
 use Rattle.theorems.proofs.Existence.{outweighs}
 use Rattle.theorems.proofs.LimitLaws.{in-limits}
 use Rattle.readings.specs.Readings.{inForce}
-use Rattle.after_child.specs.AfterChild.{withInterval, leftState, alignedState}
+use Rattle.after_child.specs.AfterChild.{withInterval, leftState, alignedState, failedState}
 use Rattle.capture_list.specs.Put.{oneMore, putsBack, capturePut}
 use Rattle.capture_list.specs.InternalList.{aroundOf, soFar, Room, Lists, Leaves, lists, keeps}
 use Rattle.capture_list.proofs.ListLaws.{left-lists, left-keeps, lists-none, left-none, then-left, lists-back, room-less}
 use Rattle.capture_list.proofs.ListLaws.{room-then, keeps-rule, noted, lists-rule}
-use Rattle.walk.specs.InternalWalk.{stateOf, outcomeOf, childState, tokenOutcome, ReadyToken, weight, mostWeight, mostAmount, Checked}
+use Rattle.walk.specs.InternalWalk.{stateOf, outcomeOf, farthestOf, childState, tokenOutcome, ReadyToken, weight, mostWeight, mostAmount, Checked}
 use Rattle.walk.specs.InternalWalk.{Ready, firstNode, ReadyFirst, ReadyRule, Gives, Walked, WalkedFirst}
 use Rattle.walk.proofs.HighLaws.{ends-under}
 
@@ -165,17 +165,27 @@ module _ (reading : Reading) (nodes rules words : List ℕ) where
   made :
       {τ : ℕ} {f : Form} {s : State} {o : Outcome} {t : Trace}
       → trace.Gives ends reading nodes rules (tokensOf words) τ f (stateOf s) (outcomeOf o) t
+      → farthestOf o ≡ t .farthest (s .farthest)
       → Gives reading nodes rules words τ f s o t
-  made d = record { derived = d }
+  made d m = record { derived = d; looked = m }
+
+  -- How far one after the other looked, the second from where the first had.
+  both-looked :
+      {t u : Trace} {τ τ' : ℕ} {f g : Form} {s s' : State} {o o' : Outcome}
+      → Gives reading nodes rules words τ f s o t
+      → farthestOf o ≡ s' .farthest
+      → Gives reading nodes rules words τ' g s' o' u
+      → farthestOf o' ≡ u .farthest (t .farthest (s .farthest))
+  both-looked {u = u} d e f = f .looked ∙ ap (u .farthest) (sym e ∙ d .looked)
 
   -- An indent by the relation in force, by what its child gave: where it counts, and where it does not.
   indent-failed :
-      {t : Trace} {τ a r : ℕ} {s : State} (c : Bool)
+      {t : Trace} {τ a r m : ℕ} {s : State} (c : Bool)
       → counts reading (s .flag) ≡ c
-      → Gives reading nodes rules words τ (form nodes a) (withInterval s (innerEnds (cond c r equal) (s .interval))) Failure t
-      → Gives reading nodes rules words τ (table.indent a r) s Failure t
-  indent-failed true e d = made (give.indent-fails e (d .derived))
-  indent-failed false e d = made (give.indent-through e (d .derived))
+      → Gives reading nodes rules words τ (form nodes a) (withInterval s (innerEnds (cond c r equal) (s .interval))) (Failure m) t
+      → Gives reading nodes rules words τ (table.indent a r) s (Failure m) t
+  indent-failed true e d = made (give.indent-fails e (d .derived)) (d .looked)
+  indent-failed false e d = made (give.indent-through e (d .derived)) (d .looked)
 
   -- By equal the columns that a child left pass through, as they lie in those that it was given.
   through-read :
@@ -195,56 +205,56 @@ module _ (reading : Reading) (nodes rules words : List ℕ) where
       → counts reading (s .flag) ≡ c
       → Gives reading nodes rules words τ (form nodes a) (withInterval s (innerEnds (cond c r equal) (s .interval))) (Success u) t
       → Gives reading nodes rules words τ (table.indent a r) s (Success (leftState (cond c r equal) s u)) t
-  indent-read true n e d = made (give.indent e (d .derived))
+  indent-read true n e d = made (give.indent e (d .derived)) (d .looked)
   indent-read {t} {τ} {a} {r} {s} {u} false n e d =
-      let x : Gives reading nodes rules words τ (table.indent a r) s (Success u) t = made (give.indent-through e (d .derived)) in
+      let x : Gives reading nodes rules words τ (table.indent a r) s (Success u) t = made (give.indent-through e (d .derived)) (d .looked) in
       subst (λ (I : Interval). Gives reading nodes rules words τ (table.indent a r) s (Success (withInterval u I)) t) (through-read n d) x
 
   -- Where what is walked first failed, so do a terminal, a sequence, an indent and an align.
   failed :
-      {t : Trace} (count τ n a b r : ℕ) (s : State) (q : ℕ)
+      {t : Trace} {m : ℕ} (count τ n a b r : ℕ) (s : State) (q : ℕ)
       → Inside rules count (decode q a b r)
       → form nodes n ≡ decode q a b r
-      → Gives reading nodes rules words τ (form nodes (firstNode q n a)) (childState reading q r s) Failure t
+      → Gives reading nodes rules words τ (form nodes (firstNode q n a)) (childState reading q r s) (Failure m) t
       → (q ≡ 0 → ⊥)
       → (q ≡ 2 → ⊥)
       → (q ≡ 8 → ⊥)
       → (q ≡ 4 → ⊥)
       → (q ≡ 5 → ⊥)
       → (q ≡ 6 → ⊥)
-      → Gives reading nodes rules words τ (decode q a b r) s Failure t
+      → Gives reading nodes rules words τ (decode q a b r) s (Failure m) t
   unfolding childState
   failed count τ n a b r s zero i f d h0 h2 h8 h4 h5 h6 = absurd (h0 refl)
   failed count τ n a b r s (suc zero) i f d h0 h2 h8 h4 h5 h6 = rw f at d
   failed count τ n a b r s (suc (suc zero)) i f d h0 h2 h8 h4 h5 h6 = absurd (h2 refl)
-  failed count τ n a b r s (suc (suc (suc zero))) i f d h0 h2 h8 h4 h5 h6 = made (give.sequence-fails (d .derived))
+  failed count τ n a b r s (suc (suc (suc zero))) i f d h0 h2 h8 h4 h5 h6 = made (give.sequence-fails (d .derived)) (d .looked)
   failed count τ n a b r s (suc (suc (suc (suc zero)))) i f d h0 h2 h8 h4 h5 h6 = absurd (h4 refl)
   failed count τ n a b r s (suc (suc (suc (suc (suc zero))))) i f d h0 h2 h8 h4 h5 h6 = absurd (h5 refl)
   failed count τ n a b r s (suc (suc (suc (suc (suc (suc zero)))))) i f d h0 h2 h8 h4 h5 h6 = absurd (h6 refl)
   failed count τ n a b r s (suc (suc (suc (suc (suc (suc (suc zero))))))) i f d h0 h2 h8 h4 h5 h6 = indent-failed (counts reading (s .flag)) refl d
   failed count τ n a b r s (suc (suc (suc (suc (suc (suc (suc (suc zero)))))))) i f d h0 h2 h8 h4 h5 h6 = absurd (h8 refl)
-  failed count τ n a b r s (suc (suc (suc (suc (suc (suc (suc (suc (suc zero))))))))) i f d h0 h2 h8 h4 h5 h6 = made (give.align-fails (d .derived))
+  failed count τ n a b r s (suc (suc (suc (suc (suc (suc (suc (suc (suc zero))))))))) i f d h0 h2 h8 h4 h5 h6 = made (give.align-fails (d .derived)) (d .looked)
   failed count τ n a b r s (suc (suc (suc (suc (suc (suc (suc (suc (suc (suc q)))))))))) i f d h0 h2 h8 h4 h5 h6 = absurd i
 
   -- One token.
-  token-gives : (τ a : ℕ) (s : State) → Gives reading nodes rules words τ (table.terminal a) s (tokenOutcome words τ a s) silent
+  token-gives : (τ a : ℕ) (s : State) → Gives reading nodes rules words τ (table.terminal a) s (tokenOutcome words τ a s) (tried (s .place))
   unfolding tokenOutcome
-  token-gives τ a s = made (by-test (reads (tokensOf words) τ a (stateOf s)) refl)
+  token-gives τ a s = by-test (reads (tokensOf words) τ a (stateOf s)) refl
     where
       by-test :
           (t : Bool)
           → reads (tokensOf words) τ a (stateOf s) ≡ t
-          → trace.Gives ends reading nodes rules (tokensOf words) τ (table.terminal a) (stateOf s)
-          (outcomeOf
-          (cond (reads (tokensOf words) τ a (stateOf s))
+          → Gives reading nodes rules words τ (table.terminal a) s
+          (cond t
           (Success
           (record {
             place = s .place + 1;
+            farthest = max (s .farthest) (s .place);
             interval = afterToken (s .flag) τ (s .interval) (tokensOf words .column (s .place));
             flag = false;
-          })) Failure)) silent
-      by-test true e = rw e (let q = terminal-read reading nodes rules (tokensOf words) τ a (s .place) (s .interval) (s .flag) e in q)
-      by-test false e = rw e (terminal-unread reading nodes rules (tokensOf words) τ a (s .place) (s .interval) (s .flag) e)
+          })) (Failure (max (s .farthest) (s .place)))) (tried (s .place))
+      by-test true e = made (terminal-read reading nodes rules (tokensOf words) τ a (s .place) (s .interval) (s .flag) e) refl
+      by-test false e = made (terminal-unread reading nodes rules (tokensOf words) τ a (s .place) (s .interval) (s .flag) e) refl
 
 module _ (nodes rules words : List ℕ) where
   -- A call at node n and state s that weighs less than w.
@@ -414,7 +424,7 @@ module _ {reading : Reading} {nodes rules words : List ℕ} {τ₀ n₀ : ℕ} {
 
   -- Empty.
   pub out-empty : kind ≡ 0 → Whole (Success s) c l
-  out-empty p = out (Success s) 0 p (record { shown = silent; gives = made reading nodes rules words give.empty; left = left-none (h .room) (Success s) refl })
+  out-empty p = out (Success s) 0 p (record { shown = silent; gives = made reading nodes rules words give.empty refl; left = left-none (h .room) (Success s) refl })
 
   -- A rule, in a state i that is written anew.
   module _ (p : kind ≡ 2) {i : State} (e : i ≡ s) where
@@ -445,7 +455,7 @@ module _ {reading : Reading} {nodes rules words : List ℕ} {τ₀ n₀ : ℕ} {
   pub position-again : kind ≡ 8 → Walk reading nodes rules words τ₀ n₀ s₀ c₀ l₀ r a s c l
   position-again p =
       turn 8 p r a s (position-next p) (lists-none (h .room) {t = silent} refl)
-      (λ o c'' l'' d. record { shown = d .shown; gives = made reading nodes rules words (give.position (d .gives .derived)); left = d .left })
+      (λ o c'' l'' d. record { shown = d .shown; gives = made reading nodes rules words (give.position (d .gives .derived)) (d .gives .looked); left = d .left })
 
   -- The call for what is walked first.
   relation-in : r < relationCount
@@ -521,35 +531,44 @@ module _ {reading : Reading} {nodes rules words : List ℕ} {τ₀ n₀ : ℕ} {
     unfolding childState
     sixth p z = gave 6 p z
 
-    -- The child failed.
-    module _ (z : x ≡ Failure) where
-      choice-next : kind ≡ 4 → Lighter nodes rules words (weight nodes rules words n s) b s
-      choice-next p = entered nodes rules words n s (h .ready) b (inside 4 p .1) (enters 4 b p enters-other) s refl (omega arith) (h .ready .some)
+    -- The child failed, and v is the state behind it.
+    module _ (m : ℕ) (z : x ≡ Failure m) {v : State} (y : v ≡ failedState s m) where
+      choice-next : kind ≡ 4 → Lighter nodes rules words (weight nodes rules words n s) b v
+      choice-next p =
+          rw y (entered nodes rules words n s (h .ready) b (inside 4 p .1) (enters 4 b p enters-other) (failedState s m) refl (omega arith) (h .ready .some))
 
-      pub choice-less : kind ≡ 4 → weight nodes rules words b s < weight nodes rules words n s
+      pub choice-less : kind ≡ 4 → weight nodes rules words b v < weight nodes rules words n s
       choice-less p = choice-next p .less
 
-      pub choice-again : kind ≡ 4 → Walk reading nodes rules words τ₀ n₀ s₀ c₀ l₀ τ b s c' l'
+      pub choice-again : kind ≡ 4 → Walk reading nodes rules words τ₀ n₀ s₀ c₀ l₀ τ b v c' l'
       choice-again p =
           let k = fourth p z in
-          turn 4 p τ b s (choice-next p) (k .left)
+          turn 4 p τ b v (choice-next p) (k .left)
           (λ o c'' l'' f.
+          let g : Walked reading nodes rules words τ (form nodes b) (failedState s m) c' l' o c'' l'' = rw y at f in
           record {
-            shown = dropped (k .shown) then f .shown;
-            gives = made reading nodes rules words (give.choice-second (k .gives .derived) (f .gives .derived));
-            left = then-left (h .room) (k .left) (f .left);
+            shown = dropped (k .shown) then g .shown;
+            gives =
+                made reading nodes rules words (give.choice-second (k .gives .derived) (g .gives .derived))
+                (both-looked reading nodes rules words (k .gives) refl (g .gives));
+            left = then-left (h .room) (k .left) (g .left);
           })
 
-      pub out-not : kind ≡ 5 → Whole (Success s) c' l'
+      pub out-not : kind ≡ 5 → Whole (Success v) c' l'
       out-not p =
           let k = fifth p z in
-          out (Success s) 5 p (record { shown = dropped (k .shown); gives = made reading nodes rules words (give.not (k .gives .derived)); left = lists (k .left) })
+          rw y
+          (out (Success (failedState s m)) 5 p
+          (record { shown = dropped (k .shown); gives = made reading nodes rules words (give.not (k .gives .derived)) (k .gives .looked); left = lists (k .left) }))
 
-      pub out-repeat : kind ≡ 6 → Whole (Success s) c' l'
+      pub out-repeat : kind ≡ 6 → Whole (Success v) c' l'
       out-repeat p =
           let k = sixth p z in
-          out (Success s) 6 p (record { shown = dropped (k .shown); gives = made reading nodes rules words (give.repeat-ends (k .gives .derived)); left = lists (k .left) })
+          rw y
+          (out (Success (failedState s m)) 6 p
+          (record { shown = dropped (k .shown); gives = made reading nodes rules words (give.repeat-ends (k .gives .derived)) (k .gives .looked); left = lists (k .left) }))
 
+    module _ (m : ℕ) (z : x ≡ Failure m) where
       pub out-failed :
           (kind ≡ 0 → ⊥)
           → (kind ≡ 2 → ⊥)
@@ -557,10 +576,10 @@ module _ {reading : Reading} {nodes rules words : List ℕ} {τ₀ n₀ : ℕ} {
           → (kind ≡ 4 → ⊥)
           → (kind ≡ 5 → ⊥)
           → (kind ≡ 6 → ⊥)
-          → Whole Failure c' l'
+          → Whole (Failure m) c' l'
       out-failed h0 h2 h8 h4 h5 h6 =
           let k = gave kind refl z in
-          out Failure kind refl
+          out (Failure m) kind refl
           (record {
             shown = k .shown;
             gives =
@@ -598,20 +617,22 @@ module _ {reading : Reading} {nodes rules words : List ℕ} {τ₀ n₀ : ℕ} {
           (λ o c'' l'' f.
           record {
             shown = k .shown then f .shown;
-            gives = made reading nodes rules words (give.sequence (k .gives .derived) (f .gives .derived));
+            gives =
+                made reading nodes rules words (give.sequence (k .gives .derived) (f .gives .derived))
+                (both-looked reading nodes rules words (k .gives) refl (f .gives));
             left = then-left (h .room) (k .left) (f .left);
           })
 
       pub out-choice : kind ≡ 4 → Whole (Success u) c' l'
       out-choice p =
           let k = fourth p z in
-          out (Success u) 4 p (record { shown = k .shown; gives = made reading nodes rules words (give.choice-first (k .gives .derived)); left = lists (k .left) })
+          out (Success u) 4 p (record { shown = k .shown; gives = made reading nodes rules words (give.choice-first (k .gives .derived)) (k .gives .looked); left = lists (k .left) })
 
-      pub out-not-fails : kind ≡ 5 → Whole Failure c' l'
+      pub out-not-fails : kind ≡ 5 → Whole (Failure (u .farthest)) c' l'
       out-not-fails p =
           let k = fifth p z in
-          out Failure 5 p
-          (record { shown = dropped (k .shown); gives = made reading nodes rules words (give.not-fails (k .gives .derived)); left = keeps (k .left .keeps) })
+          out (Failure (u .farthest)) 5 p
+          (record { shown = dropped (k .shown); gives = made reading nodes rules words (give.not-fails (k .gives .derived)) (k .gives .looked); left = keeps (k .left .keeps) })
 
       -- A repeat: a round more is the next turn.
       repeat-next : kind ≡ 6 → Lighter nodes rules words (weight nodes rules words n s) n u
@@ -630,7 +651,9 @@ module _ {reading : Reading} {nodes rules words : List ℕ} {τ₀ n₀ : ℕ} {
           let g : Walked reading nodes rules words τ (table.repeat a) u c' l' o c'' l'' = rw (formed nodes n 6 p) at f in
           record {
             shown = k .shown then g .shown;
-            gives = made reading nodes rules words (give.repeat-again (k .gives .derived) (g .gives .derived));
+            gives =
+                made reading nodes rules words (give.repeat-again (k .gives .derived) (g .gives .derived))
+                (both-looked reading nodes rules words (k .gives) refl (g .gives));
             left = then-left (h .room) (k .left) (g .left);
           })
 
@@ -649,7 +672,7 @@ module _ {reading : Reading} {nodes rules words : List ℕ} {τ₀ n₀ : ℕ} {
 
       aligned : kind ≡ 9 → Here 9 (Success (alignedState reading s u)) c' l'
       unfolding childState
-      aligned p = let k = gave 9 p z in record { shown = k .shown; gives = made reading nodes rules words (give.align (k .gives .derived)); left = lists (k .left) }
+      aligned p = let k = gave 9 p z in record { shown = k .shown; gives = made reading nodes rules words (give.align (k .gives .derived)) (k .gives .looked); left = lists (k .left) }
 
       pub out-align :
           (kind ≡ 0 → ⊥)
@@ -729,12 +752,12 @@ module _ {reading : Reading} {nodes rules words : List ℕ} {n q r : ℕ} {s : S
           → o ≡ tokenOutcome words τ (aOf nodes n) i
           → WalkedFirst q reading nodes rules words τ (form nodes n) (childState reading q r s) c l o c l
       out-token {τ} p o e =
-          let g : Gives reading nodes rules words τ (form nodes n) i (tokenOutcome words τ (aOf nodes n) i) silent =
+          let g : Gives reading nodes rules words τ (form nodes n) i (tokenOutcome words τ (aOf nodes n) i) (tried (i .place)) =
           rw (formed nodes n 1 p) (token-gives reading nodes rules words τ (aOf nodes n) i) in
-          let x : Gives reading nodes rules words τ (form nodes n) i o silent = rw e g in
-          let z : Gives reading nodes rules words τ (form nodes n) (childState reading q r s) o silent =
-          subst (λ (u : State). Gives reading nodes rules words τ (form nodes n) u o silent) y x in
-          record { shown = silent; gives = z; left = first-none room silent (putsBack q o) refl }
+          let x : Gives reading nodes rules words τ (form nodes n) i o (tried (i .place)) = rw e g in
+          let z : Gives reading nodes rules words τ (form nodes n) (childState reading q r s) o (tried (i .place)) =
+          subst (λ (u : State). Gives reading nodes rules words τ (form nodes n) u o (tried (i .place))) y x in
+          record { shown = tried (i .place); gives = z; left = first-none room (tried (i .place)) (putsBack q o) refl }
 
       -- After the expression walk's outcome v, written anew, and the test whether its captures are put back.
       module _ {τ : ℕ} {v o : Outcome} {c' l' : List ℕ} (x : Walked reading nodes rules words τ (form nodes n) i c l v c' l') (w : o ≡ v) {t : Bool} (e : t ≡ putsBack q o) where
@@ -763,12 +786,12 @@ module _ {reading : Reading} {nodes rules words : List ℕ} (x : ℕ) {s : State
   abbrev Rule : Outcome → List ℕ → Type 0
   Rule v l'' = Walked reading nodes rules words τ (table.rule x) s c l v (aroundOf c ∷ soFar c' ∷ []) l''
 
-  pub rule-failed : o ≡ Failure → Rule Failure l'
-  rule-failed e =
-      let f : Inside-rule Failure = rw e at d in
+  pub rule-failed : (m : ℕ) → o ≡ Failure m → Rule (Failure m) l'
+  rule-failed m e =
+      let f : Inside-rule (Failure m) = rw e at d in
       record {
-        shown = captured x (s .place) (outcomeOf Failure) (f .shown);
-        gives = made reading nodes rules words (give.rule (f .gives .derived));
+        shown = captured x (s .place) (outcomeOf (Failure m)) (f .shown);
+        gives = made reading nodes rules words (give.rule (f .gives .derived)) (f .gives .looked);
         left = keeps (keeps-rule (weight nodes rules words (standsFor rules x) s) room more (left-keeps (f .left)));
       }
 
@@ -782,7 +805,7 @@ module _ {reading : Reading} {nodes rules words : List ℕ} (x : ℕ) {s : State
       let f : Inside-rule (Success u) = rw e at d in
       record {
         shown = captured x (s .place) (outcomeOf (Success u)) (f .shown);
-        gives = made reading nodes rules words (give.rule (f .gives .derived));
+        gives = made reading nodes rules words (give.rule (f .gives .derived)) (f .gives .looked);
         left =
             lists
             (lists-rule (weight nodes rules words (standsFor rules x) s) room more x (s .place) (stateOf u)

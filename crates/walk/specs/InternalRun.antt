@@ -12,11 +12,11 @@ use Rattle.well_formed.specs.Check.{checkAnswer}
 use Rattle.well_formed.specs.declared.Verdict.{Verdict}
 use Rattle.well_formed.specs.declared.Verdict.the-variants.{Passes, Refused, IllFormed}
 use Rattle.clauses.specs.Limits.{fails11, fails12, fails16}
-use Rattle.clauses.specs.RunAnswer.{EndsRun, runAnswer}
+use Rattle.clauses.specs.RunAnswer.{EndsRun, ourFarthest, runAnswer}
 use Rattle.clauses.specs.ListAnswer.{ourCaptures, captureWords}
 use Rattle.capture_list.specs.Put.{mostCount}
 use Rattle.walk.specs.declared.Whole.{Whole}
-use Rattle.walk.specs.InternalWalk.{outcomeOf}
+use Rattle.walk.specs.InternalWalk.{outcomeOf, farthestOf}
 
 -- None of 3, 4, 5, 7, 11, 12 and 16 applies.
 pub record Admitted (reading : Reading) (nodes rules words : List ℕ) (start : Start) : Type 0 where
@@ -35,11 +35,12 @@ Admits reading nodes rules words start (IllFormed node) = refusedAt 7 node ≡ r
 abbrev pub Counted : Reading → List ℕ → List ℕ → List ℕ → Start → ℕ → Type 0
 Counted reading nodes rules words start n = n ≡ min (length (ourCaptures reading nodes rules words start)) mostCount
 
--- What a walk from a start shows: an outcome that is derived, the number of its captures, and where there is room for all
--- of them their words at the list's beginning.
+-- What a walk from a start shows: an outcome that is derived, its farthest place, the number of its captures, and where there
+-- is room for all of them their words at the list's beginning.
 pub record WholeWalk (reading : Reading) (nodes rules words : List ℕ) (start : Start) (list : List ℕ) (w : Whole)
     (list' : List ℕ) : Type 0 where
   pub run : EndsRun reading nodes rules words start (outcomeOf (w .outcome))
+  pub farthest : farthestOf (w .outcome) ≡ ourFarthest reading nodes rules words start
   pub count : Counted reading nodes rules words start (w .count)
   pub long : length list' ≡ length list
   pub there :

@@ -1,5 +1,5 @@
 -- What the walk's functions tell one another. No public promise rests on this file.
-use Prim.Native.Nat.{ℕ, zero, suc, _+_, _-_, _*_, _%_, _≤_, _<_, _^_}
+use Prim.Native.Nat.{ℕ, zero, suc, _+_, _-_, _*_, _%_, _≤_, _<_, _^_, max}
 use mathlib.Core.Path.{_≡_}
 use mathlib.Core.Bool.{true, false, cond}
 use mathlib.Core.List.{List}
@@ -36,7 +36,12 @@ stateOf s = (s .place, s .interval, s .flag)
 
 abbrev pub outcomeOf : Outcome → clauses.Outcome Interval
 outcomeOf (Success s) = clauses.success (stateOf s)
-outcomeOf Failure = clauses.failure
+outcomeOf (Failure farthest) = clauses.failure
+
+-- The farthest place that an outcome has.
+abbrev pub farthestOf : Outcome → ℕ
+farthestOf (Success s) = s .farthest
+farthestOf (Failure farthest) = farthest
 
 -- The state in which the first child of a node of a kind is walked, by a reading.
 unfoldable pub childState : Reading → ℕ → ℕ → State → State
@@ -60,15 +65,18 @@ tokenOutcome words τ a s =
     (Success
     (record {
       place = s .place + 1;
+      farthest = max (s .farthest) (s .place);
       interval = afterToken (s .flag) τ (s .interval) (tokensOf words .column (s .place));
       flag = false;
-    })) Failure
+    })) (Failure (max (s .farthest) (s .place)))
 
--- The same for a token that is there, of that terminal: mode, state, column.
-abbrev pub columnOutcome : ℕ → State → ℕ → Outcome
-columnOutcome τ s i =
+-- The same for a token that is there, of that terminal: mode, state, farthest place, column.
+abbrev pub columnOutcome : ℕ → State → ℕ → ℕ → Outcome
+columnOutcome τ s farthest i =
     cond (fits (s .flag) τ (s .interval) i)
-    (Success (record { place = s .place + 1; interval = afterToken (s .flag) τ (s .interval) i; flag = false })) Failure
+    (Success
+    (record { place = s .place + 1; farthest = farthest; interval = afterToken (s .flag) τ (s .interval) i; flag = false }))
+    (Failure farthest)
 
 pub record ReadyToken (words : List ℕ) : Type 0 where
   pub whole : length words % 4 ≡ 0
@@ -120,10 +128,11 @@ pub record ReadyRule (nodes rules words : List ℕ) (x : ℕ) (s : State) : Type
   pub there : x < length rules
   pub ready : Ready nodes rules words (standsFor rules x) s
 
--- The clauses over two ends give the outcome, and a trace with it.
+-- The clauses over two ends give the outcome, and a trace with it, which leads to the outcome's farthest place.
 pub record Gives (reading : Reading) (nodes rules words : List ℕ) (τ : ℕ) (f : Form) (s : State) (o : Outcome)
     (t : Trace) : Type 0 where
   pub derived : trace.Gives ends reading nodes rules (tokensOf words) τ f (stateOf s) (outcomeOf o) t
+  pub looked : farthestOf o ≡ t .farthest (s .farthest)
 
 -- What the expression walk and the rule walk show: an outcome with its trace, whose captures are in the list.
 pub record Walked (reading : Reading) (nodes rules words : List ℕ) (τ : ℕ) (f : Form) (s : State) (counts list : List ℕ)

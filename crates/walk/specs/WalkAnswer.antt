@@ -8,7 +8,7 @@ use Rattle.table.specs.Answer.{Answer, given, refused, refusedAt, andThen, afte
 use Rattle.columns.specs.declared.Start.{Start}
 use Rattle.columns.specs.declared.Reading.{Reading}
 use Rattle.clauses.specs.Clauses.{success, failure}
-use Rattle.clauses.specs.RunAnswer.{ourOutcome, runAnswer}
+use Rattle.clauses.specs.RunAnswer.{ourEnd, runAnswer}
 use Rattle.clauses.specs.ListAnswer.{ourCaptures, Listing, listWords}
 use Rattle.capture_list.specs.Put.{mostCount}
 use Rattle.walk.specs.declared.Walk.{Walk}
@@ -16,18 +16,23 @@ use Rattle.walk.specs.declared.Walk.the-variants.{Success, Failure, Refu
 
 -- The number and the values for each case of `Walk`.
 abbrev pub numbers : Walk → Answer Listing
-numbers (Success s n) = given (record { outcome = success (s .place, s .interval, s .flag); count = n })
-numbers Failure = given (record { outcome = failure; count = 0 })
+numbers (Success s n) =
+    given
+    (record {
+      ended = record { outcome = success (s .place, s .interval, s .flag); farthest = s .farthest };
+      count = n;
+    })
+numbers (Failure farthest) = given (record { ended = record { outcome = failure; farthest = farthest }; count = 0 })
 numbers (Refused number) = refused number
 numbers (IllFormed node) = refusedAt 7 node
 
--- The numbers of a run, then its outcome and the number of its captures, counted as far as the count goes.
+-- The numbers of a run, then what it ends in and the number of its captures, counted as far as the count goes.
 unfoldable pub walkAnswer : Reading → List ℕ → List ℕ → List ℕ → Start → Answer Listing
 walkAnswer reading nodes rules words start =
     andThen (runAnswer reading nodes rules words start)
     (given
     (record {
-      outcome = ourOutcome reading nodes rules words start;
+      ended = ourEnd reading nodes rules words start;
       count = min (length (ourCaptures reading nodes rules words start)) mostCount;
     }))
 

@@ -4,12 +4,13 @@
 //
 // The reading is a flag, set for 2014: an indent that does not count by it is walked as one by equal. Captures go into a lent
 // list. counts[0] is the number of captures around, counts[1] the number so far: a failure may leave it too high, and the walk
-// of a first child puts it back.
+// of a first child puts it back. The farthest place is never put back.
 use crate::states::anew;
 use crate::states::entered;
 use crate::states::fresh;
 use crate::states::token;
 use after_child::aligned;
+use after_child::failed;
 use after_child::left;
 use capture_list::more;
 use capture_list::put;
@@ -81,19 +82,21 @@ pub(crate) fn expression(
                     s,
                 );
                 match x {
-                    Outcome::Failure => {
+                    Outcome::Failure(farthest) => {
+                        let back = failed(s, farthest);
                         match kind {
                             kinds::CHOICE => {
+                                s = back;
                                 node = b;
                             }
                             kinds::NOT => {
-                                return Outcome::Success(s);
+                                return Outcome::Success(back);
                             }
                             kinds::REPEAT => {
-                                return Outcome::Success(s);
+                                return Outcome::Success(back);
                             }
                             _ => {
-                                return Outcome::Failure;
+                                return Outcome::Failure(farthest);
                             }
                         }
                     }
@@ -110,7 +113,7 @@ pub(crate) fn expression(
                                 return Outcome::Success(u);
                             }
                             kinds::NOT => {
-                                return Outcome::Failure; // a not of what succeeds
+                                return Outcome::Failure(u.farthest); // a not of what succeeds
                             }
                             kinds::REPEAT => { // a round was read
                                 s = u; // the next round
@@ -224,7 +227,7 @@ fn rule(
     let count = counts[1];
     *counts = [around, count];
     match o {
-        Outcome::Failure => Outcome::Failure,
+        Outcome::Failure(farthest) => Outcome::Failure(farthest),
         Outcome::Success(u) => {
             let c = Capture {
                 rule: x as u32,

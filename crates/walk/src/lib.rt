@@ -19,11 +19,11 @@ ghost use mathlib.Core.Path.{_≡_};
 ghost use Rattle.walk.specs.WalkAnswer.{numbers, walkAnswer, walkAfter};
 ghost use Rattle.walk.specs.InternalRun.{Admitted, Admits, Counted, WholeWalk};
 
-// What a walk gives: success with the state and the number of captures, failure, the number of the first check that fails, or
-// the lowest node that is not well formed (7).
+// What a walk gives: success with the state and the number of captures, failure with the farthest place, the number of the
+// first check that fails, or the lowest node that is not well formed (7).
 pub enum Walk {
     Success(State, usize),
-    Failure,
+    Failure(u32),
     Refused(u8),
     IllFormed(u16),
 }
@@ -68,7 +68,7 @@ pub fn from_start(
     write_list(nodes, rules, tokens, start, reading, count, list);
     let x = counted.outcome;
     match x {
-        Outcome::Failure => Walk::Failure,
+        Outcome::Failure(farthest) => Walk::Failure(farthest),
         Outcome::Success(u) => Walk::Success(u, count),
     }
 }
@@ -145,6 +145,7 @@ fn walk_once(
     let interval = start.interval;
     let s = State {
         place: start.place,
+        farthest: start.place,
         interval,
         flag: start.flag,
     };
@@ -161,8 +162,8 @@ fn walk_once(
         s,
     );
     match x {
-        Outcome::Failure => Whole {
-            outcome: Outcome::Failure,
+        Outcome::Failure(farthest) => Whole {
+            outcome: Outcome::Failure(farthest),
             count: 0,
         },
         Outcome::Success(u) => Whole {

@@ -10,7 +10,7 @@ use readings::in_force;
 use table::kinds;
 use table::relations;
 ghost use mathlib.Core.Path.{_≡_};
-ghost use Prim.Native.Nat.{_+_, _<_, _^_};
+ghost use Prim.Native.Nat.{_+_, _<_, _^_, max};
 ghost use Rattle.columns.specs.Intervals.{plus as plusEnd, innerEnds};
 ghost use Rattle.columns.specs.InternalHighest.{finite, highest, rise};
 ghost use Rattle.readings.specs.Readings.{readingOf, inForce};
@@ -28,12 +28,14 @@ pub(crate) fn entered(by_2014: bool, kind: u16, r: u16, s: State) -> State
             let narrowed = inner(q, c);
             State {
                 place: s.place,
+                farthest: s.farthest,
                 interval: narrowed,
                 flag: s.flag,
             }
         }
         kinds::ALIGN => State {
             place: s.place,
+            farthest: s.farthest,
             interval: c,
             flag: true,
         },
@@ -100,6 +102,7 @@ pub(crate) fn anew(s: State) -> State
     match upper {
         Upper::At(h) => State {
             place: s.place,
+            farthest: s.farthest,
             interval: Interval {
                 lower: c.lower,
                 upper: Upper::At(h),
@@ -108,6 +111,7 @@ pub(crate) fn anew(s: State) -> State
         },
         Upper::Endless => State {
             place: s.place,
+            farthest: s.farthest,
             interval: Interval {
                 lower: c.lower,
                 upper: Upper::Endless,
@@ -122,7 +126,7 @@ pub(crate) fn fresh(x: Outcome) -> Outcome
     ensures { λ y. ⌜ y ≡ x ⌝ }
 {
     match x {
-        Outcome::Failure => Outcome::Failure,
+        Outcome::Failure(farthest) => Outcome::Failure(farthest),
         Outcome::Success(u) => Outcome::Success(anew(u)),
     }
 }
@@ -132,29 +136,38 @@ pub(crate) fn token(tokens: &[u32], terminal: u16, mode: u16, s: State) -> Outco
     requires { ⌜ ReadyToken (now tokens) ⌝ }
     ensures { λ r. ⌜ r ≡ tokenOutcome (now (tokens .entry)) mode terminal s ⌝ }
 {
+    let farthest = farther(s.farthest, s.place);
     let at = (s.place as usize) * 4;
     if tokens.len() <= at {
-        return Outcome::Failure;
+        return Outcome::Failure(farthest); // past the last token
     }
     if tokens[at] != terminal as u32 {
-        return Outcome::Failure;
+        return Outcome::Failure(farthest);
     }
-    at_column(mode, s, tokens[at + 1])
+    at_column(mode, s, farthest, tokens[at + 1])
 }
 
-// That terminal at a column.
-fn at_column(mode: u16, s: State, i: u32) -> Outcome
+// The larger of two places.
+fn farther(m: u32, w: u32) -> u32
+    ensures { λ r. ⌜ r ≡ max m w ⌝ }
+{
+    if m < w { w } else { m }
+}
+
+// That terminal at a column, tried as far as a place.
+fn at_column(mode: u16, s: State, farthest: u32, i: u32) -> Outcome
     requires { ⌜ s .place + 1 < 2 ^ 32 ⌝ }
-    ensures { λ r. ⌜ r ≡ columnOutcome mode s i ⌝ }
+    ensures { λ r. ⌜ r ≡ columnOutcome mode s farthest i ⌝ }
 {
     if fits(s.flag, mode, s.interval, i) {
         let new = after_token(s.flag, mode, s.interval, i);
         Outcome::Success(State {
             place: s.place + 1,
+            farthest,
             interval: new,
             flag: false,
         })
     } else {
-        Outcome::Failure
+        Outcome::Failure(farthest)
     }
 }

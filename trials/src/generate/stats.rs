@@ -37,12 +37,13 @@ impl Stats {
         }
         let class = match ran {
             None => "out of steps".to_string(),
-            Some(Ran::Failure) => {
+            Some(Ran::Failure { farthest }) => {
                 let (_, seen) = traced(input);
                 if seen.past {
                     also("failure, an upper end past 65,535");
                 }
                 self.note_flags(input, "failure", &seen);
+                self.note_farthest(input, None, *farthest);
                 "failure".to_string()
             }
             Some(Ran::IllFormed(_)) => "refused 7".to_string(),
@@ -52,8 +53,14 @@ impl Stats {
                 }
                 format!("refused {number}")
             }
-            Some(Ran::Success { read, flag, .. }) => {
+            Some(Ran::Success {
+                read,
+                flag,
+                farthest,
+                ..
+            }) => {
                 self.note_success(input, *read);
+                self.note_farthest(input, Some(*read), *farthest);
                 if *flag && input.reading == By2014 {
                     self.note(part, "success, the flag set at the end".to_string());
                 }
@@ -74,6 +81,25 @@ impl Stats {
         ] {
             if holds {
                 self.note(run_part(By2014), format!("{class}, {what}"));
+            }
+        }
+    }
+
+    /// Notes how far a run looked, with so many tokens read, `None` for a failure.
+    fn note_farthest(&mut self, input: &RunInput, read: Option<u32>, farthest: u32) {
+        let (class, past) = match read {
+            Some(_) => ("success", "past its end"),
+            None => ("failure", "past the start"),
+        };
+        let count = input.tokens.len() / 4;
+        let end = input.start.place + read.unwrap_or(0);
+        for (holds, place) in [
+            (farthest as usize == count, "at the token count"),
+            (farthest > end, past),
+        ] {
+            if holds {
+                let part = run_part(input.reading);
+                self.note(part, format!("{class}, the farthest place {place}"));
             }
         }
     }
@@ -100,15 +126,16 @@ impl Stats {
                 self.note(part, "the same".to_string());
                 return;
             }
-            (Ran::Success { .. }, Ran::Failure) => "success by 2014 alone",
-            (Ran::Failure, Ran::Success { .. }) => "success by 2017 alone",
+            (Ran::Success { .. }, Ran::Failure { .. }) => "success by 2014 alone",
+            (Ran::Failure { .. }, Ran::Success { .. }) => "success by 2017 alone",
             (Ran::Success { read, .. }, Ran::Success { read: other, .. }) if read != other => {
                 "in the tokens read"
             }
-            (Ran::Success { flag, .. }, Ran::Success { flag: other, .. }) if flag == other => {
-                "in the ends alone"
+            (Ran::Success { flag, .. }, Ran::Success { flag: other, .. }) if flag != other => {
+                "in the flag"
             }
-            _ => "in the flag",
+            _ if ends(by_2014) != ends(by_2017) => "in the ends alone",
+            _ => "in the farthest place alone",
         };
         self.note(part, "differ".to_string());
         self.note(part, format!("differ, {class}"));
@@ -138,7 +165,7 @@ impl Stats {
         let part = list_part(reading);
         *self.totals.entry(part).or_default() += 1;
         let class = match listed {
-            Listed::Failure => "failure".to_string(),
+            Listed::Failure { .. } => "failure".to_string(),
             Listed::IllFormed(_) => "refused 7".to_string(),
             Listed::Refused(number) => format!("refused {number}"),
             Listed::Success { captures: 0, .. } => "no capture".to_string(),
@@ -390,6 +417,14 @@ fn run_part(reading: Reading) -> &'static str {
     match reading {
         By2017 => "run",
         By2014 => "run by 2014",
+    }
+}
+
+/// Both ends of a success.
+fn ends(ran: &Ran) -> Option<(u32, Option<u32>)> {
+    match *ran {
+        Ran::Success { lower, upper, .. } => Some((lower, upper)),
+        _ => None,
     }
 }
 

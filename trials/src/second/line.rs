@@ -56,7 +56,8 @@ fn parts(file: &[u8], report: &[u8]) -> Result<(FileRead, Vec<u32>), Ran> {
     Ok((grammar, tokens))
 }
 
-/// The line of an answer: "tokens read, lower end, upper end (`inf` if none), flag".
+/// The line of an answer: "tokens read, lower end, upper end (`inf` if none), flag", and
+/// the farthest place "as one more number at the end of a success or failure line".
 pub fn line_of(ran: &Ran) -> Vec<u8> {
     let line = match ran {
         Ran::Success {
@@ -64,12 +65,13 @@ pub fn line_of(ran: &Ran) -> Vec<u8> {
             lower,
             upper,
             flag,
+            farthest,
         } => {
             let upper = upper.map_or("inf".to_string(), |upper| upper.to_string());
             let flag = if *flag { "set" } else { "clear" };
-            format!("success {read} {lower} {upper} {flag}\n")
+            format!("success {read} {lower} {upper} {flag} {farthest}\n")
         }
-        Ran::Failure => "failure\n".to_string(),
+        Ran::Failure { farthest } => format!("failure {farthest}\n"),
         Ran::Refused(number) => format!("refused {number}\n"),
         Ran::IllFormed(node) => format!("refused 7 {node}\n"),
     };

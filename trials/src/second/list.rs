@@ -3,7 +3,8 @@
 use super::run::{run_metered, Lister, Meter, Steps, Unmetered};
 use super::{Ran, Reading, Start};
 
-/// What a run that lists answers.
+/// What a run that lists answers. Its farthest place is that of the run, so trials
+/// that leave no capture count too.
 #[derive(Debug, Clone, Copy, PartialEq, Eq)]
 pub enum Listed {
     Success {
@@ -12,10 +13,14 @@ pub enum Listed {
         lower: u32,
         upper: Option<u32>,
         flag: bool,
+        /// How far the reader looked, as in `Ran`.
+        farthest: u32,
         /// The number of captures listed.
         captures: u32,
     },
-    Failure,
+    Failure {
+        farthest: u32,
+    },
     /// 3, 4, 5, 11, 12, 13 or 16; 16 comes before 13.
     Refused(u8),
     /// 7, with the lowest node that is not well formed.
@@ -77,14 +82,16 @@ fn list_metered<M: Meter>(
             lower,
             upper,
             flag,
+            farthest,
         } => Listed::Success {
             read,
             lower,
             upper,
             flag,
+            farthest,
             captures: u32::try_from(found.count).expect("a lent slice below 64 GiB"),
         },
-        Ran::Failure => Listed::Failure,
+        Ran::Failure { farthest } => Listed::Failure { farthest },
         Ran::Refused(number) => return Ok(Listed::Refused(number)),
         Ran::IllFormed(node) => return Ok(Listed::IllFormed(node)),
     };

@@ -1,14 +1,17 @@
 //! The indentation grammar reader, written from document 01, which orders the work,
-//! Notes 1 to 5 of 02, and the papers alone. 001 below is Nestra 2017, 000 is Adams
-//! and Ağacan 2014.
+//! Notes 1 to 7 of 02, of which Note 6 asks nothing here, and the papers alone. 001
+//! below is Nestra 2017, 000 is Adams and Ağacan 2014.
 //!
 //! Four parts: the file reader (`read`), the scanner (`scan`, `next_token`), the
 //! check (`check`) and the interpreter (`run`); `line` is the program over them.
 //! `list` is the run that also lists its captures, `shown` and `text` give the text
 //! shown for a capture. `write` writes the grammar file of tables and a start. `sets`
-//! holds the same clauses over sets of natural numbers. Every run names its `Reading`.
+//! holds the same clauses over sets of natural numbers. Every run names its `Reading`,
+//! and every success or failure tells how far the reader looked.
 
 mod check;
+#[cfg(test)]
+mod farthest;
 mod file;
 mod line;
 mod list;

@@ -8,30 +8,30 @@ use super::{
 };
 use Reading::{By2014, By2017};
 
-type Node = [u16; 4];
+pub(super) type Node = [u16; 4];
 
-const EMPTY: Node = [kind::EMPTY, 0, 0, 0];
+pub(super) const EMPTY: Node = [kind::EMPTY, 0, 0, 0];
 /// The terminals a and b.
-const A: Node = [kind::TERMINAL, 0, 0, 0];
-const B: Node = [kind::TERMINAL, 1, 0, 0];
+pub(super) const A: Node = [kind::TERMINAL, 0, 0, 0];
+pub(super) const B: Node = [kind::TERMINAL, 1, 0, 0];
 
-fn rule(rule: u16) -> Node {
+pub(super) fn rule(rule: u16) -> Node {
     [kind::RULE, rule, 0, 0]
 }
 
-fn sequence(a: u16, b: u16) -> Node {
+pub(super) fn sequence(a: u16, b: u16) -> Node {
     [kind::SEQUENCE, a, b, 0]
 }
 
-fn choice(a: u16, b: u16) -> Node {
+pub(super) fn choice(a: u16, b: u16) -> Node {
     [kind::CHOICE, a, b, 0]
 }
 
-fn not(a: u16) -> Node {
+pub(super) fn not(a: u16) -> Node {
     [kind::NOT, a, 0, 0]
 }
 
-fn repeat(a: u16) -> Node {
+pub(super) fn repeat(a: u16) -> Node {
     [kind::REPEAT, a, 0, 0]
 }
 
@@ -39,7 +39,7 @@ fn indent(a: u16, relation: u16) -> Node {
     [kind::INDENT, a, 0, relation]
 }
 
-fn greater(a: u16) -> Node {
+pub(super) fn greater(a: u16) -> Node {
     indent(a, relation::GREATER)
 }
 
@@ -47,25 +47,25 @@ fn step(a: u16, amount: u16) -> Node {
     indent(a, relation::ANY + amount)
 }
 
-fn position(a: u16, relation: u16) -> Node {
+pub(super) fn position(a: u16, relation: u16) -> Node {
     [kind::POSITION, a, 0, relation]
 }
 
-fn align(a: u16) -> Node {
+pub(super) fn align(a: u16) -> Node {
     [kind::ALIGN, a, 0, 0]
 }
 
 /// The tokens a and b at a column.
-fn a(column: u32) -> [u32; 4] {
+pub(super) fn a(column: u32) -> [u32; 4] {
     [0, column, 0, 0]
 }
 
-fn b(column: u32) -> [u32; 4] {
+pub(super) fn b(column: u32) -> [u32; 4] {
     [1, column, 0, 0]
 }
 
 /// A start in mode equal from token 0; the node is put in by `both`.
-fn from(lower: u32, upper: impl Into<Option<u32>>, flag: bool) -> Start {
+pub(super) fn from(lower: u32, upper: impl Into<Option<u32>>, flag: bool) -> Start {
     Start {
         lower,
         upper: upper.into(),
@@ -74,28 +74,36 @@ fn from(lower: u32, upper: impl Into<Option<u32>>, flag: bool) -> Start {
     }
 }
 
-fn clear(read: u32, lower: u32, upper: impl Into<Option<u32>>) -> Ran {
+/// A success with a clear flag, the farthest place last, as in the program's line.
+pub(super) fn clear(read: u32, lower: u32, upper: impl Into<Option<u32>>, farthest: u32) -> Ran {
     Ran::Success {
         read,
         lower,
         upper: upper.into(),
         flag: false,
+        farthest,
     }
 }
 
-fn set(read: u32, lower: u32, upper: impl Into<Option<u32>>) -> Ran {
+/// A success with a set flag.
+pub(super) fn set(read: u32, lower: u32, upper: impl Into<Option<u32>>, farthest: u32) -> Ran {
     Ran::Success {
         read,
         lower,
         upper: upper.into(),
         flag: true,
+        farthest,
     }
+}
+
+pub(super) fn fails(farthest: u32) -> Ran {
+    Ran::Failure { farthest }
 }
 
 /// The one answer of all the calls that run: over ends and over sets, listing captures
 /// and not, within steps and without. With it the captures, of which there are at most
 /// 64.
-fn answer(
+pub(super) fn answer(
     nodes: &[u16],
     rules: &[u16],
     tokens: &[u32],
@@ -118,6 +126,7 @@ fn answer(
             lower,
             upper,
             flag,
+            farthest,
             captures,
         } => {
             let ran = Ran::Success {
@@ -125,16 +134,17 @@ fn answer(
                 lower,
                 upper,
                 flag,
+                farthest,
             };
             (ran, captures as usize)
         }
-        Listed::Failure => (Ran::Failure, 0),
+        Listed::Failure { farthest } => (fails(farthest), 0),
         Listed::Refused(number) => (Ran::Refused(number), 0),
         Listed::IllFormed(node) => (Ran::IllFormed(node), 0),
     };
     assert_eq!(alike, ran);
     match ran {
-        Ran::Success { .. } | Ran::Failure => {
+        Ran::Success { .. } | Ran::Failure { .. } => {
             assert_eq!(words, again);
             assert!(words[4 * captures..].iter().all(|&word| word == 0));
         }
@@ -155,7 +165,12 @@ fn answer(
 /// The answer over sets as the one over ends: a set that is reached is an interval.
 fn ends(over_sets: &SetRan) -> Ran {
     match over_sets {
-        SetRan::Success { read, set, flag } => {
+        SetRan::Success {
+            read,
+            set,
+            flag,
+            farthest,
+        } => {
             let runs = set.runs();
             let [(lower, upper)] = runs[..] else {
                 panic!("{set:?} is no interval");
@@ -165,16 +180,17 @@ fn ends(over_sets: &SetRan) -> Ran {
                 lower: lower as u32,
                 upper: upper.map(|upper| upper as u32),
                 flag: *flag,
+                farthest: *farthest,
             }
         }
-        SetRan::Failure => Ran::Failure,
+        SetRan::Failure { farthest } => fails(*farthest),
         SetRan::Refused(number) => Ran::Refused(*number),
         SetRan::IllFormed(node) => Ran::IllFormed(*node),
     }
 }
 
 /// The last node's answers under both readings.
-fn both_with(
+pub(super) fn both_with(
     nodes: &[Node],
     rules: &[u16],
     tokens: &[[u32; 4]],
@@ -194,7 +210,7 @@ fn both_with(
 }
 
 /// As `both_with`, without rules.
-fn both(nodes: &[Node], tokens: &[[u32; 4]], start: &Start, by_2014: Ran, by_2017: Ran) {
+pub(super) fn both(nodes: &[Node], tokens: &[[u32; 4]], start: &Start, by_2014: Ran, by_2017: Ran) {
     both_with(nodes, &[], tokens, start, by_2014, by_2017);
 }
 
@@ -204,13 +220,13 @@ fn both(nodes: &[Node], tokens: &[[u32; 4]], start: &Start, by_2014: Ran, by_201
 fn note_5() {
     let nodes = [EMPTY, align(0), A, greater(2), sequence(1, 3)];
     let all = from(0, None, false);
-    both(&nodes, &[a(0)], &all, clear(1, 0, 0), Ran::Failure);
-    both(&nodes, &[a(5)], &all, clear(1, 5, 5), clear(1, 0, 4));
+    both(&nodes, &[a(0)], &all, clear(1, 0, 0, 0), fails(0));
+    both(&nodes, &[a(5)], &all, clear(1, 5, 5, 0), clear(1, 0, 4, 0));
     // From 1 to 3: by 2014 a must lie in it, by 2017 behind 1.
     let few = from(1, 3, false);
-    both(&nodes, &[a(1)], &few, clear(1, 1, 1), Ran::Failure);
-    both(&nodes, &[a(2)], &few, clear(1, 2, 2), clear(1, 1, 1));
-    both(&nodes, &[a(4)], &few, Ran::Failure, clear(1, 1, 3));
+    both(&nodes, &[a(1)], &few, clear(1, 1, 1, 0), fails(0));
+    both(&nodes, &[a(2)], &few, clear(1, 2, 2, 0), clear(1, 1, 1, 0));
+    both(&nodes, &[a(4)], &few, fails(0), clear(1, 1, 3, 0));
 }
 
 /// 001, 2.4, second difference: "the alignment flag is never changed at the end", which
@@ -222,18 +238,24 @@ fn align_that_read_nothing() {
         &nodes,
         &[],
         &from(2, 7, false),
-        set(0, 2, 7),
-        clear(0, 2, 7),
+        set(0, 2, 7, 0),
+        clear(0, 2, 7, 0),
     );
-    both(&nodes, &[], &from(2, 7, true), set(0, 2, 7), set(0, 2, 7));
+    both(
+        &nodes,
+        &[],
+        &from(2, 7, true),
+        set(0, 2, 7, 0),
+        set(0, 2, 7, 0),
+    );
     // One around the other, and one after the other.
     let nodes = [EMPTY, align(0), align(1), sequence(2, 1)];
     both(
         &nodes,
         &[],
         &from(2, 7, false),
-        set(0, 2, 7),
-        clear(0, 2, 7),
+        set(0, 2, 7, 0),
+        clear(0, 2, 7, 0),
     );
     // A token clears it inside.
     let nodes = [A, align(0)];
@@ -241,16 +263,10 @@ fn align_that_read_nothing() {
         &nodes,
         &[a(3)],
         &from(2, 7, false),
-        clear(1, 3, 3),
-        clear(1, 3, 3),
+        clear(1, 3, 3, 0),
+        clear(1, 3, 3, 0),
     );
-    both(
-        &nodes,
-        &[a(8)],
-        &from(2, 7, false),
-        Ran::Failure,
-        Ran::Failure,
-    );
+    both(&nodes, &[a(8)], &from(2, 7, false), fails(0), fails(0));
 }
 
 /// The same: the flag "would unexpectedly remain true during parsing of the next
@@ -267,11 +283,17 @@ fn align_of_an_option() {
         sequence(3, 5),
     ];
     let two = from(2, 2, false);
-    both(&nodes, &[b(2)], &two, clear(1, 2, 2), Ran::Failure);
-    both(&nodes, &[b(3)], &two, Ran::Failure, clear(1, 2, 2));
+    both(&nodes, &[b(2)], &two, clear(1, 2, 2, 0), fails(0));
+    both(&nodes, &[b(3)], &two, fails(0), clear(1, 2, 2, 0));
     // If a was read the readings agree.
-    both(&nodes, &[a(2), b(3)], &two, clear(2, 2, 2), clear(2, 2, 2));
-    both(&nodes, &[a(2), b(2)], &two, Ran::Failure, Ran::Failure);
+    both(
+        &nodes,
+        &[a(2), b(3)],
+        &two,
+        clear(2, 2, 2, 1),
+        clear(2, 2, 2, 1),
+    );
+    both(&nodes, &[a(2), b(2)], &two, fails(1), fails(1));
 }
 
 /// 001, 2.4, third difference: "Indentation operators occurring inside this expression
@@ -280,13 +302,13 @@ fn align_of_an_option() {
 fn indent_in_an_align() {
     let nodes = [A, greater(0), align(1)];
     let one = from(1, 1, false);
-    both(&nodes, &[a(4)], &one, Ran::Failure, clear(1, 1, 1));
-    both(&nodes, &[a(1)], &one, clear(1, 1, 1), Ran::Failure);
+    both(&nodes, &[a(4)], &one, fails(0), clear(1, 1, 1, 0));
+    both(&nodes, &[a(1)], &one, clear(1, 1, 1, 0), fails(0));
     // Two of them: by 2017 a stands two columns in.
     let nodes = [A, greater(0), greater(1), align(2)];
-    both(&nodes, &[a(1)], &one, clear(1, 1, 1), Ran::Failure);
-    both(&nodes, &[a(2)], &one, Ran::Failure, Ran::Failure);
-    both(&nodes, &[a(3)], &one, Ran::Failure, clear(1, 1, 1));
+    both(&nodes, &[a(1)], &one, clear(1, 1, 1, 0), fails(0));
+    both(&nodes, &[a(2)], &one, fails(0), fails(0));
+    both(&nodes, &[a(3)], &one, fails(0), clear(1, 1, 1, 0));
 }
 
 /// The same: "the indentations cancelled because of an alignment do not apply even to
@@ -295,17 +317,23 @@ fn indent_in_an_align() {
 fn tokens_after_the_aligned_one() {
     let nodes = [A, B, sequence(0, 1), greater(2), align(3)];
     let all = from(0, None, false);
-    both(&nodes, &[a(2), b(2)], &all, clear(2, 2, 2), clear(2, 0, 1));
-    both(&nodes, &[a(0), b(0)], &all, clear(2, 0, 0), Ran::Failure);
-    both(&nodes, &[a(2), b(3)], &all, Ran::Failure, Ran::Failure);
+    both(
+        &nodes,
+        &[a(2), b(2)],
+        &all,
+        clear(2, 2, 2, 1),
+        clear(2, 0, 1, 1),
+    );
+    both(&nodes, &[a(0), b(0)], &all, clear(2, 0, 0, 1), fails(0));
+    both(&nodes, &[a(2), b(3)], &all, fails(1), fails(1));
     // An indent behind the aligned token applies, within the block by 2014 as it is
     // without the cancelled one.
     let nodes = [A, B, greater(1), sequence(0, 2), greater(3), align(4)];
     let one = from(1, 1, false);
-    both(&nodes, &[a(1), b(2)], &one, clear(2, 1, 1), Ran::Failure);
-    both(&nodes, &[a(1), b(1)], &one, Ran::Failure, Ran::Failure);
-    both(&nodes, &[a(2), b(3)], &one, Ran::Failure, clear(2, 1, 1));
-    both(&nodes, &[a(2), b(2)], &one, Ran::Failure, Ran::Failure);
+    both(&nodes, &[a(1), b(2)], &one, clear(2, 1, 1, 1), fails(0));
+    both(&nodes, &[a(1), b(1)], &one, fails(1), fails(0));
+    both(&nodes, &[a(2), b(3)], &one, fails(0), clear(2, 1, 1, 1));
+    both(&nodes, &[a(2), b(2)], &one, fails(0), fails(1));
 }
 
 /// The same: "Distributivity of indentation and alignment fails in the semantics of
@@ -314,11 +342,11 @@ fn tokens_after_the_aligned_one() {
 fn indent_and_align_exchanged() {
     let all = from(0, None, false);
     let inside = [A, align(0), greater(1)];
-    both(&inside, &[a(5)], &all, clear(1, 0, 4), clear(1, 0, 4));
-    both(&inside, &[a(0)], &all, Ran::Failure, Ran::Failure);
+    both(&inside, &[a(5)], &all, clear(1, 0, 4, 0), clear(1, 0, 4, 0));
+    both(&inside, &[a(0)], &all, fails(0), fails(0));
     let around = [A, greater(0), align(1)];
-    both(&around, &[a(5)], &all, clear(1, 5, 5), clear(1, 0, 4));
-    both(&around, &[a(0)], &all, clear(1, 0, 0), Ran::Failure);
+    both(&around, &[a(5)], &all, clear(1, 5, 5, 0), clear(1, 0, 4, 0));
+    both(&around, &[a(0)], &all, clear(1, 0, 0, 0), fails(0));
 }
 
 /// 001's toy example, case a, in mode equal with b under at least: the flag is clear at
@@ -334,12 +362,24 @@ fn toy_example() {
         greater(4),
     ];
     let all = from(0, None, false);
-    both(&nodes, &[a(2), b(3)], &all, clear(2, 0, 1), clear(2, 0, 1));
-    both(&nodes, &[a(2), b(1)], &all, Ran::Failure, Ran::Failure);
+    both(
+        &nodes,
+        &[a(2), b(3)],
+        &all,
+        clear(2, 0, 1, 1),
+        clear(2, 0, 1, 1),
+    );
+    both(&nodes, &[a(2), b(1)], &all, fails(1), fails(1));
     // From a set flag the outer indent is passed through by 2014.
     let all = from(0, None, true);
-    both(&nodes, &[a(2), b(3)], &all, clear(2, 2, 2), clear(2, 0, 1));
-    both(&nodes, &[a(0), b(0)], &all, clear(2, 0, 0), Ran::Failure);
+    both(
+        &nodes,
+        &[a(2), b(3)],
+        &all,
+        clear(2, 2, 2, 1),
+        clear(2, 0, 1, 1),
+    );
+    both(&nodes, &[a(0), b(0)], &all, clear(2, 0, 0, 1), fails(0));
 }
 
 /// 001, 2.3: (a b) under greater, and a and b each under greater, on a1 b2.
@@ -349,12 +389,12 @@ fn indent_over_a_sequence() {
     let one = [A, B, sequence(0, 1), greater(2)];
     let each = [A, B, greater(0), greater(1), sequence(2, 3)];
     let all = from(0, None, false);
-    both(&one, &tokens, &all, Ran::Failure, Ran::Failure);
-    both(&each, &tokens, &all, clear(2, 0, 0), clear(2, 0, 0));
+    both(&one, &tokens, &all, fails(1), fails(1));
+    both(&each, &tokens, &all, clear(2, 0, 0, 1), clear(2, 0, 0, 1));
     // Under a set flag a is at the baseline by 2014, and b behind it.
     let all = from(0, None, true);
-    both(&one, &tokens, &all, Ran::Failure, Ran::Failure);
-    both(&each, &tokens, &all, clear(2, 1, 1), clear(2, 0, 0));
+    both(&one, &tokens, &all, fails(1), fails(1));
+    both(&each, &tokens, &all, clear(2, 1, 1, 1), clear(2, 0, 0, 1));
 }
 
 /// 000, 4.2: a, then (b under greater, or empty), on a1 b2 and on a3 b2; case f.
@@ -363,8 +403,20 @@ fn biased_choice() {
     let nodes = [A, B, greater(1), EMPTY, choice(2, 3), sequence(0, 4)];
     for flag in [false, true] {
         let all = from(0, None, flag);
-        both(&nodes, &[a(1), b(2)], &all, clear(2, 1, 1), clear(2, 1, 1));
-        both(&nodes, &[a(3), b(2)], &all, clear(1, 3, 3), clear(1, 3, 3));
+        both(
+            &nodes,
+            &[a(1), b(2)],
+            &all,
+            clear(2, 1, 1, 1),
+            clear(2, 1, 1, 1),
+        );
+        both(
+            &nodes,
+            &[a(3), b(2)],
+            &all,
+            clear(1, 3, 3, 1),
+            clear(1, 3, 3, 1),
+        );
     }
 }
 
@@ -374,14 +426,32 @@ fn biased_choice() {
 fn absolute_mode() {
     let nodes = [A, greater(0)];
     let relative = from(1, 2, false);
-    both(&nodes, &[a(1)], &relative, Ran::Failure, Ran::Failure);
-    both(&nodes, &[a(2)], &relative, clear(1, 1, 1), clear(1, 1, 1));
-    both(&nodes, &[a(3)], &relative, clear(1, 1, 2), clear(1, 1, 2));
+    both(&nodes, &[a(1)], &relative, fails(0), fails(0));
+    both(
+        &nodes,
+        &[a(2)],
+        &relative,
+        clear(1, 1, 1, 0),
+        clear(1, 1, 1, 0),
+    );
+    both(
+        &nodes,
+        &[a(3)],
+        &relative,
+        clear(1, 1, 2, 0),
+        clear(1, 1, 2, 0),
+    );
     let absolute = from(1, 2, true);
-    both(&nodes, &[a(0)], &absolute, Ran::Failure, Ran::Failure);
-    both(&nodes, &[a(1)], &absolute, clear(1, 1, 1), Ran::Failure);
-    both(&nodes, &[a(2)], &absolute, clear(1, 2, 2), clear(1, 1, 1));
-    both(&nodes, &[a(3)], &absolute, Ran::Failure, clear(1, 1, 2));
+    both(&nodes, &[a(0)], &absolute, fails(0), fails(0));
+    both(&nodes, &[a(1)], &absolute, clear(1, 1, 1, 0), fails(0));
+    both(
+        &nodes,
+        &[a(2)],
+        &absolute,
+        clear(1, 2, 2, 0),
+        clear(1, 1, 1, 0),
+    );
+    both(&nodes, &[a(3)], &absolute, fails(0), clear(1, 1, 2, 0));
 }
 
 /// 000, 4.3: alts is a (Left or Right) and b (the remainder of the clause), each under
@@ -399,21 +469,22 @@ fn example_derivation() {
         repeat(6),
         greater(7),
     ];
-    let case = |tokens: &[[u32; 4]], by_2014: u32, by_2017: u32| {
+    // Each by the tokens read and the farthest place.
+    let case = |tokens: &[[u32; 4]], by_2014: (u32, u32), by_2017: (u32, u32)| {
         let one = from(1, 1, false);
-        let read = |count| clear(count, 1, 1);
+        let read = |(count, farthest)| clear(count, 1, 1, farthest);
         both_with(&nodes, &[4], tokens, &one, read(by_2014), read(by_2017));
     };
     // Left at 5, Right at 4: by 2014 "not an element of the indentation set {5}", while
     // by 2017 the first a leaves 2 to 4 as the clauses' column.
-    case(&[a(5), b(7), a(4), b(6)], 2, 4);
-    case(&[a(5), b(7), a(5), b(6)], 4, 4);
+    case(&[a(5), b(7), a(4), b(6)], (2, 2), (4, 4));
+    case(&[a(5), b(7), a(5), b(6)], (4, 4), (4, 4));
     // By 2014 the rest of the clause stands behind 5; by 2017 behind 2.
-    case(&[a(5), b(6)], 2, 2);
-    case(&[a(5), b(5)], 0, 2);
+    case(&[a(5), b(6)], (2, 2), (2, 2));
+    case(&[a(5), b(5)], (0, 1), (2, 2));
     // By 2014 the clause may stand at 2; by 2017 its tokens stand behind that.
-    case(&[a(2), b(3)], 2, 0);
-    case(&[a(1), b(3)], 0, 0);
+    case(&[a(2), b(3)], (2, 2), (0, 0));
+    case(&[a(1), b(3)], (0, 0), (0, 0));
 }
 
 /// Figure 6 gives the indent by the flag on the way in, whatever it is on the way out.
@@ -422,25 +493,31 @@ fn flag_on_the_way_in() {
     // Clear on the way in, set on the way out: the relation is applied.
     let nodes = [EMPTY, align(0), greater(1)];
     let few = from(3, 5, false);
-    both(&nodes, &[], &few, set(0, 3, 5), clear(0, 3, 5));
+    both(&nodes, &[], &few, set(0, 3, 5, 0), clear(0, 3, 5, 0));
     let nodes = [EMPTY, align(0), step(1, 2)];
-    both(&nodes, &[], &few, set(0, 3, 5), clear(0, 3, 5));
+    both(&nodes, &[], &few, set(0, 3, 5, 0), clear(0, 3, 5, 0));
     // The flag then holds for what follows.
     let nodes = [EMPTY, align(0), greater(1), A, greater(3), sequence(2, 4)];
-    both(&nodes, &[a(4)], &few, clear(1, 4, 4), clear(1, 3, 3));
+    both(&nodes, &[a(4)], &few, clear(1, 4, 4, 0), clear(1, 3, 3, 0));
     // Set inside, clear again at the end: the relation is applied.
     let nodes = [EMPTY, align(0), A, sequence(1, 2), greater(3)];
-    both(&nodes, &[a(3)], &few, Ran::Failure, Ran::Failure);
-    both(&nodes, &[a(6)], &few, clear(1, 3, 5), clear(1, 3, 5));
+    both(&nodes, &[a(3)], &few, fails(0), fails(0));
+    both(&nodes, &[a(6)], &few, clear(1, 3, 5, 0), clear(1, 3, 5, 0));
     // Set on the way in, clear on the way out: passed through.
     let nodes = [A, B, sequence(0, 1), greater(2)];
     let few = from(1, 3, true);
-    both(&nodes, &[a(2), b(2)], &few, clear(2, 2, 2), clear(2, 1, 1));
+    both(
+        &nodes,
+        &[a(2), b(2)],
+        &few,
+        clear(2, 2, 2, 1),
+        clear(2, 1, 1, 1),
+    );
     // Clear at the outer indent and set at the inner one.
     let nodes = [EMPTY, align(0), A, greater(2), sequence(1, 3), greater(4)];
     let few = from(3, 5, false);
-    both(&nodes, &[a(4)], &few, clear(1, 3, 3), Ran::Failure);
-    both(&nodes, &[a(5)], &few, clear(1, 3, 4), clear(1, 3, 3));
+    both(&nodes, &[a(4)], &few, clear(1, 3, 3, 0), fails(0));
+    both(&nodes, &[a(5)], &few, clear(1, 3, 4, 0), clear(1, 3, 3, 0));
 }
 
 /// "Not and failure hand the old state on", a clear flag with it.
@@ -451,17 +528,21 @@ fn flag_of_the_old_state() {
     let start = [EMPTY, align(0), B, sequence(1, 2), A, greater(4)];
     // (Align of empty, then b), or a under greater.
     let nodes = [&start[..], &[choice(3, 5)]].concat();
-    same(&nodes, &[a(1)], clear(1, 0, 0));
+    same(&nodes, &[a(1)], clear(1, 0, 0, 0));
     // Not (align of empty, then b), then a under greater.
     let nodes = [&start[..], &[not(3), sequence(6, 5)]].concat();
-    same(&nodes, &[a(1)], clear(1, 0, 0));
+    same(&nodes, &[a(1)], clear(1, 0, 0, 0));
     // Repeat of (align of empty, then b), then a under greater.
     let nodes = [&start[..], &[repeat(3), sequence(6, 5)]].concat();
-    same(&nodes, &[a(1)], clear(1, 0, 0));
-    same(&nodes, &[b(1), b(1), a(2)], clear(3, 1, 1));
-    same(&nodes, &[b(1), b(1), a(1)], Ran::Failure);
+    same(&nodes, &[a(1)], clear(1, 0, 0, 0));
+    same(&nodes, &[b(1), b(1), a(2)], clear(3, 1, 1, 2));
+    same(&nodes, &[b(1), b(1), a(1)], fails(2));
     // Not of not of align of empty.
-    same(&[EMPTY, align(0), not(1), not(2)], &[], clear(0, 0, None));
+    same(
+        &[EMPTY, align(0), not(1), not(2)],
+        &[],
+        clear(0, 0, None, 0),
+    );
 }
 
 /// A choice keeps the flag that its alternative left, and a rule the one of its node.
@@ -482,10 +563,10 @@ fn flag_of_the_new_state() {
     let case = |tokens: &[[u32; 4]], by_2014: Ran, by_2017: Ran| {
         both_with(&nodes, &[3], tokens, &all, by_2014, by_2017);
     };
-    case(&[a(0)], clear(1, 0, 0), Ran::Failure);
-    case(&[a(3)], clear(1, 3, 3), clear(1, 0, 2));
-    case(&[b(1), a(3)], clear(2, 1, 1), clear(2, 1, 1));
-    case(&[b(1), a(1)], Ran::Failure, Ran::Failure);
+    case(&[a(0)], clear(1, 0, 0, 0), fails(0));
+    case(&[a(3)], clear(1, 3, 3, 0), clear(1, 0, 2, 0));
+    case(&[b(1), a(3)], clear(2, 1, 1, 1), clear(2, 1, 1, 1));
+    case(&[b(1), a(1)], fails(1), fails(1));
 }
 
 /// Under a set flag every relation passes 3 to 40 through, the steps too.
@@ -500,23 +581,29 @@ fn every_relation() {
             answer(nodes.as_flattened(), &[], &tokens, By2014, &start).0
         };
         for column in [3, 10, 40] {
-            assert_eq!(reads(column), clear(1, column, column));
+            assert_eq!(reads(column), clear(1, column, column, 0));
         }
-        assert_eq!(reads(2), Ran::Failure);
-        assert_eq!(reads(41), Ran::Failure);
+        assert_eq!(reads(2), fails(0));
+        assert_eq!(reads(41), fails(0));
     }
     let equal = [A, indent(0, relation::EQUAL)];
-    both(&equal, &[a(5)], &few, clear(1, 5, 5), clear(1, 5, 5));
+    both(&equal, &[a(5)], &few, clear(1, 5, 5, 0), clear(1, 5, 5, 0));
     let at_least = [A, indent(0, relation::AT_LEAST)];
-    both(&at_least, &[a(5)], &few, clear(1, 5, 5), clear(1, 3, 5));
-    both(&at_least, &[a(41)], &few, Ran::Failure, clear(1, 3, 40));
+    both(
+        &at_least,
+        &[a(5)],
+        &few,
+        clear(1, 5, 5, 0),
+        clear(1, 3, 5, 0),
+    );
+    both(&at_least, &[a(41)], &few, fails(0), clear(1, 3, 40, 0));
     let any = [A, indent(0, relation::ANY)];
-    both(&any, &[a(5)], &few, clear(1, 5, 5), clear(1, 3, 40));
-    both(&any, &[a(0)], &few, Ran::Failure, clear(1, 3, 40));
+    both(&any, &[a(5)], &few, clear(1, 5, 5, 0), clear(1, 3, 40, 0));
+    both(&any, &[a(0)], &few, fails(0), clear(1, 3, 40, 0));
     let two = [A, step(0, 2)];
-    both(&two, &[a(5)], &few, clear(1, 5, 5), clear(1, 3, 3));
-    both(&two, &[a(4)], &few, clear(1, 4, 4), Ran::Failure);
-    both(&two, &[a(42)], &few, Ran::Failure, clear(1, 40, 40));
+    both(&two, &[a(5)], &few, clear(1, 5, 5, 0), clear(1, 3, 3, 0));
+    both(&two, &[a(4)], &few, clear(1, 4, 4, 0), fails(0));
+    both(&two, &[a(42)], &few, fails(0), clear(1, 40, 40, 0));
     // By 2017 the inner set lies past all the columns.
     let last = from(65_530, 65_535, true);
     let most = [A, step(0, 31)];
@@ -524,8 +611,8 @@ fn every_relation() {
         &most,
         &[a(65_535)],
         &last,
-        clear(1, 65_535, 65_535),
-        Ran::Failure,
+        clear(1, 65_535, 65_535, 0),
+        fails(0),
     );
 }
 
@@ -550,8 +637,8 @@ fn nested_blocks() {
         &rules,
         &tokens,
         &all,
-        clear(3, 1, 1),
-        clear(3, 0, 0),
+        clear(3, 1, 1, 3),
+        clear(3, 0, 0, 3),
     );
     let captures = [[0, 0, 3, 0], [0, 1, 3, 1], [0, 2, 3, 2], [0, 3, 3, 3]];
     for reading in [By2014, By2017] {
@@ -568,16 +655,16 @@ fn nested_blocks() {
         &rules,
         &tokens,
         &one,
-        clear(3, 1, 1),
-        clear(0, 1, 1),
+        clear(3, 1, 1, 3),
+        clear(0, 1, 1, 0),
     );
     both_with(
         &nodes,
         &rules,
         &tokens[1..],
         &one,
-        set(0, 1, 1),
-        clear(2, 1, 1),
+        set(0, 1, 1, 0),
+        clear(2, 1, 1, 2),
     );
 }
 
@@ -590,7 +677,7 @@ fn position_is_16() {
             let start = Start::from_first(node, relation::EQUAL);
             let answer = |reading| answer(nodes.as_flattened(), &[], &[], reading, &start).0;
             assert_eq!(answer(By2014), Ran::Refused(16));
-            assert_eq!(answer(By2017), clear(0, 0, None));
+            assert_eq!(answer(By2017), clear(0, 0, None, 0));
         }
     }
     // The first node and the last that may be one.
@@ -598,12 +685,12 @@ fn position_is_16() {
         let mut nodes = [EMPTY; 512];
         nodes[place] = position(0, relation::EQUAL);
         let all = from(0, None, false);
-        both(&nodes, &[], &all, Ran::Refused(16), clear(0, 0, None));
+        both(&nodes, &[], &all, Ran::Refused(16), clear(0, 0, None, 0));
     }
     // Where the run would fail.
     let nodes = [A, position(0, relation::EQUAL), B];
     let all = from(0, None, false);
-    both(&nodes, &[a(0)], &all, Ran::Refused(16), Ran::Failure);
+    both(&nodes, &[a(0)], &all, Ran::Refused(16), fails(0));
     // No other kind is refused, nor the number 8 in another word.
     let nodes = [
         [EMPTY; 9].as_slice(),
@@ -612,19 +699,25 @@ fn position_is_16() {
         &[indent(kind::POSITION, kind::POSITION)],
     ];
     let nodes = nodes.concat();
-    both(&nodes, &[], &all, clear(0, 0, None), clear(0, 0, None));
+    both(
+        &nodes,
+        &[],
+        &all,
+        clear(0, 0, None, 0),
+        clear(0, 0, None, 0),
+    );
 }
 
 /// "or a mode other than 0"; from 35 on a mode is 12.
 #[test]
 fn mode_is_16() {
     let modes = [
-        (0, clear(0, 0, None), clear(0, 0, None)),
-        (1, Ran::Refused(16), clear(0, 0, None)),
-        (2, Ran::Refused(16), clear(0, 0, None)),
-        (3, Ran::Refused(16), clear(0, 0, None)),
-        (4, Ran::Refused(16), clear(0, 0, None)),
-        (34, Ran::Refused(16), clear(0, 0, None)),
+        (0, clear(0, 0, None, 0), clear(0, 0, None, 0)),
+        (1, Ran::Refused(16), clear(0, 0, None, 0)),
+        (2, Ran::Refused(16), clear(0, 0, None, 0)),
+        (3, Ran::Refused(16), clear(0, 0, None, 0)),
+        (4, Ran::Refused(16), clear(0, 0, None, 0)),
+        (34, Ran::Refused(16), clear(0, 0, None, 0)),
         (35, Ran::Refused(12), Ran::Refused(12)),
         (u16::MAX, Ran::Refused(12), Ran::Refused(12)),
     ];
@@ -637,7 +730,7 @@ fn mode_is_16() {
             ..start
         };
         let flag_kept = |ran| match ran {
-            Ran::Success { .. } => set(0, 0, None),
+            Ran::Success { .. } => set(0, 0, None, 0),
             refused => refused,
         };
         both(
@@ -656,7 +749,7 @@ fn mode_is_16() {
         &[a(2), b(3)],
         &start,
         Ran::Refused(16),
-        clear(2, 0, 1),
+        clear(2, 0, 1, 1),
     );
 }
 
@@ -737,10 +830,30 @@ fn before_13() {
     }
 }
 
+/// A grammar file of keywords and nodes that starts at the last node.
+pub(super) fn file(keywords: &[&[u8]], nodes: &[Node], mode: u8) -> Vec<u8> {
+    let mut file = vec![1, 0, 1, 1];
+    for word in keywords {
+        file.extend([2, 0, word.len() as u8]);
+        file.extend(*word);
+    }
+    for [kind, a, b, relation] in nodes.iter().map(|node| node.map(|word| word as u8)) {
+        file.extend([4, 0, 6, kind, 0, a, 0, b, relation]);
+    }
+    file.extend([5, 0, 3, 0, nodes.len() as u8 - 1, mode]);
+    file
+}
+
+/// The program's line, within steps and without.
+pub(super) fn prints(file: &[u8], report: &[u8], expected: &str) {
+    let expected = expected.as_bytes();
+    assert_eq!(line(file, report), expected);
+    assert_eq!(line_within(file, report, 100).as_deref(), Some(expected));
+}
+
 /// The program runs by 2017: Note 5's example with keyword 0 for a.
 #[test]
 fn line_is_by_2017() {
-    let mut file = vec![1, 0, 1, 1, 2, 0, 1, b'a'];
     let nodes = [
         EMPTY,
         align(0),
@@ -748,24 +861,18 @@ fn line_is_by_2017() {
         greater(2),
         sequence(1, 3),
     ];
-    for [kind, a, b, relation] in nodes.map(|node| node.map(|word| word as u8)) {
-        file.extend([4, 0, 6, kind, 0, a, 0, b, relation]);
-    }
-    file.extend([5, 0, 3, 0, 4, 0]);
-    let lines: [(&[u8], &[u8]); 2] = [(b"a", b"failure\n"), (b"  a", b"success 1 0 1 clear\n")];
-    for (report, expected) in lines {
-        assert_eq!(line(&file, report), expected);
-        assert_eq!(line_within(&file, report, 100).as_deref(), Some(expected));
-    }
+    let file = file(&[b"a"], &nodes, 0);
+    prints(&file, b"a", "failure 0\n");
+    prints(&file, b"  a", "success 1 0 1 clear 0\n");
 }
 
 /// The columns below the last, and the last for itself and all beyond: the bits of a
-/// set in `figure_6`.
-const LAST: u32 = 63;
+/// set in `figure_6` and in `farthest`.
+pub(super) const LAST: u32 = 63;
 
 /// How j stands to i, 000 section 2.2 and 02 Note 1, where a set's numbers from `LAST`
 /// on are all in it or all out.
-fn stands(relation: u16, j: u32, i: u32) -> bool {
+pub(super) fn stands(relation: u16, j: u32, i: u32) -> bool {
     let beyond = j == LAST;
     match relation {
         0 => j == i,
@@ -779,8 +886,15 @@ fn stands(relation: u16, j: u32, i: u32) -> bool {
     }
 }
 
-fn bits(member: impl Fn(u32) -> bool) -> u64 {
+pub(super) fn bits(member: impl Fn(u32) -> bool) -> u64 {
     (0..=LAST).fold(0, |set, n| set | u64::from(member(n)) << n)
+}
+
+/// The ends of a set that is an interval.
+pub(super) fn interval(set: u64) -> (u32, Option<u32>) {
+    let (lower, over) = (set.trailing_zeros(), set.leading_zeros());
+    assert_eq!(set.count_ones() + lower + over, 64, "no interval");
+    (lower, (over > 0).then(|| LAST - over))
 }
 
 /// Figure 6 of 000, line by line: the number of tokens consumed, the set and the flag,
@@ -829,73 +943,105 @@ fn figure_6(
     }
 }
 
-/// Small tables by chance, without positions: the ends, the sets and figure 6 agree by
-/// 2014, and the ends and the sets by 2017. Enough of the answers tell the readings
-/// apart.
-#[test]
-fn tables_by_chance() {
-    let mut seed = 20_142_017u64;
-    // Knuth's constants; the high bits are the better ones.
-    let mut below = |count: u64| {
-        seed = seed
+/// Small tables by chance, and what to run them on.
+pub(super) struct Chance {
+    pub seed: u64,
+}
+
+impl Chance {
+    pub(super) fn below(&mut self, count: u64) -> u64 {
+        // Knuth's constants; the high bits are the better ones.
+        self.seed = self
+            .seed
             .wrapping_mul(6_364_136_223_846_793_005)
             .wrapping_add(1_442_695_040_888_963_407);
-        (seed >> 33) % count
-    };
-    let (mut tables, mut apart, mut flags_apart, mut successes) = (0, 0, 0, 0);
-    while tables < 4_000 {
-        let count = 4 + below(9) as u16;
-        let rules = [
-            below(u64::from(count)) as u16,
-            below(u64::from(count)) as u16,
-        ];
-        let mut nodes = vec![EMPTY, A, B];
-        while nodes.len() < usize::from(count) {
-            let mut child = || below(nodes.len() as u64) as u16;
-            let (one, two) = (child(), child());
-            nodes.push(match below(16) {
-                0 => rule(one % 2),
-                1..=4 => sequence(one, two),
-                5 => choice(one, two),
-                6 => not(one),
-                7 => repeat(one),
-                8..=11 => indent(one, [0, 1, 1, 1, 2, 3, 4, 5][below(8) as usize]),
-                _ => align(one),
-            });
+        (self.seed >> 33) % count
+    }
+
+    /// A table that passes the check, of 4 to 12 nodes, and its two rules. Behind the
+    /// first three nodes the kinds are drawn from those given.
+    pub(super) fn table(&mut self, kinds: &[u16]) -> (Vec<Node>, [u16; 2]) {
+        loop {
+            let count = 4 + self.below(9);
+            let rules = [self.below(count) as u16, self.below(count) as u16];
+            let mut nodes = vec![EMPTY, A, B];
+            while (nodes.len() as u64) < count {
+                let mut child = || self.below(nodes.len() as u64) as u16;
+                let (one, two) = (child(), child());
+                let kind = kinds[self.below(kinds.len() as u64) as usize];
+                nodes.push(match kind {
+                    kind::RULE => rule(one % 2),
+                    kind::SEQUENCE | kind::CHOICE => [kind, one, two, 0],
+                    kind::INDENT | kind::POSITION => [kind, one, 0, self.relation()],
+                    _ => [kind, one, 0, 0],
+                });
+            }
+            if check(nodes.as_flattened(), &rules) == Verdict::Passes {
+                return (nodes, rules);
+            }
         }
-        let words = nodes.as_flattened();
-        if check(words, &rules) != Verdict::Passes {
-            continue;
-        }
-        tables += 1;
+    }
+
+    pub(super) fn relation(&mut self) -> u16 {
+        [0, 1, 1, 1, 2, 3, 4, 5][self.below(8) as usize]
+    }
+
+    /// Some tokens, their number and their columns below those given, and a start in
+    /// mode equal.
+    pub(super) fn tokens(
+        &mut self,
+        node: u16,
+        counts: u64,
+        columns: u64,
+    ) -> (Vec<[u32; 4]>, Start) {
+        let tokens: Vec<_> = (0..self.below(counts))
+            .map(|_| [self.below(4) as u32 / 3, self.below(columns) as u32, 0, 0])
+            .collect();
+        let lower = self.below(4) as u32;
+        let start = Start {
+            node,
+            place: self.below(tokens.len() as u64 + 1) as u32 / 2,
+            lower,
+            upper: (self.below(3) > 0).then_some(lower + self.below(4) as u32),
+            flag: self.below(3) == 0,
+            mode: relation::EQUAL,
+        };
+        (tokens, start)
+    }
+}
+
+/// Small tables by chance, without positions: the ends, the sets and figure 6 agree by
+/// 2014, and the ends and the sets by 2017. Enough of the answers tell the readings
+/// apart. The farthest place is not in figure 6, and `farthest` compares it.
+#[test]
+fn tables_by_chance() {
+    const KINDS: [u16; 16] = [2, 3, 3, 3, 3, 4, 5, 6, 7, 7, 7, 7, 9, 9, 9, 9];
+    let mut chance = Chance { seed: 20_142_017 };
+    let (mut apart, mut flags_apart, mut successes) = (0, 0, 0);
+    for _ in 0..4_000 {
+        let (nodes, rules) = chance.table(&KINDS);
         for _ in 0..6 {
-            let tokens: Vec<_> = (0..below(5))
-                .map(|_| [below(4) as u32 / 3, below(6) as u32, 0, 0])
-                .collect();
-            let lower = below(4) as u32;
-            let start = Start {
-                node: count - 1,
-                place: below(tokens.len() as u64 + 1) as u32 / 2,
-                lower,
-                upper: (below(3) > 0).then_some(lower + below(4) as u32),
-                flag: below(3) == 0,
-                mode: relation::EQUAL,
+            let (tokens, start) = chance.tokens(nodes.len() as u16 - 1, 5, 6);
+            let words = (nodes.as_flattened(), tokens.as_flattened());
+            let outcome = |reading| match answer(words.0, &rules, words.1, reading, &start).0 {
+                Ran::Success {
+                    read,
+                    lower,
+                    upper,
+                    flag,
+                    ..
+                } => Some((read, lower, upper, flag)),
+                Ran::Failure { .. } => None,
+                refused => panic!("{refused:?}"),
             };
-            let answer = |reading| answer(words, &rules, tokens.as_flattened(), reading, &start).0;
-            let (by_2014, by_2017) = (answer(By2014), answer(By2017));
+            let (by_2014, by_2017) = (outcome(By2014), outcome(By2017));
 
             let inside = |n: u32| start.lower <= n && start.upper.is_none_or(|upper| n <= upper);
             let rest = &tokens[start.place as usize..];
-            let outcome = figure_6((&nodes, &rules), start.node, rest, bits(inside), start.flag);
-            let expected = outcome.map_or(Ran::Failure, |(read, set, flag)| {
-                let (lower, over) = (set.trailing_zeros(), set.leading_zeros());
-                assert_eq!(set.count_ones() + lower + over, 64, "no interval");
-                Ran::Success {
-                    read: read as u32,
-                    lower,
-                    upper: (over > 0).then(|| LAST - over),
-                    flag,
-                }
+            let figure = figure_6((&nodes, &rules), start.node, rest, bits(inside), start.flag);
+            let expected = figure.map(|(read, set, flag)| {
+                let (lower, upper) = interval(set);
+                (read as u32, lower, upper, flag)
             });
             assert_eq!(
                 by_2014, expected,
@@ -903,9 +1049,9 @@ fn tables_by_chance() {
             );
 
             apart += u32::from(by_2014 != by_2017);
-            successes += u32::from(by_2014 != Ran::Failure && by_2017 != Ran::Failure);
-            let left_set = |ran: Ran| matches!(ran, Ran::Success { flag: true, .. });
-            flags_apart += u32::from(left_set(by_2014) != left_set(by_2017));
+            successes += u32::from(by_2014.is_some() && by_2017.is_some());
+            let left_set = [by_2014, by_2017].map(|end| end.is_some_and(|(.., flag)| flag));
+            flags_apart += u32::from(left_set[0] != left_set[1]);
         }
     }
     // By the flag at the end, and by other things.

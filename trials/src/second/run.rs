@@ -1,7 +1,7 @@
 //! The interpreter, with two ends for the column interval: 01 "Columns and states",
 //! the steps of 02 Note 1, and the ten clauses of 001, or of 02 Note 5 where a run
-//! names the 2014 reading. A run may list its captures, which is `list`'s; the walk is
-//! the same.
+//! names the 2014 reading; and how far the reader looked, 02 Note 7. A run may list its
+//! captures, which is `list`'s; the walk is the same.
 
 use super::{check, kind, relation, Verdict, MOST_COLUMN, MOST_TOKENS};
 use std::convert::Infallible;
@@ -43,7 +43,10 @@ impl Start {
     }
 }
 
-/// What the interpreter answers.
+/// What the interpreter answers. Success and failure carry the farthest place, 02 Note
+/// 7: "the largest token place that a terminal was tried at" in the whole run, "the
+/// count itself if tried past the last token, and the start place if none was tried".
+/// It is a place in the token list, not one from the start's place on.
 #[derive(Debug, Clone, Copy, PartialEq, Eq)]
 pub enum Ran {
     Success {
@@ -52,8 +55,11 @@ pub enum Ran {
         lower: u32,
         upper: Option<u32>,
         flag: bool,
+        farthest: u32,
     },
-    Failure,
+    Failure {
+        farthest: u32,
+    },
     /// 3, 4, 5, 11, 12 or 16.
     Refused(u8),
     /// 7, with the lowest node that is not well formed.
@@ -156,11 +162,14 @@ pub(super) fn run_metered<M: Meter, L: Lister>(
         tokens: tokens.as_chunks().0,
         reading,
         state: begin,
+        farthest: begin.place,
         meter,
         lister,
     };
-    if !reader.expression(start.node, start.mode)? {
-        return Ok(Ran::Failure);
+    let succeeds = reader.expression(start.node, start.mode)?;
+    let farthest = u32::from(reader.farthest);
+    if !succeeds {
+        return Ok(Ran::Failure { farthest });
     }
     let end = reader.state;
     Ok(Ran::Success {
@@ -168,6 +177,7 @@ pub(super) fn run_metered<M: Meter, L: Lister>(
         lower: end.interval.lower,
         upper: end.interval.upper,
         flag: end.flag,
+        farthest,
     })
 }
 
@@ -336,6 +346,11 @@ struct Reader<'t, M, L> {
     tokens: &'t [[u32; 4]],
     reading: Reading,
     state: State,
+    /// The largest place that a terminal was tried at so far, 02 Note 7, or the start
+    /// place, below which none is. It stands beside the state, since it stays where an
+    /// old state is put back: "Trials inside a not and in failed alternatives count",
+    /// and those of a repeat's last round.
+    farthest: u16,
     meter: M,
     lister: L,
 }
@@ -369,8 +384,10 @@ impl<M: Meter, L: Lister> Reader<'_, M, L> {
                 kind::EMPTY => return Ok(true),
                 // Clause 2.
                 kind::TERMINAL => {
-                    let place = usize::from(self.state.place);
-                    let end = match self.tokens.get(place) {
+                    let place = self.state.place;
+                    // A trial, at the token count too and whatever comes of it.
+                    self.farthest = self.farthest.max(place);
+                    let end = match self.tokens.get(usize::from(place)) {
                         Some(&[terminal, column, ..]) if terminal == u32::from(a) => {
                             self.state.read(column, mode)
                         }

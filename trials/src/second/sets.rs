@@ -1,19 +1,23 @@
 //! 01 "The clauses over sets": the ten clauses with a set of natural numbers in the
 //! state, and nothing of the two ends; the two by which the 2014 reading differs, 02
-//! Note 5: "sets under its own clauses"; and the captures that "the clauses' own
-//! derivation gives", 02 Note 2.
+//! Note 5: "sets under its own clauses"; the captures that "the clauses' own derivation
+//! gives", 02 Note 2; and the farthest place, 02 Note 7: "the clauses over sets carry it
+//! too".
 
 use super::{kind, relation, run::refusal, Ran, Reading, Start};
 
-/// What a run over sets answers.
+/// What a run over sets answers. `farthest` is as in `Ran`.
 #[derive(Debug, Clone, PartialEq, Eq)]
 pub enum SetRan {
     Success {
         read: u32,
         set: ColumnSet,
         flag: bool,
+        farthest: u32,
     },
-    Failure,
+    Failure {
+        farthest: u32,
+    },
     /// 3, 4, 5, 11, 12 or 16.
     Refused(u8),
     /// 7, with the lowest node that is not well formed.
@@ -148,12 +152,24 @@ struct State {
     set: ColumnSet,
     flag: bool,
     listed: usize,
+    farthest: Farthest,
+}
+
+/// "the largest token place that a terminal was tried at" so far, `None` if none was
+/// tried. Whoever hands an old state on does so with the farthest place of what was
+/// tried since, for "Trials inside a not and in failed alternatives count".
+type Farthest = Option<usize>;
+
+/// How an expression ends: "both success and failure" carry the farthest place.
+enum End {
+    Success(State),
+    Failure(Farthest),
 }
 
 /// More expressions were entered than allowed.
 struct OutOfSteps;
 
-type Outcome = Result<Option<State>, OutOfSteps>;
+type Outcome = Result<End, OutOfSteps>;
 
 struct Clauses<'t> {
     nodes: &'t [u16],
@@ -245,19 +261,26 @@ fn listed_within(
         set: ColumnSet { changes },
         flag: start.flag,
         listed: 0,
+        farthest: None,
     };
     let place = begin.place;
+    // "and the start place if none was tried"
+    let farthest = |farthest: Farthest| farthest.unwrap_or(place) as u32;
     match clauses.expression(start.node, start.mode, begin) {
         Err(OutOfSteps) => None,
         // "a failure lists none"
-        Ok(None) => Some((SetRan::Failure, Vec::new())),
-        Ok(Some(end)) => {
+        Ok(End::Failure(far)) => {
+            let farthest = farthest(far);
+            Some((SetRan::Failure { farthest }, Vec::new()))
+        }
+        Ok(End::Success(end)) => {
             let mut captures = clauses.captures.unwrap_or_default();
             captures.truncate(end.listed);
             let ran = SetRan::Success {
                 read: (end.place - place) as u32,
                 set: end.set,
                 flag: end.flag,
+                farthest: farthest(end.farthest),
             };
             Some((ran, captures))
         }
@@ -265,40 +288,43 @@ fn listed_within(
 }
 
 impl Clauses<'_> {
-    /// An expression in a mode from a state: the state of its success, or `None` for
-    /// its failure.
+    /// An expression in a mode from a state: the state of its success, or its failure.
     fn expression(&mut self, node: u16, mode: u16, state: State) -> Outcome {
         self.steps_left = self.steps_left.checked_sub(1).ok_or(OutOfSteps)?;
         let words = &self.nodes[4 * usize::from(node)..][..4];
         let (a, b, relation) = (words[1], words[2], words[3]);
         match words[0] {
             // "Empty changes nothing."
-            kind::EMPTY => Ok(Some(state)),
+            kind::EMPTY => Ok(End::Success(state)),
             kind::TERMINAL => Ok(self.terminal(a, mode, state)),
             kind::RULE => self.rule(a, mode, state),
             // "a, then b from where a ended"
             kind::SEQUENCE => match self.expression(a, mode, state)? {
-                Some(between) => self.expression(b, mode, between),
-                None => Ok(None),
+                End::Success(between) => self.expression(b, mode, between),
+                failure => Ok(failure),
             },
             // "a, or if a fails b from the old state"
             kind::CHOICE => match self.expression(a, mode, state.clone())? {
-                Some(end) => Ok(Some(end)),
-                None => self.expression(b, mode, state),
+                End::Failure(farthest) => self.expression(b, mode, State { farthest, ..state }),
+                success => Ok(success),
             },
             // "Not succeeds exactly if its child fails"; "Not and failure hand the old
             // state on".
             kind::NOT => match self.expression(a, mode, state.clone())? {
-                Some(_) => Ok(None),
-                None => Ok(Some(state)),
+                End::Success(end) => Ok(End::Failure(end.farthest)),
+                End::Failure(farthest) => Ok(End::Success(State { farthest, ..state })),
             },
             // "success in the old state .. else the repeat again .."
             kind::REPEAT => {
                 let mut old = state;
-                while let Some(end) = self.expression(a, mode, old.clone())? {
-                    old = end;
+                loop {
+                    match self.expression(a, mode, old.clone())? {
+                        End::Success(end) => old = end,
+                        End::Failure(farthest) => {
+                            return Ok(End::Success(State { farthest, ..old }));
+                        }
+                    }
                 }
-                Ok(Some(old))
             }
             kind::INDENT => self.indent(a, relation, mode, state),
             // "Position changes the mode for its child, through rules too."
@@ -307,28 +333,39 @@ impl Clauses<'_> {
         }
     }
 
-    /// "A terminal also fails at the token count .."
-    fn terminal(&self, terminal: u16, mode: u16, state: State) -> Option<State> {
+    /// A terminal is tried at the state's place, which may be the token count; "success
+    /// moves one place on".
+    fn terminal(&self, terminal: u16, mode: u16, state: State) -> End {
+        let farthest = state.farthest.max(Some(state.place));
+        match self.matched(terminal, mode, &state) {
+            Some(set) => End::Success(State {
+                place: state.place + 1,
+                set,
+                flag: false,
+                listed: state.listed,
+                farthest,
+            }),
+            None => End::Failure(farthest),
+        }
+    }
+
+    /// What becomes of S, or `None` where the terminal fails: it "also fails at the
+    /// token count ..".
+    fn matched(&self, terminal: u16, mode: u16, state: &State) -> Option<ColumnSet> {
         let words = self.tokens.get(4 * state.place..4 * state.place + 4)?;
         if words[0] != u32::from(terminal) {
             return None;
         }
         let column = u64::from(words[1]);
         let alone = ColumnSet::only(column);
-        let set = if state.flag {
+        if state.flag {
             // "i must lie in [S], which becomes [i alone]"
-            state.set.contains(column).then_some(alone)?
+            state.set.contains(column).then_some(alone)
         } else {
             // "i must lie in the mode's inner set, and [S] is met .."
             state.set.inner(mode).contains(column).then_some(())?;
-            state.set.meet(&alone.outer(mode))
-        };
-        Some(State {
-            place: state.place + 1,
-            set,
-            flag: false,
-            listed: state.listed,
-        })
+            Some(state.set.meet(&alone.outer(mode)))
+        }
     }
 
     /// "A rule is its node." Its capture stands behind those on the way to the state
@@ -347,7 +384,7 @@ impl Clauses<'_> {
         self.around += 1;
         let end = self.expression(node, mode, state)?;
         self.around -= 1;
-        if let (Some(captures), Some(end)) = (&mut self.captures, &end) {
+        if let (Some(captures), End::Success(end)) = (&mut self.captures, &end) {
             captures[own][2] = end.place as u32;
         }
         Ok(end)
@@ -363,11 +400,13 @@ impl Clauses<'_> {
             set: state.set.inner(relation),
             ..state
         };
-        let end = self.expression(child, mode, inside)?;
-        Ok(end.map(|end| State {
-            set: state.set.meet(&end.set.outer(relation)),
-            ..end
-        }))
+        match self.expression(child, mode, inside)? {
+            End::Success(end) => Ok(End::Success(State {
+                set: state.set.meet(&end.set.outer(relation)),
+                ..end
+            })),
+            failure => Ok(failure),
+        }
     }
 
     /// "Align sets the flag inside; after success it is set .." By 2014 it "hands on the
@@ -378,14 +417,16 @@ impl Clauses<'_> {
             flag: true,
             ..state
         };
-        let end = self.expression(child, mode, inside)?;
-        Ok(end.map(|end| State {
-            flag: match self.reading {
-                Reading::By2017 => before && end.flag,
-                Reading::By2014 => end.flag,
-            },
-            ..end
-        }))
+        match self.expression(child, mode, inside)? {
+            End::Success(end) => Ok(End::Success(State {
+                flag: match self.reading {
+                    Reading::By2017 => before && end.flag,
+                    Reading::By2014 => end.flag,
+                },
+                ..end
+            })),
+            failure => Ok(failure),
+        }
     }
 }
 

@@ -8,14 +8,14 @@ returns : tie.Need-returns
 returns c = let put = c .before .before in rw (put .before .before .before .x .given .1) (put .put-success .ensures)
 
 returns-2 : tie.Need-returns-2
-returns-2 c = let put = c .before .before in rw (put .before .before .before .enum-told .given .1) (put .put-word .ensures)
+returns-2 c = let put = c .before .before in rw (put .before .before .before .before .x2 .given .1) (put .put-line .ensures)
 
 returns-3 : tie.Need-returns-3
-returns-3 c = let put = c .before .before in rw (put .before .before .before .before .x2 .given .1) (put .put-refused .ensures)
+returns-3 c = let put = c .before .before in rw (put .before .before .before .before .x3 .given .1) (put .put-line2 .ensures)
 
 returns-4 : tie.Need-returns-4
 unfolding decimalTo
-returns-4 c = let put = c .before .before in rw (put .before .before .before .before .x3 .given .1) (put .put-refused2 .ensures)
+returns-4 c = let put = c .before .before in rw (put .before .before .before .before .x4 .given .1) (put .put-line3 .ensures)
 
 pub put-answer-spec : {M : Type 1} → statement M
 put-answer-spec =

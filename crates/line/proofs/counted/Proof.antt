@@ -8,13 +8,13 @@ returns : tie.Need-returns
 returns c = rw (c .before .x .given .1) (refl, refl, refl)
 
 returns-2 : tie.Need-returns-2
-returns-2 c = rw (c .enum-told .given .1) (refl, refl, refl)
+returns-2 c = rw (c .before .x2 .given .1) (refl, refl, refl)
 
 returns-3 : tie.Need-returns-3
-returns-3 c = rw (c .before .x2 .given .1) (refl, refl, refl)
+returns-3 c = rw (c .before .x3 .given .1) (refl, refl, refl)
 
 returns-4 : tie.Need-returns-4
-returns-4 c = rw (c .before .x3 .given .1) (refl, refl, refl)
+returns-4 c = rw (c .before .x4 .given .1) (refl, refl, refl)
 
 pub counted-spec : {M : Type 1} → statement M
 counted-spec =

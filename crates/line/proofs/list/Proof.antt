@@ -2,7 +2,7 @@
 use borrow.Author.Needs.{needs}
 use mathlib.Core.Path.{ap, _∙_}
 use native.Mathlib.Omega.{arith}
-use Rattle.line.specs.Entries.{outcomeAnswer, captureCount}
+use Rattle.line.specs.Entries.{endAnswer, captureCount}
 use Rattle.line.proofs.PartLaws.{front-length}
 use Rattle.line.proofs.RunLaws.{said-as, list-answers, list-leaves, token-count, none-refused, none-named}
 use Rattle.line.proofs.list.Statement.{statement}
@@ -65,7 +65,7 @@ returns-3 c =
     (c .before .before .before .list .ensures .0) in
     let counted = c .counted .ensures in
     let leaves = list-leaves all before (c .before .before .before .before .before .start-at .ensures) (c .before .before .before .list .ensures .1 .0) in
-    (counted .0 ∙ ap outcomeAnswer listed, (counted .1 ∙ token-count all, (counted .2 ∙ ap captureCount listed, (prepare .ensures .written, leaves))))
+    (counted .0 ∙ ap endAnswer listed, (counted .1 ∙ token-count all, (counted .2 ∙ ap captureCount listed, (prepare .ensures .written, leaves))))
 
 pub list-spec : {M : Type 1} → statement M
 list-spec =

@@ -24,13 +24,14 @@ write-list-requires c κs =
 
 returns-3 : tie.Need-returns-3
 returns-3 c =
-    let at-write-list = c .before .before .before .before in
+    let at-write-list = c .before .before .before .before .before in
     let at-walk-once = at-write-list .before .before .before in
     let at-enum-told = at-walk-once .before .before in
     let at-admitted = at-enum-told .before .before in
     let start = at-admitted .before .before .before .before .before in (
       walk-failure (start .args .reading) (start .args .nodes .now) (start .args .rules .now) (start .args .tokens .now) (start .args .start)
-          (subst (Admits _ _ _ _ _) (at-enum-told .enum-told .given .1) (at-admitted .admitted .ensures)) (at-walk-once .walk-once .ensures) (c .enum-told2 .given .1),
+          (subst (Admits _ _ _ _ _) (at-enum-told .enum-told .given .1) (at-admitted .admitted .ensures))
+          (at-walk-once .walk-once .ensures) (c .before .x .given .0 .0) (c .before .x .given .1),
       at-write-list .write-list .ensures,
     )
 
@@ -43,7 +44,7 @@ returns-4 c =
     let start = at-admitted .before .before .before .before .before in (
       walk-success (start .args .reading) (start .args .nodes .now) (start .args .rules .now) (start .args .tokens .now) (start .args .start)
           (subst (Admits _ _ _ _ _) (at-enum-told .enum-told .given .1) (at-admitted .admitted .ensures))
-          (at-walk-once .walk-once .ensures) (c .before .x .given .0 .0) (c .before .x .given .1),
+          (at-walk-once .walk-once .ensures) (c .before .x2 .given .0 .0) (c .before .x2 .given .1),
       at-write-list .write-list .ensures,
     )
 

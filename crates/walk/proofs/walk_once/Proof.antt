@@ -14,11 +14,11 @@ expression-requires c κs =
 
 returns : tie.Need-returns
 returns c =
-    let at-expression = c .before .before .before .before in
+    let at-expression = c .before .before .before .before .before in
     let at-is-by-2014 = at-expression .before .before .before .before in
     let start = at-is-by-2014 .before .before .before .before .before in
     whole-failed (start .args .reading) (start .args .nodes .now) (start .args .rules .now) (start .args .tokens .now) (start .args .start) (start .pre)
-    (at-is-by-2014 .is-by-2014 .ensures) (at-expression .expression .ensures) (c .enum-told .given .1)
+    (c .before .x .given .0 .0) (at-is-by-2014 .is-by-2014 .ensures) (at-expression .expression .ensures) (c .before .x .given .1)
 
 returns-2 : tie.Need-returns-2
 returns-2 c =
@@ -26,7 +26,7 @@ returns-2 c =
     let at-is-by-2014 = at-expression .before .before .before .before in
     let start = at-is-by-2014 .before .before .before .before .before in
     whole-read (start .args .reading) (start .args .nodes .now) (start .args .rules .now) (start .args .tokens .now) (start .args .start) (start .pre)
-    (c .before .x .given .0 .0) (at-is-by-2014 .is-by-2014 .ensures) (at-expression .expression .ensures) (c .before .x .given .1)
+    (c .before .x2 .given .0 .0) (at-is-by-2014 .is-by-2014 .ensures) (at-expression .expression .ensures) (c .before .x2 .given .1)
 
 pub walk-once-spec : {M : Type 1} → statement M
 walk-once-spec =

@@ -18,6 +18,7 @@ use Rattle.walk.proofs.states.entered.Reads as entered-reads
 use Rattle.walk.proofs.states.fresh.Reads as fresh-reads
 use Rattle.walk.proofs.cycle.first_node.Reads as first-node-reads
 use Rattle.readings.proofs.in_force.Reads as in-force-reads
+use Rattle.after_child.proofs.failed.Reads as failed-reads
 use Rattle.after_child.proofs.left.Reads as left-reads
 use Rattle.walk.proofs.states.token.Reads as token-reads
 use Rattle.capture_list.proofs.more.Reads as more-reads
@@ -87,6 +88,8 @@ claims t = (
   first-node-reads.Learnt,
   first-below t,
   first.Post,
+  failed-reads.Asked,
+  failed-reads.Learnt,
   in-force-reads.Asked,
   in-force-reads.Learnt,
   left-reads.Asked,
@@ -145,6 +148,10 @@ module _ (t : ℕ) where
   -- The node that was walked first, from behind its walk.
   abbrev node-of : At expression-lts.After-first → At expression-lts.After-first-node
   node-of c = c .before .before .before
+
+  -- Its walk, from behind its failure.
+  abbrev walk-of : At expression-lts.After-failed → At expression-lts.After-first
+  walk-of c = c .before .before .before .before .before .before
 
   expression-loop-holds : At expression-lts.Need-loop-holds
   expression-loop-holds c = let pre = c .before .before .before .before .pre .1 in start (pre .0) (pre .1)
@@ -236,48 +243,53 @@ module _ (t : ℕ) where
 
   expression-loop-less-2 : At expression-lts.Need-loop-less-2
   expression-loop-less-2 c =
-      let first = c .before .before .before .before .before in
-      choice-less (turn-of first .loop .inv) (node-of first .first-node .ensures) (first .first .ensures) (c .before .enum-told .given .1)
-      (c .match3 .keys1)
+      let first = walk-of (c .before) in
+      let x = c .before .before .before .x in
+      choice-less (turn-of first .loop .inv) (node-of first .first-node .ensures) (first .first .ensures) (x .given .0 .0) (x .given .1)
+      (c .before .failed .ensures) (c .match3 .keys1)
 
   expression-loop-again-2 : At expression-lts.Need-loop-again-2
   expression-loop-again-2 c =
-      let first = c .before .before .before .before .before in
-      choice-again (turn-of first .loop .inv) (node-of first .first-node .ensures) (first .first .ensures) (c .before .enum-told .given .1)
-      (c .match3 .keys1)
+      let first = walk-of (c .before) in
+      let x = c .before .before .before .x in
+      choice-again (turn-of first .loop .inv) (node-of first .first-node .ensures) (first .first .ensures) (x .given .0 .0) (x .given .1)
+      (c .before .failed .ensures) (c .match3 .keys1)
 
   expression-same-length-3 : At expression-lts.Need-same-length-3
   expression-same-length-3 c =
-      let first = c .before .before .before .before .before in
+      let first = walk-of (c .before) in
       call-long (turn-of first .loop .inv) (node-of first .first-node .ensures) (first .first .ensures)
 
   expression-returns-3 : At expression-lts.Need-returns-3
   expression-returns-3 c =
-      let first = c .before .before .before .before .before in
-      out-not (turn-of first .loop .inv) (node-of first .first-node .ensures) (first .first .ensures) (c .before .enum-told .given .1)
-      (c .match3 .keys2)
+      let first = walk-of (c .before) in
+      let x = c .before .before .before .x in
+      out-not (turn-of first .loop .inv) (node-of first .first-node .ensures) (first .first .ensures) (x .given .0 .0) (x .given .1)
+      (c .before .failed .ensures) (c .match3 .keys2)
 
   expression-same-length-4 : At expression-lts.Need-same-length-4
   expression-same-length-4 c =
-      let first = c .before .before .before .before .before in
+      let first = walk-of (c .before) in
       call-long (turn-of first .loop .inv) (node-of first .first-node .ensures) (first .first .ensures)
 
   expression-returns-4 : At expression-lts.Need-returns-4
   expression-returns-4 c =
-      let first = c .before .before .before .before .before in
-      out-repeat (turn-of first .loop .inv) (node-of first .first-node .ensures) (first .first .ensures) (c .before .enum-told .given .1)
-      (c .match3 .keys3)
+      let first = walk-of (c .before) in
+      let x = c .before .before .before .x in
+      out-repeat (turn-of first .loop .inv) (node-of first .first-node .ensures) (first .first .ensures) (x .given .0 .0) (x .given .1)
+      (c .before .failed .ensures) (c .match3 .keys3)
 
   expression-same-length-5 : At expression-lts.Need-same-length-5
   expression-same-length-5 c =
-      let first = c .before .before .before .before .before in
+      let first = walk-of (c .before) in
       call-long (turn-of first .loop .inv) (node-of first .first-node .ensures) (first .first .ensures)
 
   expression-returns-5 : At expression-lts.Need-returns-5
   expression-returns-5 c =
-      let first = c .before .before .before .before .before in
+      let first = walk-of (c .before) in
+      let x = c .before .before .before .x in
       let rest = node-of first .before .match .rest in
-      out-failed (turn-of first .loop .inv) (node-of first .first-node .ensures) (first .first .ensures) (c .before .enum-told .given .1)
+      out-failed (turn-of first .loop .inv) (node-of first .first-node .ensures) (first .first .ensures) (x .given .0 .0) (x .given .1)
       (rest .0 .0 .1) (rest .0 .1) (rest .1) (c .match3 .rest .0 .0 .1) (c .match3 .rest .0 .1) (c .match3 .rest .1)
 
   expression-same-length-6 : At expression-lts.Need-same-length-6
@@ -287,21 +299,21 @@ module _ (t : ℕ) where
 
   expression-returns-6 : At expression-lts.Need-returns-6
   expression-returns-6 c =
-      let x = c .before .before .x in
+      let x = c .before .before .x2 in
       let first = c .before .before .before .before .before .before in
       out-terminal (turn-of first .loop .inv) (node-of first .first-node .ensures) (first .first .ensures) (x .given .0 .0) (x .given .1)
       (c .match4 .keys1)
 
   expression-loop-less-3 : At expression-lts.Need-loop-less-3
   expression-loop-less-3 c =
-      let x = c .before .before .x in
+      let x = c .before .before .x2 in
       let first = c .before .before .before .before .before .before in
       sequence-less (turn-of first .loop .inv) (node-of first .first-node .ensures) (first .first .ensures) (x .given .0 .0) (x .given .1)
       (c .match4 .keys2)
 
   expression-loop-again-3 : At expression-lts.Need-loop-again-3
   expression-loop-again-3 c =
-      let x = c .before .before .x in
+      let x = c .before .before .x2 in
       let first = c .before .before .before .before .before .before in
       sequence-again (turn-of first .loop .inv) (node-of first .first-node .ensures) (first .first .ensures) (x .given .0 .0) (x .given .1)
       (c .match4 .keys2)
@@ -313,7 +325,7 @@ module _ (t : ℕ) where
 
   expression-returns-7 : At expression-lts.Need-returns-7
   expression-returns-7 c =
-      let x = c .before .before .x in
+      let x = c .before .before .x2 in
       let first = c .before .before .before .before .before .before in
       out-choice (turn-of first .loop .inv) (node-of first .first-node .ensures) (first .first .ensures) (x .given .0 .0) (x .given .1)
       (c .match4 .keys3)
@@ -325,21 +337,21 @@ module _ (t : ℕ) where
 
   expression-returns-8 : At expression-lts.Need-returns-8
   expression-returns-8 c =
-      let x = c .before .before .x in
+      let x = c .before .before .x2 in
       let first = c .before .before .before .before .before .before in
       out-not-fails (turn-of first .loop .inv) (node-of first .first-node .ensures) (first .first .ensures) (x .given .0 .0) (x .given .1)
       (c .match4 .keys4)
 
   expression-loop-again-4 : At expression-lts.Need-loop-again-4
   expression-loop-again-4 c =
-      let x = c .before .before .x in
+      let x = c .before .before .x2 in
       let first = c .before .before .before .before .before .before in
       repeat-again (turn-of first .loop .inv) (node-of first .first-node .ensures) (first .first .ensures) (x .given .0 .0) (x .given .1)
       (c .match4 .keys5)
 
   expression-loop-less-4 : At expression-lts.Need-loop-less-4
   expression-loop-less-4 c =
-      let x = c .before .before .x in
+      let x = c .before .before .x2 in
       let first = c .before .before .before .before .before .before in
       repeat-less (turn-of first .loop .inv) (node-of first .first-node .ensures) (first .first .ensures) (x .given .0 .0) (x .given .1)
       (c .match4 .keys5)
@@ -353,8 +365,8 @@ module _ (t : ℕ) where
   expression-returns-9 c =
       let ended = c .before .before .before in
       let first = ended .before .before .before .before .before in
-      out-indent (turn-of first .loop .inv) (node-of first .first-node .ensures) (first .first .ensures) (ended .before .x .given .0 .0)
-      (ended .before .x .given .1) (c .before .before .match4 .keys6) (c .before .in-force .ensures) (c .left .ensures)
+      out-indent (turn-of first .loop .inv) (node-of first .first-node .ensures) (first .first .ensures) (ended .before .x2 .given .0 .0)
+      (ended .before .x2 .given .1) (c .before .before .match4 .keys6) (c .before .in-force .ensures) (c .left .ensures)
 
   expression-same-length-10 : At expression-lts.Need-same-length-10
   expression-same-length-10 c =
@@ -367,8 +379,8 @@ module _ (t : ℕ) where
       let first = ended .before .before .before .before .before in
       let rest = node-of first .before .match .rest in
       let rest4 = c .before .match4 .rest in
-      out-align (turn-of first .loop .inv) (node-of first .first-node .ensures) (first .first .ensures) (ended .before .x .given .0 .0)
-      (ended .before .x .given .1) (rest .0 .0 .1) (rest .0 .1) (rest .1) (rest4 .0 .0 .0 .0 .0 .1) (rest4 .0 .0 .0 .0 .1) (rest4 .0 .0 .0 .1)
+      out-align (turn-of first .loop .inv) (node-of first .first-node .ensures) (first .first .ensures) (ended .before .x2 .given .0 .0)
+      (ended .before .x2 .given .1) (rest .0 .0 .1) (rest .0 .1) (rest .1) (rest4 .0 .0 .0 .0 .0 .1) (rest4 .0 .0 .0 .0 .1) (rest4 .0 .0 .0 .1)
       (rest4 .0 .0 .1) (rest4 .0 .1) (rest4 .1) (c .aligned .ensures)
 
 -- The needs of the walk of what comes first.
@@ -469,16 +481,17 @@ module _ (t : ℕ) where
   abbrev more-of : In-rule rule-lts.After-expression → In-rule rule-lts.After-more
   more-of c = c .before .before .before .before
 
-  rule-cast-t35 : In-rule rule-lts.Need-cast-t35
-  rule-cast-t35 c =
+  rule-cast-t36 : In-rule rule-lts.Need-cast-t36
+  rule-cast-t36 c =
       let walked = c .before .before .before .before .before .before .before in
       omega (arith, start-of (more-of walked) .pre .1 .1 .deep)
 
   rule-returns : In-rule rule-lts.Need-returns
   rule-returns c =
-      let walked = c .before .before .before .before .before .before in
+      let o = c .before in
+      let walked = o .before .before .before .before .before .before in
       let more = more-of walked in
-      rule-failed _ (start-of more .pre .1 .1) (more .more .ensures) (walked .expression .ensures) (c .enum-told .given .1)
+      rule-failed _ (start-of more .pre .1 .1) (more .more .ensures) (walked .expression .ensures) (o .o .given .0 .0) (o .o .given .1)
 
   rule-returns-2 : In-rule rule-lts.Need-returns-2
   rule-returns-2 c =
@@ -486,7 +499,7 @@ module _ (t : ℕ) where
       let o = called .before .before .before in
       let walked = o .before .before .before .before .before .before in
       let more = more-of walked in
-      rule-read _ (start-of more .pre .1 .1) (more .more .ensures) (walked .expression .ensures) (o .o .given .0 .0) (o .o .given .1) (called .put .ensures)
+      rule-read _ (start-of more .pre .1 .1) (more .more .ensures) (walked .expression .ensures) (o .o2 .given .0 .0) (o .o2 .given .1) (called .put .ensures)
 
 pub +expression+first+rule-spec : {M : Type 1} → statement M
 +expression+first+rule-spec =
@@ -499,7 +512,7 @@ pub +expression+first+rule-spec : {M : Type 1} → statement M
     (expression-shared-slice-read-b t) (expression-add-r t) (expression-mul-r t)
     (expression-shared-slice-read-r t) (expression-same-length t) (expression-returns t) (λ c κs. search needs)
     (expression-rule-requires t) (expression-same-length-2 t) (expression-returns-2 t) (expression-loop-less t)
-    (expression-loop-again t) (λ c κs. search needs) (expression-first-requires t) (λ c. search needs)
+    (expression-loop-again t) (λ c κs. search needs) (expression-first-requires t) (λ c. search needs) (λ c κs. search needs)
     (expression-loop-less-2 t) (expression-loop-again-2 t) (expression-same-length-3 t) (expression-returns-3 t)
     (expression-same-length-4 t) (expression-returns-4 t) (expression-same-length-5 t) (expression-returns-5 t)
     (λ c. search needs) (expression-same-length-6 t) (expression-returns-6 t) (expression-loop-less-3 t)
@@ -516,5 +529,5 @@ pub +expression+first+rule-spec : {M : Type 1} → statement M
     (λ t.
     rule-lts.spec (rule-claims t) (rule-at t) rule.Post (λ c. search needs) (rule-shared-slice-read-node t)
     (λ c. search needs) (λ c. search needs) (rule-add-inside t) (λ c κs. search needs) (rule-expression-requires t)
-    (λ c. search needs) (λ c. search needs) (λ c. search needs) (rule-cast-t35 t) (λ c κs. search needs)
+    (λ c. search needs) (λ c. search needs) (λ c. search needs) (rule-cast-t36 t) (λ c κs. search needs)
     (λ c. search needs) (rule-returns t) (λ c. search needs) (rule-returns-2 t))
