@@ -241,18 +241,18 @@ module _ (t : ℕ) where
         ),
       )
 
-  expression-loop-less-2 : At expression-lts.Need-loop-less-2
-  expression-loop-less-2 c =
-      let first = walk-of (c .before) in
-      let x = c .before .before .before .x in
-      choice-less (turn-of first .loop .inv) (node-of first .first-node .ensures) (first .first .ensures) (x .given .0 .0) (x .given .1)
-      (c .before .failed .ensures) (c .match3 .keys1)
-
   expression-loop-again-2 : At expression-lts.Need-loop-again-2
   expression-loop-again-2 c =
       let first = walk-of (c .before) in
       let x = c .before .before .before .x in
       choice-again (turn-of first .loop .inv) (node-of first .first-node .ensures) (first .first .ensures) (x .given .0 .0) (x .given .1)
+      (c .before .failed .ensures) (c .match3 .keys1)
+
+  expression-loop-less-2 : At expression-lts.Need-loop-less-2
+  expression-loop-less-2 c =
+      let first = walk-of (c .before) in
+      let x = c .before .before .before .x in
+      choice-less (turn-of first .loop .inv) (node-of first .first-node .ensures) (first .first .ensures) (x .given .0 .0) (x .given .1)
       (c .before .failed .ensures) (c .match3 .keys1)
 
   expression-same-length-3 : At expression-lts.Need-same-length-3
