@@ -3,7 +3,8 @@
 (README.md), and docs/PUBLISHED.md.
 
 Every expected line was worked by hand from the clauses of 001 (Nestra 2017) as 01 states them;
-the comment above a run gives the steps. The last number is the farthest place (02, Note 7). "l..h" is an interval, "l.." has no upper end, N is 0.. .
+the comment above a run gives the steps. The last number is the farthest place (02, Note 7).
+"l..h" is an interval, "l.." has no upper end, N is 0.. .
 "flag: i..i" is a terminal under a set flag; "in" and "out" are an indent's way in and way out.
 
 Runs are written as README.md says; the laws of 001 and the comments keep to the papers' signs.

@@ -11,13 +11,13 @@ use Rattle.clauses.specs.Limits.{fails11, fails12, fails16}
 use Rattle.clauses.specs.Evaluation.{evaluate, outcomeFor, traceFor}
 use Rattle.clauses.specs.RunAnswer.{runAnswer}
 use Rattle.clauses.specs.Cases.{Case, expected, answered}
-use Rattle.clauses.specs.FarthestCases.{noneTried, silentParts, putBack, pastTheLast, byReading}
+use Rattle.clauses.specs.FarthestCases.{noneTried, silentParts, putBack, pastTheLast, lastRounds, byReading}
 
 abbrev cases : List Case
-cases = noneTried ++ silentParts ++ putBack ++ pastTheLast ++ byReading
+cases = noneTried ++ silentParts ++ putBack ++ pastTheLast ++ lastRounds ++ byReading
 
 pub farthest-cases-hold : map answered cases ≡ map expected cases
-unfolding answered noneTried silentParts putBack pastTheLast byReading eachWords form evaluate outcomeFor traceFor runAnswer
+unfolding answered noneTried silentParts putBack pastTheLast lastRounds byReading eachWords form evaluate outcomeFor traceFor runAnswer
     fails11 fails12 fails16 every fails3 fails4 fails5 rightWords tableAnswer gives knownAfter passes wellAfter mayNothing
     isWell verdictFrom checkAnswer
 farthest-cases-hold = refl

@@ -1,6 +1,7 @@
 -- The bench cases a to j of 01 in one table, with the answers that 01 gives, and beside them cases that its slips would
--- break and runs that are turned down. The farthest place of each (02, Note 7) is worked by hand. A case is a run (nodes, rules, tokens, start), answered by `runAnswer`, or a check,
--- answered by `checkAnswer`. `CasesHold`, in proofs, computes them all.
+-- break and runs that are turned down. The farthest place of each (02, Note 7) is worked by hand. A case is a run (nodes,
+-- rules, tokens, start), answered by `runAnswer`, or a check, answered by `checkAnswer`. `CasesHold`, in proofs, computes
+-- them all.
 use Prim.Native.Nat.{ℕ}
 use mathlib.Core.Bool.{Bool, true, false}
 use mathlib.Core.List.{List, [], _∷_}

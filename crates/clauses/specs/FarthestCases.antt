@@ -62,8 +62,9 @@ putBack =
     (a at 0 ∷ c at 0 ∷ []) (from 7 equal) (fails 2)
     ∷ run (terminal a ∷ terminal b ∷ terminal c ∷ sequence 0 1 ∷ sequence 0 2 ∷ choice 3 4 ∷ terminal 4 ∷ sequence 5 6 ∷ []) []
     (a at 0 ∷ a at 0 ∷ []) (from 7 equal) (fails 1)
-    -- A column that does not fit is a trial too: (a^>)ε / ε on a⁰, and ab in mode equal on a⁰b¹.
-    ∷ run (terminal a ∷ indent 0 greater ∷ empty ∷ choice 1 2 ∷ []) [] (a at 0 ∷ []) (fromIn 3 0) (reads 0 0 Endless false 0)
+    -- A column that does not fit is a trial too: a(b^> / ε) on a⁰b⁰, and ab in mode equal on a⁰b¹.
+    ∷ run (terminal a ∷ terminal b ∷ indent 1 greater ∷ empty ∷ choice 2 3 ∷ sequence 0 4 ∷ []) [] (a at 0 ∷ b at 0 ∷ [])
+    (from 5 equal) (reads 1 0 (At 0) false 1)
     ∷ run (terminal a ∷ terminal b ∷ sequence 0 1 ∷ []) [] (a at 0 ∷ b at 1 ∷ []) (from 2 equal) (fails 1)
     ∷ []
 
@@ -76,8 +77,12 @@ pastTheLast =
     ∷ run (terminal a ∷ sequence 0 0 ∷ sequence 0 1 ∷ []) [] (a at 0 ∷ a at 0 ∷ []) (from 2 equal) (fails 2)
     -- aa!a on two: the whole report was read, and that nothing follows was tried.
     ∷ run (terminal a ∷ not 0 ∷ sequence 0 1 ∷ sequence 0 2 ∷ []) [] (a at 0 ∷ a at 0 ∷ []) (from 3 equal) (reads 2 0 (At 0) false 2)
-    -- A repeat's last round: a* on a⁰a⁰, on a⁰a⁰b⁰, and (ab)* on a⁰b⁰a⁰.
-    ∷ run (terminal a ∷ repeat 0 ∷ []) [] (a at 0 ∷ a at 0 ∷ []) (from 1 equal) (reads 2 0 (At 0) false 2)
+    ∷ []
+
+-- A repeat's last, failed round: a* on a⁰a⁰, on a⁰a⁰b⁰b⁰, and (ab)* on a⁰b⁰a⁰.
+unfoldable pub lastRounds : List Case
+lastRounds =
+    run (terminal a ∷ repeat 0 ∷ []) [] (a at 0 ∷ a at 0 ∷ []) (from 1 equal) (reads 2 0 (At 0) false 2)
     ∷ run (terminal a ∷ repeat 0 ∷ []) [] (a at 0 ∷ a at 0 ∷ b at 0 ∷ b at 0 ∷ []) (from 1 equal) (reads 2 0 (At 0) false 2)
     ∷ run (terminal a ∷ terminal b ∷ sequence 0 1 ∷ repeat 2 ∷ []) [] (a at 0 ∷ b at 0 ∷ a at 0 ∷ []) (from 3 equal)
     (reads 2 0 (At 0) false 3)

@@ -18,7 +18,7 @@ pub record Trace : Type 0 where
   pub captures : ℕ → List Capture
   pub farthest : ℕ → ℕ
 
--- Nothing is captured, and no terminal is tried: the place stays.
+-- Nothing is captured, and no terminal is tried: the farthest place stays.
 abbrev pub silent : Trace
 silent = record { captures = λ k. []; farthest = λ m. m }
 
@@ -32,7 +32,7 @@ abbrev pub _then_ : Trace → Trace → Trace
 t then u = record { captures = λ k. t .captures k ++ u .captures k; farthest = λ m. u .farthest (t .farthest m) }
 
 -- "outside any not, any failed alternative and a repeat's last, failed round": what was captured there is not listed. But
--- "Trials inside a not and in failed alternatives count."
+-- "Trials inside a not and in failed alternatives count", and so do those of the last round.
 abbrev pub dropped : Trace → Trace
 dropped t = record { captures = λ k. []; farthest = t .farthest }
 

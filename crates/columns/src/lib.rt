@@ -13,8 +13,8 @@ pub struct Interval {
     pub upper: Upper,
 }
 
-// The place in the token list, the farthest place that a terminal was tried at so far (02, Note 7), the interval and the
-// alignment flag.
+// The place in the token list, the farthest place that a terminal was tried at so far, the start's if none was (02, Note 7),
+// the interval and the alignment flag.
 pub struct State {
     pub place: u32,
     pub farthest: u32,

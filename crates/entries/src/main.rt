@@ -1,6 +1,6 @@
 // The program `entries`: reads the grammar file `grammar.bin` and a report on standard input, and prints the entries of the
 // run, a line each behind two blanks for each entry around it, and then the line of the run. Where that failed, or left tokens,
-// a line more says where the farthest token is that was tried.
+// a line more says where the farthest place is.
 ghost use Rattle.io.specs.Counts.{Counts};
 
 // A file or report that fills its buffer of 65,536 bytes is over length.
@@ -25,7 +25,7 @@ fn read_grammar(file: &mut [u8]) -> usize
     n
 }
 
-// Prints the entries, of which there may be 16,384, and the line of the run.
+// Prints the entries, of which there may be 16,384, the line of the run and where the farthest place is.
 fn print(file: &[u8], report: &[u8]) {
     let mut tokens = [0u32; 16384];
     let mut captures = [0u32; 65536];

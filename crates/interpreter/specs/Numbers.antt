@@ -28,7 +28,7 @@ numbers place (Failure farthest) = given (failing farthest)
 numbers place (Refused number) = refused number
 numbers place (IllFormed node) = refusedAt 7 node
 
--- An outcome and a farthest place have one derivation by the ten clauses over two ends.
+-- An outcome and a farthest place come from one and the same derivation by the ten clauses over two ends.
 pub record Looked (reading : Reading) (nodes rules words : List ℕ) (start : Start) (x : Ended) : Type 0 where
   pub run : EndsRun reading nodes rules words start (x .outcome)
   pub looked : x .farthest ≡ endsFarthest reading nodes rules words start (x .outcome) run
@@ -64,7 +64,7 @@ pub record CapturesStand (reading : Reading) (nodes rules words : List ℕ) (sta
   pub counted : n ≡ length (endsCaptures reading nodes rules words start (x .outcome) (derived .run))
   pub stands : slice ≡ listWords (endsCaptures reading nodes rules words start (x .outcome) (derived .run)) (length slice)
 
--- The outcome of a run that lists, its farthest place and its captures have one derivation.
+-- The outcome of a run that lists, its farthest place and its captures come from one and the same derivation.
 abbrev pub ListDerived : Reading → List ℕ → List ℕ → List ℕ → Start → Listed → List ℕ → Type 0
 ListDerived reading nodes rules words start (listed.Success read s n) slice =
     CapturesStand reading nodes rules words start (endOf s) n slice × Reads (start .place) read (s .place)

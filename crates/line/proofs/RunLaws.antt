@@ -7,16 +7,18 @@ use Rattle.table.specs.Answer.{Answer, given, refused, refusedAt, afterwards}
 use Rattle.grammar_file.specs.File.{fieldsOf, nodeTable, ruleList}
 use Rattle.token_words.specs.Scan.{wordsOf, scanTokens}
 use Rattle.columns.specs.declared.Start.{Start}
+use Rattle.columns.specs.declared.Reading.{Reading}
 use Rattle.columns.specs.declared.Reading.the-variants.{By2017}
 use Rattle.clauses.specs.RunAnswer.{runAnswer}
 use Rattle.clauses.specs.ListAnswer.{Listing, listAnswer, listAfter, listWords}
-use Rattle.interpreter.specs.Numbers.{numbers, listNumbers}
+use Rattle.interpreter.specs.Numbers.{numbers, listNumbers, ListDerived}
 use Rattle.interpreter.specs.declared.Ran.{Ran}
 use Rattle.interpreter.specs.declared.Ran.the-variants.{Refused as RanRefused, IllFormed as RanIllFormed}
 use Rattle.interpreter.specs.declared.Listed.{Listed}
+use Rattle.interpreter.specs.declared.Listed.the-variants as listed
 use Rattle.line.specs.Line.{startAt, fileStart, afterParts, partsAnswer, lineAnswer}
-use Rattle.line.specs.Entries.{entriesAnswer, endAnswer, captureCount, givenCount, tokenCount, tokensAfter, capturesAfter, entries}
-use Rattle.line.specs.InternalParts.{Stands, Says, PartsGive}
+use Rattle.line.specs.Entries.{entriesAnswer, endAnswer, Placed, captureCount, givenCount, tokenCount, tokensAfter, capturesAfter, entries}
+use Rattle.line.specs.InternalParts.{Stands, Says, PartsGive, ranOf}
 use Rattle.line.specs.declared.Parts.{Parts}
 use Rattle.line.specs.declared.Parts.the-variants.{Ready, Refused, IllFormed}
 use Rattle.line.specs.declared.Entries.{Entries}
@@ -94,6 +96,7 @@ module _ (file report before : List ℕ) (room : ℕ) (x : Entries) where
     pub tokens : x .tokens ≡ tokenCount file report room
     pub captures : x .captures ≡ captureCount a
     pub unchanged : before ≡ capturesAfter file report room before
+    pub placed : Placed (x .answer)
 
   pub none-refused :
       {n : ℕ}
@@ -105,6 +108,7 @@ module _ (file report before : List ℕ) (room : ℕ) (x : Entries) where
       let q = parts-refuse file report room _ e in
       record {
         answer = ap (numbers 0) (d .0) ∙ ap endAnswer q;
+        placed = subst Placed (sym (d .0)) tt;
         tokens = d .1 ∙ ap givenCount (parts-refuse file report room _ e);
         captures = d .2 ∙ ap captureCount q;
         unchanged = ap (λ (a : Answer Listing). afterwards a (listWords (entries file report) (length before)) before) q;
@@ -120,7 +124,25 @@ module _ (file report before : List ℕ) (room : ℕ) (x : Entries) where
       let q = parts-name file report room _ e in
       record {
         answer = ap (numbers 0) (d .0) ∙ ap endAnswer q;
+        placed = subst Placed (sym (d .0)) tt;
         tokens = d .1 ∙ ap givenCount (parts-name file report room _ e);
         captures = d .2 ∙ ap captureCount q;
         unchanged = ap (λ (a : Answer Listing). afterwards a (listWords (entries file report) (length before)) before) q;
       }
+
+-- What a run that lists answered, without the number of captures: the same end, and a state that stands where the tokens read end.
+pub ran-numbers : (x : Listed) → numbers 0 (ranOf x) ≡ endAnswer (listNumbers 0 x)
+ran-numbers (listed.Success read s n) = refl
+ran-numbers (listed.Failure farthest) = refl
+ran-numbers (listed.Refused number) = refl
+ran-numbers (listed.IllFormed node) = refl
+
+pub ran-placed :
+    (reading : Reading) (nodes rules words : List ℕ) (start : Start) (slice : List ℕ) (x : Listed)
+    → start .place ≡ 0
+    → ListDerived reading nodes rules words start x slice
+    → Placed (ranOf x)
+ran-placed reading nodes rules words start slice (listed.Success read s n) e d = rw e at (d .1)
+ran-placed reading nodes rules words start slice (listed.Failure farthest) e d = tt
+ran-placed reading nodes rules words start slice (listed.Refused number) e d = tt
+ran-placed reading nodes rules words start slice (listed.IllFormed node) e d = tt

@@ -9,8 +9,10 @@ use Rattle.grammar_file.specs.File.{fieldsOf, nodeTable, ruleList}
 use Rattle.token_words.specs.Scan.{wordsOf, scanTokens}
 use Rattle.columns.specs.declared.Capture.{Capture}
 use Rattle.columns.specs.declared.Reading.the-variants.{By2017}
-use Rattle.clauses.specs.RunAnswer.{Ended}
+use Rattle.clauses.specs.RunAnswer.{Ended, Reads}
 use Rattle.clauses.specs.ListAnswer.{ourCaptures, Listing, listAnswer, listWords}
+use Rattle.interpreter.specs.declared.Ran.{Ran}
+use Rattle.interpreter.specs.declared.Ran.the-variants.{Success, Failure, Refused, IllFormed}
 use Rattle.line.specs.Line.{fileStart, afterParts, partsAnswer}
 
 -- The lowest number of the parts, then 13, then what the run ends in with the number of captures: for so many words lent for the
@@ -26,6 +28,13 @@ abbrev pub endAnswer : Answer Listing → Answer Ended
 endAnswer (given x) = given (x .ended)
 endAnswer (refused number) = refused number
 endAnswer (refusedAt number node) = refusedAt number node
+
+-- The state of a success stands where the tokens read end: the run begins at place 0.
+abbrev pub Placed : Ran → Type 0
+Placed (Success read s) = Reads 0 read (s .place)
+Placed (Failure farthest) = Unit
+Placed (Refused number) = Unit
+Placed (IllFormed node) = Unit
 
 -- The number of captures; none where the call is refused.
 abbrev pub captureCount : Answer Listing → ℕ

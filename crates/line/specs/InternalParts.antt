@@ -6,6 +6,10 @@ use lib.ListN.{length, take}
 use Rattle.table.specs.Answer.{given, refused, refusedAt}
 use Rattle.grammar_file.specs.File.{fieldsOf, nodeTable, ruleList, startNode, startMode}
 use Rattle.token_words.specs.Scan.{wordsOf, scanTokens}
+use Rattle.interpreter.specs.declared.Ran.{Ran}
+use Rattle.interpreter.specs.declared.Ran.the-variants as ran
+use Rattle.interpreter.specs.declared.Listed.{Listed}
+use Rattle.interpreter.specs.declared.Listed.the-variants as listed
 use Rattle.line.specs.Line.{partsAnswer}
 use Rattle.line.specs.Entries.{tokensAfter}
 use Rattle.line.specs.declared.Parts.{Parts}
@@ -37,3 +41,10 @@ Says file report lent (IllFormed node) nodes rules tokens = refusedAt 7 node ≡
 pub record PartsGive (file report before : List ℕ) (x : Parts) (nodes rules tokens : List ℕ) : Type 0 where
   pub said : Says file report (length before) x nodes rules tokens
   pub written : tokens ≡ tokensAfter file report before
+
+-- What a run that lists answered, without the number of captures.
+abbrev pub ranOf : Listed → Ran
+ranOf (listed.Success read s n) = ran.Success read s
+ranOf (listed.Failure farthest) = ran.Failure farthest
+ranOf (listed.Refused number) = ran.Refused number
+ranOf (listed.IllFormed node) = ran.IllFormed node

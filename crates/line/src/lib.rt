@@ -16,8 +16,8 @@ ghost use lib.ListN.{length};
 ghost use Rattle.interpreter.specs.Numbers.{numbers, listNumbers};
 ghost use Rattle.line.specs.Line.{startAt, lineAnswer, lineCount, lineAfter};
 ghost use Rattle.line.specs.Entries.{entriesAnswer, endAnswer, captureCount, tokenCount, tokensAfter, capturesAfter};
-ghost use Rattle.line.specs.Entries.{captureAt};
-ghost use Rattle.line.specs.InternalParts.{PartsGive};
+ghost use Rattle.line.specs.Entries.{Placed, captureAt};
+ghost use Rattle.line.specs.InternalParts.{PartsGive, ranOf};
 
 // What a run that lists answered, with the numbers of tokens and of captures that stand in the lent words.
 pub struct Entries {
@@ -74,6 +74,7 @@ pub fn list(file: &[u8], report: &[u8], tokens: &mut [u32], captures: &mut [u32]
         ≡ capturesAfter (now (file .entry)) (now (report .entry)) (length (now (tokens .entry)))
         (now (captures .entry))
         ⌝ }
+    ensures { λ r. ⌜ Placed (r .answer) ⌝ }
 {
     let mut nodes = [0u16; 2048];
     let mut rules = [0u16; 128];
@@ -229,9 +230,7 @@ fn none(answer: Ran) -> Entries
 // What a run that lists answered, over so many tokens.
 fn counted(x: Listed, tokens: usize) -> Entries
     ensures { λ r. ⌜
-        (numbers 0 (r .answer) ≡ endAnswer (listNumbers 0 x))
-        × (r .tokens ≡ tokens)
-        × (r .captures ≡ captureCount (listNumbers 0 x))
+        (r .answer ≡ ranOf x) × (r .tokens ≡ tokens) × (r .captures ≡ captureCount (listNumbers 0 x))
         ⌝ }
 {
     match x {

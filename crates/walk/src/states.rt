@@ -154,7 +154,7 @@ fn farther(m: u32, w: u32) -> u32
     if m < w { w } else { m }
 }
 
-// That terminal at a column, tried as far as a place.
+// That terminal at a column, with the farthest place given.
 fn at_column(mode: u16, s: State, farthest: u32, i: u32) -> Outcome
     requires { ⌜ s .place + 1 < 2 ^ 32 ⌝ }
     ensures { λ r. ⌜ r ≡ columnOutcome mode s farthest i ⌝ }

@@ -1,10 +1,12 @@
 -- `line::list` meets its contract.
 use borrow.Author.Needs.{needs}
-use mathlib.Core.Path.{ap, _∙_}
+use mathlib.Core.Path.{sym, ap, subst, _∙_}
 use native.Mathlib.Omega.{arith}
-use Rattle.line.specs.Entries.{endAnswer, captureCount}
+use Rattle.line.specs.Entries.{endAnswer, Placed, captureCount}
+use Rattle.columns.specs.declared.Start.{Start}
+use Rattle.interpreter.specs.Numbers.{numbers}
 use Rattle.line.proofs.PartLaws.{front-length}
-use Rattle.line.proofs.RunLaws.{said-as, list-answers, list-leaves, token-count, none-refused, none-named}
+use Rattle.line.proofs.RunLaws.{said-as, list-answers, list-leaves, token-count, none-refused, none-named, ran-numbers, ran-placed}
 use Rattle.line.proofs.list.Statement.{statement}
 use Rattle.line.proofs.list.Tie as tie
 
@@ -45,7 +47,7 @@ returns c =
     let args = c .before .before .before .before .before .before .before .before .before .before .before .before .before .before .before .before .args in
     let no = none-refused (args .file .now) (args .report .now) (args .captures .now) _ (c .none .result)
     (said-as (prepare .ensures) (c .before .before .x .given .1)) (c .none .ensures) in
-    (no .answer, (no .tokens, (no .captures, (prepare .ensures .written, no .unchanged))))
+    (no .answer, (no .tokens, (no .captures, (prepare .ensures .written, (no .unchanged, no .placed)))))
 
 returns-2 : tie.Need-returns-2
 returns-2 c =
@@ -53,7 +55,7 @@ returns-2 c =
     let args = c .before .before .before .before .before .before .before .before .before .before .before .before .before .before .before .before .args in
     let no = none-named (args .file .now) (args .report .now) (args .captures .now) _ (c .none2 .result)
     (said-as (prepare .ensures) (c .before .before .x2 .given .1)) (c .none2 .ensures) in
-    (no .answer, (no .tokens, (no .captures, (prepare .ensures .written, no .unchanged))))
+    (no .answer, (no .tokens, (no .captures, (prepare .ensures .written, (no .unchanged, no .placed)))))
 
 returns-3 : tie.Need-returns-3
 returns-3 c =
@@ -64,8 +66,15 @@ returns-3 c =
     let listed = list-answers all before (c .before .before .before .before .before .start-at .ensures) (c .before .before .before .list .result)
     (c .before .before .before .list .ensures .0) in
     let counted = c .counted .ensures in
+    let begins = ap (λ (s : Start). s .place) (c .before .before .before .before .before .start-at .ensures) in
     let leaves = list-leaves all before (c .before .before .before .before .before .start-at .ensures) (c .before .before .before .list .ensures .1 .0) in
-    (counted .0 ∙ ap endAnswer listed, (counted .1 ∙ token-count all, (counted .2 ∙ ap captureCount listed, (prepare .ensures .written, leaves))))
+    let ran = c .before .before .before .list in (
+      ap (numbers 0) (counted .0) ∙ ran-numbers (ran .result) ∙ ap endAnswer listed,
+      (
+        counted .1 ∙ token-count all,
+        (counted .2 ∙ ap captureCount listed, (prepare .ensures .written, (leaves, subst Placed (sym (counted .0)) (ran-placed _ _ _ _ _ _ (ran .result) begins (ran .ensures .1 .1))))),
+      ),
+    )
 
 pub list-spec : {M : Type 1} → statement M
 list-spec =
