@@ -1,7 +1,7 @@
 -- What demand 3 says of bench case a: every outcome of the clauses over sets is a success at place 2 with the flag clear, whose
--- set has 0 and 1 and nothing else, and every derivation has farthest place 1; of a run that fails: every derivation has the
--- place of the token that was tried; and of a grammar with one rule: every derivation over sets has exactly one capture, and a
--- run that lists answers 1. A weaker statement of the demand would not give these.
+-- set has 0 and 1 and nothing else, and every derivation has farthest place 1; of a run that fails: every derivation has
+-- farthest place 1, where b was tried, behind the last token; and of a grammar with one rule: every derivation over sets has
+-- exactly one capture, and a run that lists answers 1. A weaker statement of the demand would not give these.
 use Prim.Native.Nat.{ℕ, _≤_}
 use mathlib.Core.Path.{_≡_, refl, sym, ap, subst, _∙_}
 use mathlib.Core.Bool.{false}
