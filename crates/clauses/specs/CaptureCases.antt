@@ -1,6 +1,6 @@
--- Runs that list their captures, in one table, with the answers that 02, Notes 2 and 7, give. A case is a run (nodes, rules, tokens,
--- start) and the lent words before it; expected are its answer, by `listAnswer`, and the words afterwards, by `listAfter`.
--- `CaptureCasesHold`, in proofs, computes them all.
+-- Runs that list their captures, in one table, with the answers that 02, Notes 2 and 7, give. A case is a run (nodes, rules,
+-- tokens, start) and the lent words before it; expected are its answer, by `listAnswer`, and the words afterwards, by
+-- `listAfter`. `CaptureCasesHold`, in proofs, computes them all.
 use Prim.Native.Nat.{ℕ}
 use mathlib.Core.Bool.{false}
 use mathlib.Core.List.{List, [], _∷_, _++_}

@@ -34,14 +34,16 @@ unfoldable pub silentParts : List Case
 silentParts =
     -- aε, a|ε| and a!ε on a⁰a⁰.
     run (terminal a ∷ empty ∷ sequence 0 1 ∷ []) [] (a at 0 ∷ a at 0 ∷ []) (from 2 equal) (reads 1 0 (At 0) false 0)
-    ∷ run (terminal a ∷ empty ∷ align 1 ∷ sequence 0 2 ∷ []) [] (a at 0 ∷ a at 0 ∷ []) (from 3 equal) (reads 1 0 (At 0) false 0)
+    ∷ run (terminal a ∷ empty ∷ align 1 ∷ sequence 0 2 ∷ []) [] (a at 0 ∷ a at 0 ∷ []) (from 3 equal)
+    (reads 1 0 (At 0) false 0)
     ∷ run (terminal a ∷ empty ∷ not 1 ∷ sequence 0 2 ∷ []) [] (a at 0 ∷ a at 0 ∷ []) (from 3 equal) (fails 0)
     -- aX on a⁰a⁰ where X is ε.
     ∷ run (terminal a ∷ empty ∷ rule 0 ∷ sequence 0 2 ∷ []) (1 ∷ []) (a at 0 ∷ a at 0 ∷ []) (from 3 equal)
     (reads 1 0 (At 0) false 0)
     -- A second part behind a failure, and a second alternative behind a success, are not tried.
     ∷ run (terminal a ∷ terminal b ∷ sequence 0 1 ∷ []) [] (b at 0 ∷ b at 0 ∷ []) (from 2 equal) (fails 0)
-    ∷ run (terminal a ∷ sequence 0 0 ∷ choice 0 1 ∷ []) [] (a at 0 ∷ a at 0 ∷ []) (from 2 equal) (reads 1 0 (At 0) false 0)
+    ∷ run (terminal a ∷ sequence 0 0 ∷ choice 0 1 ∷ []) [] (a at 0 ∷ a at 0 ∷ []) (from 2 equal)
+    (reads 1 0 (At 0) false 0)
     ∷ []
 
 -- "Trials inside a not and in failed alternatives count."
@@ -51,7 +53,8 @@ putBack =
     run (terminal a ∷ terminal b ∷ sequence 0 1 ∷ not 2 ∷ []) [] (a at 0 ∷ a at 0 ∷ []) (from 3 equal)
     (reads 0 0 Endless false 1)
     ∷ run (terminal a ∷ sequence 0 0 ∷ not 1 ∷ []) [] (a at 0 ∷ a at 0 ∷ []) (from 2 equal) (fails 1)
-    ∷ run (terminal a ∷ sequence 0 0 ∷ not 1 ∷ not 2 ∷ []) [] (a at 0 ∷ a at 0 ∷ []) (from 3 equal) (reads 0 0 Endless false 1)
+    ∷ run (terminal a ∷ sequence 0 0 ∷ not 1 ∷ not 2 ∷ []) [] (a at 0 ∷ a at 0 ∷ []) (from 3 equal)
+    (reads 0 0 Endless false 1)
     -- aab / ε on a⁰a⁰a⁰: tried only in a failed alternative. aab / a: and then less far.
     ∷ run (terminal a ∷ terminal b ∷ sequence 0 1 ∷ sequence 0 2 ∷ empty ∷ choice 3 4 ∷ []) []
     (a at 0 ∷ a at 0 ∷ a at 0 ∷ []) (from 5 equal) (reads 0 0 Endless false 2)
@@ -63,7 +66,8 @@ putBack =
     ∷ run (terminal a ∷ terminal b ∷ terminal c ∷ sequence 0 1 ∷ sequence 0 2 ∷ choice 3 4 ∷ terminal 4 ∷ sequence 5 6 ∷ []) []
     (a at 0 ∷ a at 0 ∷ []) (from 7 equal) (fails 1)
     -- A column that does not fit is a trial too: a(b^> / ε) on a⁰b⁰, and ab in mode equal on a⁰b¹.
-    ∷ run (terminal a ∷ terminal b ∷ indent 1 greater ∷ empty ∷ choice 2 3 ∷ sequence 0 4 ∷ []) [] (a at 0 ∷ b at 0 ∷ [])
+    ∷ run (terminal a ∷ terminal b ∷ indent 1 greater ∷ empty ∷ choice 2 3 ∷ sequence 0 4 ∷ []) []
+    (a at 0 ∷ b at 0 ∷ [])
     (from 5 equal) (reads 1 0 (At 0) false 1)
     ∷ run (terminal a ∷ terminal b ∷ sequence 0 1 ∷ []) [] (a at 0 ∷ b at 1 ∷ []) (from 2 equal) (fails 1)
     ∷ []
@@ -76,15 +80,18 @@ pastTheLast =
     ∷ run (terminal a ∷ []) [] (a at 0 ∷ a at 0 ∷ []) (fromIn 0 2) (fails 2)
     ∷ run (terminal a ∷ sequence 0 0 ∷ sequence 0 1 ∷ []) [] (a at 0 ∷ a at 0 ∷ []) (from 2 equal) (fails 2)
     -- aa!a on two: the whole report was read, and that nothing follows was tried.
-    ∷ run (terminal a ∷ not 0 ∷ sequence 0 1 ∷ sequence 0 2 ∷ []) [] (a at 0 ∷ a at 0 ∷ []) (from 3 equal) (reads 2 0 (At 0) false 2)
+    ∷ run (terminal a ∷ not 0 ∷ sequence 0 1 ∷ sequence 0 2 ∷ []) [] (a at 0 ∷ a at 0 ∷ []) (from 3 equal)
+    (reads 2 0 (At 0) false 2)
     ∷ []
 
 -- A repeat's last, failed round: a* on a⁰a⁰, on a⁰a⁰b⁰b⁰, and (ab)* on a⁰b⁰a⁰.
 unfoldable pub lastRounds : List Case
 lastRounds =
     run (terminal a ∷ repeat 0 ∷ []) [] (a at 0 ∷ a at 0 ∷ []) (from 1 equal) (reads 2 0 (At 0) false 2)
-    ∷ run (terminal a ∷ repeat 0 ∷ []) [] (a at 0 ∷ a at 0 ∷ b at 0 ∷ b at 0 ∷ []) (from 1 equal) (reads 2 0 (At 0) false 2)
-    ∷ run (terminal a ∷ terminal b ∷ sequence 0 1 ∷ repeat 2 ∷ []) [] (a at 0 ∷ b at 0 ∷ a at 0 ∷ []) (from 3 equal)
+    ∷ run (terminal a ∷ repeat 0 ∷ []) [] (a at 0 ∷ a at 0 ∷ b at 0 ∷ b at 0 ∷ []) (from 1 equal)
+    (reads 2 0 (At 0) false 2)
+    ∷ run (terminal a ∷ terminal b ∷ sequence 0 1 ∷ repeat 2 ∷ []) [] (a at 0 ∷ b at 0 ∷ a at 0 ∷ [])
+    (from 3 equal)
     (reads 2 0 (At 0) false 3)
     ∷ []
 
@@ -93,10 +100,13 @@ unfoldable pub byReading : List Case
 byReading =
     run (terminal a ∷ indent 0 greater ∷ align 1 ∷ terminal b ∷ sequence 2 3 ∷ []) [] (a at 1 ∷ b at 1 ∷ [])
     (record { node = 4; place = 0; interval = to 1 (At 1); flag = false; mode = equal }) (fails 0)
-    ∷ runBy2014 (terminal a ∷ indent 0 greater ∷ align 1 ∷ terminal b ∷ sequence 2 3 ∷ []) [] (a at 1 ∷ b at 1 ∷ [])
+    ∷ runBy2014 (terminal a ∷ indent 0 greater ∷ align 1 ∷ terminal b ∷ sequence 2 3 ∷ []) []
+    (a at 1 ∷ b at 1 ∷ [])
     (record { node = 4; place = 0; interval = to 1 (At 1); flag = false; mode = equal }) (reads 2 1 (At 1) false 1)
-    ∷ run (empty ∷ align 0 ∷ terminal a ∷ indent 2 greater ∷ sequence 1 3 ∷ repeat 4 ∷ []) [] (a at 0 ∷ a at 0 ∷ [])
+    ∷ run (empty ∷ align 0 ∷ terminal a ∷ indent 2 greater ∷ sequence 1 3 ∷ repeat 4 ∷ []) []
+    (a at 0 ∷ a at 0 ∷ [])
     (from 5 equal) (reads 0 0 Endless false 0)
-    ∷ runBy2014 (empty ∷ align 0 ∷ terminal a ∷ indent 2 greater ∷ sequence 1 3 ∷ repeat 4 ∷ []) [] (a at 0 ∷ a at 0 ∷ [])
+    ∷ runBy2014 (empty ∷ align 0 ∷ terminal a ∷ indent 2 greater ∷ sequence 1 3 ∷ repeat 4 ∷ []) []
+    (a at 0 ∷ a at 0 ∷ [])
     (from 5 equal) (reads 2 0 (At 0) false 2)
     ∷ []

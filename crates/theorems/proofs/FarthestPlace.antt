@@ -45,6 +45,13 @@ unfolding largestWith
 with-both v [] places' = refl
 with-both v (w ∷ places) places' = with-both (max v w) places places'
 
+one-then-other :
+    {v w : ℕ} (m : ℕ) (places places' : List ℕ)
+    → v ≡ largestWith m places
+    → w ≡ largestWith v places'
+    → w ≡ largestWith m (places ++ places')
+one-then-other m places places' d e = e ∙ ap (λ (v : ℕ). largestWith v places') d ∙ sym (with-both m places places')
+
 -- Where none lies before the start, the start is the largest only if there is none.
 or-start : {start last : ℕ} (places : List ℕ) → Places start last places → largestWith start places ≡ largestOr start places
 unfolding largestWith
@@ -78,14 +85,14 @@ module _ {ℓ κ} (D : Domain {ℓ, κ}) (reading : Reading) (nodes rules : List
   runs-largest (terminal-aligned n i) m = refl
   runs-largest (terminal-fails h) m = refl
   runs-largest (rule d) m = runs-largest d m
-  runs-largest (sequence d e) m = runs-largest e (far d m) ∙ ap (λ (v : ℕ). largestWith v (tries e)) (runs-largest d m) ∙ sym (with-both m (tries d) (tries e))
+  runs-largest (sequence d e) m = one-then-other m (tries d) (tries e) (runs-largest d m) (runs-largest e (far d m))
   runs-largest (sequence-fails d) m = runs-largest d m
   runs-largest (choice-first d) m = runs-largest d m
-  runs-largest (choice-second d e) m = runs-largest e (far d m) ∙ ap (λ (v : ℕ). largestWith v (tries e)) (runs-largest d m) ∙ sym (with-both m (tries d) (tries e))
+  runs-largest (choice-second d e) m = one-then-other m (tries d) (tries e) (runs-largest d m) (runs-largest e (far d m))
   runs-largest (not d) m = runs-largest d m
   runs-largest (not-fails d) m = runs-largest d m
   runs-largest (repeat-ends d) m = runs-largest d m
-  runs-largest (repeat-again d e) m = runs-largest e (far d m) ∙ ap (λ (v : ℕ). largestWith v (tries e)) (runs-largest d m) ∙ sym (with-both m (tries d) (tries e))
+  runs-largest (repeat-again d e) m = one-then-other m (tries d) (tries e) (runs-largest d m) (runs-largest e (far d m))
   runs-largest (indent c d) m = runs-largest d m
   runs-largest (indent-fails c d) m = runs-largest d m
   runs-largest (indent-through c d) m = runs-largest d m

@@ -626,7 +626,8 @@ module _ {reading : Reading} {nodes rules words : List ℕ} {τ₀ n₀ : ℕ} {
       pub out-choice : kind ≡ 4 → Whole (Success u) c' l'
       out-choice p =
           let k = fourth p z in
-          out (Success u) 4 p (record { shown = k .shown; gives = made reading nodes rules words (give.choice-first (k .gives .derived)) (k .gives .looked); left = lists (k .left) })
+          out (Success u) 4 p
+          (record { shown = k .shown; gives = made reading nodes rules words (give.choice-first (k .gives .derived)) (k .gives .looked); left = lists (k .left) })
 
       pub out-not-fails : kind ≡ 5 → Whole (Failure (u .farthest)) c' l'
       out-not-fails p =
@@ -672,7 +673,9 @@ module _ {reading : Reading} {nodes rules words : List ℕ} {τ₀ n₀ : ℕ} {
 
       aligned : kind ≡ 9 → Here 9 (Success (alignedState reading s u)) c' l'
       unfolding childState
-      aligned p = let k = gave 9 p z in record { shown = k .shown; gives = made reading nodes rules words (give.align (k .gives .derived)) (k .gives .looked); left = lists (k .left) }
+      aligned p =
+          let k = gave 9 p z in
+          record { shown = k .shown; gives = made reading nodes rules words (give.align (k .gives .derived)) (k .gives .looked); left = lists (k .left) }
 
       pub out-align :
           (kind ≡ 0 → ⊥)

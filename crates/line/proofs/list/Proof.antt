@@ -68,11 +68,12 @@ returns-3 c =
     let counted = c .counted .ensures in
     let begins = ap (λ (s : Start). s .place) (c .before .before .before .before .before .start-at .ensures) in
     let leaves = list-leaves all before (c .before .before .before .before .before .start-at .ensures) (c .before .before .before .list .ensures .1 .0) in
-    let ran = c .before .before .before .list in (
+    let ran = c .before .before .before .list in
+    let placed = subst Placed (sym (counted .0)) (ran-placed _ _ _ _ _ _ (ran .result) begins (ran .ensures .1 .1)) in (
       ap (numbers 0) (counted .0) ∙ ran-numbers (ran .result) ∙ ap endAnswer listed,
       (
         counted .1 ∙ token-count all,
-        (counted .2 ∙ ap captureCount listed, (prepare .ensures .written, (leaves, subst Placed (sym (counted .0)) (ran-placed _ _ _ _ _ _ (ran .result) begins (ran .ensures .1 .1))))),
+        (counted .2 ∙ ap captureCount listed, (prepare .ensures .written, (leaves, placed))),
       ),
     )
 
