@@ -1,5 +1,7 @@
 // The state after an indent and after an align, from the one before it and the one that its child ended in; and the one behind
 // a child that failed.
+#![tactic(auto)]
+
 ghost use Rattle.std.specs.Prelude.{◌≡◌};
 ghost use Rattle.readings.specs.Readings.{reading_of};
 ghost use Rattle.after_child.specs.AfterChild.{left_state, aligned_state, failed_state};

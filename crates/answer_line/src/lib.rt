@@ -1,5 +1,7 @@
 // The lines that the programs print: that of an answer, from what a run answered, that of an entry (`entry`), and where the
 // farthest place is (`farthest`).
+#![tactic(auto)]
+
 pub mod entry;
 pub mod farthest;
 mod text;

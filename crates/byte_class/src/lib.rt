@@ -1,4 +1,6 @@
 // The class of a byte: the one match that decides break, tab, blank, single, digit, run byte, continuation byte or refusal.
+#![tactic(auto)]
+
 ghost use Rattle.std.specs.Prelude.{◌≡◌};
 ghost use Rattle.byte_class.specs.Bytes.{is_continuation, class_of};
 

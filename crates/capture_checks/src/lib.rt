@@ -1,4 +1,6 @@
 // Number 14 of a capture (02, Note 2), and where its tokens begin and end.
+#![tactic(auto)]
+
 ghost use Rattle.std.specs.Prelude.{◌≡◌, get_or};
 ghost use Rattle.capture_checks.specs.Fourteen.{token_offset, token_end, offsets_fall, fails14};
 

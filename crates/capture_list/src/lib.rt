@@ -1,5 +1,7 @@
 // The list of captures while a grammar is walked, four words a place: the count of captures, whether it is put back, whether
 // nothing is listed, one capture put at its place, and the words behind the list.
+#![tactic(auto)]
+
 ghost use Rattle.std.specs.Prelude.{◌≡◌};
 ghost use Rattle.capture_list.specs.Put.{one_more, puts_back, quiet_in, hushed, capture_put, cleared_from};
 

@@ -1,5 +1,6 @@
 // Columns, states, captures and readings: the types. An upper end is a column or without end; it stands inside the interval,
 // the interval inside the state, the state inside the outcome's Success case.
+#![tactic(auto)]
 
 // An upper end.
 #[derive(Drop)]

@@ -5,6 +5,8 @@
 // The file is words of two bytes, high byte first: the count of node words, the count of rule words, the count of tokens,
 // the start node, the mode, whether the captures are listed (0 or 1) and whether the reading is that of 2014 (0 or 1); then
 // the node words and the rule words. Every token is terminal 0 at column 0.
+#![tactic(auto)]
+
 use columns::{Interval, Reading, Start, Upper};
 use interpreter::Listed;
 use stored_cases::{least, load_16, pair, part};

@@ -1,6 +1,8 @@
 // The program `entries`: reads the grammar file `grammar.bin` and a report on standard input, and prints the entries of the
 // run, a line each behind two blanks for each entry around it, and then the line of the run. Where that failed, or left tokens,
 // a line more says where the farthest place is.
+#![tactic(auto)]
+
 ghost use Rattle.io.specs.Counts.{IsPrefixLen};
 
 // A file or report that fills its buffer of 65,536 bytes is over length.

@@ -1,4 +1,6 @@
 // Fields by their offset: a one-byte tag, a two-byte length (high byte first), the value.
+#![tactic(auto)]
+
 ghost use Rattle.std.specs.Prelude.{◌≡◌, ◌+◌, ◌≤◌, ◌<◌, length, get_or, drop};
 ghost use Rattle.file_fields.specs.Fields.{right_length};
 ghost use Rattle.file_fields.specs.Offsets.{length_at, value_at, next_at, offset_of, right_at};

@@ -1,4 +1,6 @@
 // The shape of a grammar file: its fields by count and offset, and the first of numbers 1 to 5 that fails.
+#![tactic(auto)]
+
 mod runs;
 
 ghost use Rattle.std.specs.Prelude.{◌≡◌};

@@ -1,4 +1,6 @@
 // The table and the rule list that fields of a grammar file stand for: checked (numbers 3 to 5) and written.
+#![tactic(auto)]
+
 ghost use Rattle.std.specs.Prelude.{◌≡◌, ◌++◌, map, ◌+◌, ◌*◌, ◌≤◌, ◌<◌, length, get_or, drop};
 ghost use Rattle.table.specs.Checks.{table_answer, numbers};
 ghost use Rattle.file_tables.specs.Tables.{rule_node, words_of, too_short, written};

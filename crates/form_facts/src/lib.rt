@@ -1,4 +1,6 @@
 // Ford's rules for one form: its facts, and whether it is well formed, from what is known of its children.
+#![tactic(auto)]
+
 ghost use Rattle.std.specs.Prelude.{◌≡◌, ◌&&◌, ◌||◌, [], ◌∷◌, ℕ};
 ghost use Rattle.table.specs.Form.{decode, sequence as sequence-form, choice as choice-form};
 ghost use Rattle.form_facts.specs.Rules.{Fact, gives, passes};

@@ -1,4 +1,6 @@
 // The grammar file reader: from the bytes of a grammar file to its table, its rules and its start (numbers 1 to 6).
+#![tactic(auto)]
+
 ghost use Rattle.std.specs.Prelude.{◌≡◌, length};
 ghost use Rattle.table.specs.Answer.{given, afterwards};
 ghost use Rattle.grammar_file.specs.File.{numbers, contents, fields_of, file_answer, KeywordsStand};

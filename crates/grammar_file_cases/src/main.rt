@@ -8,6 +8,8 @@
 //   k  keyword x of the payload; K counts x down from the greatest number
 //   n  the name of rule x of the payload; N likewise
 //   t  check the table of the payload's x node words and y rule words
+#![tactic(auto)]
+
 ghost use Rattle.std.specs.Prelude.{◌≡◌};
 ghost use Rattle.grammar_file_cases.specs.Written.{nodes_written, rules_written};
 

@@ -1,5 +1,7 @@
 // The grammar file writer: from a table, its rules and a start to the bytes of a grammar file, with the keywords and rule
 // names of a file that lends them (02, Note 4).
+#![tactic(auto)]
+
 ghost use Rattle.std.specs.Prelude.{◌≡◌, true, false, ◌++◌, ◌+◌, ◌*◌, ◌/◌, ◌%◌, ◌≤◌, ◌<◌, length};
 ghost use Rattle.table.specs.Answer.{afterwards};
 ghost use Rattle.table.specs.Checks.{numbers as tableNumbers};

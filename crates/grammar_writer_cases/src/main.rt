@@ -9,6 +9,8 @@
 //   w  write the table and the start with the lending file, and print a sum of the bytes written
 //   W  the same, and print the bytes
 //   a  read the lending file and write what was read, with itself lending
+#![tactic(auto)]
+
 ghost use Rattle.std.specs.Prelude.{◌≡◌, length, drop};
 ghost use Rattle.table.specs.Words.{tabulate};
 ghost use Rattle.slices.specs.Filled.{filled as allAre};

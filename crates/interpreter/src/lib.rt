@@ -1,5 +1,7 @@
 // The interpreter: the outcome of a grammar on tokens from a start by a reading (numbers 3, 4, 5, 7, 11, 12 and 16), the same
 // with words lent to remember outcomes in, and the list of its captures (13).
+#![tactic(auto)]
+
 ghost use Rattle.std.specs.Prelude.{◌≡◌, length};
 ghost use Rattle.clauses.specs.RunAnswer.{run_answer};
 ghost use Rattle.clauses.specs.Remembering.{memory_after};

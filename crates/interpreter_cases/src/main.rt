@@ -12,6 +12,8 @@
 //   l  run it, and list the captures in the words lent
 //   m  run it, and remember outcomes in the words lent
 //   R, L, M  the same three by the reading of 2014
+#![tactic(auto)]
+
 use columns::{Reading, Start, State, Upper};
 use interpreter::{Listed, Ran};
 use slices::filled_32;

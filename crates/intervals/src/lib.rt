@@ -1,4 +1,6 @@
 // Column intervals: whether a token fits one, and what is left of one after a token or an indent.
+#![tactic(auto)]
+
 ghost use Rattle.std.specs.Prelude.{◌≡◌, ◌-◌, ◌<◌};
 ghost use Rattle.columns.specs.Relations.{any, amount as amountOf};
 ghost use Rattle.columns.specs.Intervals.{lower_end, meet_ends, less as lessEnd, inner_ends, outer_ends, lies as liesIn};

@@ -1,5 +1,7 @@
 // From the bytes of a grammar file and a report: the line that the program `reader` prints, and what `entries` prints its
 // lines from.
+#![tactic(auto)]
+
 ghost use Rattle.std.specs.Prelude.{◌≡◌, length};
 ghost use Rattle.interpreter.specs.Numbers.{numbers, list_numbers};
 ghost use Rattle.line.specs.Line.{start_at, line_answer, line_count, line_after};

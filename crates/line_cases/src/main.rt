@@ -5,6 +5,8 @@
 // label's length in one byte each, and ten numbers of three bytes each: five that tell how the file is stored
 // (`stored_cases::stored`), then the report. The kinds:
 //   l  the line of the file and the report
+#![tactic(auto)]
+
 use stored_cases::{MOST_RECORDS, byte, label, part, stored, triple};
 
 // The kinds of calls.

@@ -1,5 +1,7 @@
 // Outcomes remembered in a lent slice (02, Note 8), a slot of twelve words each: looked up by all that an outcome hangs on,
 // and kept in place of what the slot held. A slice of fewer words has no slot: nothing is kept in it, and nothing found.
+#![tactic(auto)]
+
 ghost use Rattle.std.specs.Prelude.{◌≡◌, ◌+◌, ◌≤◌, length};
 ghost use Rattle.memory.specs.Memory.{slot_length, end_word, marks, slot_of, kept_for, upper_from, outcome_at};
 ghost use Rattle.memory.specs.Memory.{put_words, key_words, outcome_words, recalled, kept};

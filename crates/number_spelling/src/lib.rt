@@ -1,4 +1,6 @@
 // Spellings of numbers, and the terminal of a spelling: a keyword's, or one that no keyword has.
+#![tactic(auto)]
+
 ghost use Rattle.std.specs.Prelude.{◌≡◌, cond, ◌+◌, ◌≤◌, length, drop};
 ghost use Rattle.number_spelling.specs.Number.{is_digit, is_number, unsigned, after_digits};
 

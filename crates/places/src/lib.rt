@@ -1,4 +1,6 @@
 // Where the next token of a report stands, and the bytes of a token.
+#![tactic(auto)]
+
 mod classes;
 
 ghost use Rattle.std.specs.Prelude.{◌≡◌, take, drop};

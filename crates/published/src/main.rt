@@ -6,6 +6,8 @@
 //   r  run a table: the parts are node words and rule words of two bytes and token words of four
 //   R  the same by the reading of 2014
 //   l  the line of a grammar file and a report, the first two parts; no start is told
+#![tactic(auto)]
+
 use columns::Reading;
 use stored_cases::{MOST_RECORDS, byte, label, part, triple};
 

@@ -1,4 +1,6 @@
 // The program: reads the grammar file `grammar.bin` and a report on standard input, and prints the line of the run.
+#![tactic(auto)]
+
 ghost use Rattle.io.specs.Counts.{IsPrefixLen};
 
 // A file or report that fills its buffer of 65,536 bytes is over length.

@@ -1,5 +1,7 @@
 // The reading of a run (02, Note 5), and what it decides: the relation that an indent is walked by, and the flag that an
 // align hands on. A walk has it as a flag, set for 2014, and so has the C interface.
+#![tactic(auto)]
+
 ghost use Rattle.std.specs.Prelude.{◌≡◌};
 ghost use Rattle.clauses.specs.Clauses.{handed_on};
 ghost use Rattle.readings.specs.Readings.{reading_of, in_force};

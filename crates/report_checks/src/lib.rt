@@ -1,4 +1,6 @@
 // The checks that a scan and a step begin with: 1 to 5 of the grammar file and 8 of the report.
+#![tactic(auto)]
+
 ghost use Rattle.std.specs.Prelude.{◌≡◌};
 ghost use Rattle.byte_class.specs.Bytes.{class_of};
 ghost use Rattle.report_checks.specs.Report.{refused_class, fails8};

@@ -1,5 +1,7 @@
 // What the C interface reports of an answer: its number, and the words of a read, a written file, a scan, a run, a run that
 // lists and a shown text. The exported functions hand on to these what a part answered.
+#![tactic(auto)]
+
 ghost use Rattle.std.specs.Prelude.{◌≡◌, ℕ, ◌+◌, ◌*◌};
 ghost use Rattle.grammar_file.specs.File.{numbers as fileNumbers};
 ghost use Rattle.grammar_writer.specs.Written.{numbers as writtenNumbers};

@@ -1,5 +1,7 @@
 // The C interface: the four parts, the writer of grammar files, captures and what is shown for them, the program's line and
 // the names of a file, over plain slices. `include/saktroum.h` declares it for C.
+#![tactic(auto)]
+
 ghost use Rattle.std.specs.Prelude.{◌≡◌, length};
 ghost use Rattle.table.specs.Answer.{afterwards};
 ghost use Rattle.grammar_file.specs.File.{fields_of, node_table, rule_list, read_answer, keyword_bytes, name_bytes};

@@ -1,4 +1,6 @@
 // The step of the report scanner: from a position in a report to its next token (numbers 1 to 5, 8 and 9).
+#![tactic(auto)]
+
 mod terminals;
 
 ghost use Rattle.std.specs.Prelude.{◌≡◌, ◌≤◌};

@@ -10,6 +10,8 @@
 //   o  the same, where x counts down from the greatest offset
 //   c  the same, where y counts down from the greatest column
 //   v  step x of a scanner's value, counted from 0
+#![tactic(auto)]
+
 ghost use Rattle.std.specs.Prelude.{◌≡◌, false, ◌&&◌, ◌⊎◌, ◌≤◌};
 ghost use Rattle.scanner_cases.specs.Handing.{is_token, is_word, are_words, holds_at, Walked};
 

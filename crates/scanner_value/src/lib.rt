@@ -1,5 +1,7 @@
 // The scanner value: a report with the offset and column reached and whether this line has had a token, and thin functions
 // over it.
+#![tactic(auto)]
+
 ghost use Rattle.std.specs.Prelude.{◌≡◌, false};
 ghost use Rattle.scanner.specs.Steps.{position, numbers, step_answer, standing};
 ghost use Rattle.scanner_value.specs.Nth.{nth_answer};

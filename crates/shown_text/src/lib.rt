@@ -1,4 +1,6 @@
 // The text shown for a capture, and the numbers before it (02, Note 2).
+#![tactic(auto)]
+
 ghost use Rattle.std.specs.Prelude.{◌≡◌, ◌+◌, ◌-◌, ◌≤◌, ◌<◌, length, drop};
 ghost use Rattle.file_fields.specs.Offsets.{offset_of, value_at};
 ghost use Rattle.grammar_file.specs.File.{most_keywords};

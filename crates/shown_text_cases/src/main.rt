@@ -6,6 +6,8 @@
 // tell how the file is stored (`stored_cases::stored`), then the report, then the tokens. A token word has four bytes. The
 // kinds:
 //   s  the number for the text shown for the capture, or where the text lies; then the text
+#![tactic(auto)]
+
 use columns::Capture;
 use shown_text::ShownPart;
 use stored_cases::{

@@ -1,5 +1,7 @@
 // What programs and the C interface ask of slices: the first bytes or tokens, bytes put into a lent slice, and whether
 // words are still the marker that they were set to.
+#![tactic(auto)]
+
 ghost use Rattle.std.specs.Prelude.{◌≡◌, ◌*◌, length, take, drop};
 ghost use Rattle.slices.specs.Copied.{copied, placed};
 ghost use Rattle.slices.specs.Filled.{filled};

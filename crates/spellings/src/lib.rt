@@ -1,4 +1,6 @@
 // The rules of keywords and rule names: number 2.
+#![tactic(auto)]
+
 ghost use Rattle.std.specs.Prelude.{◌≡◌, not, true, false, ◌<◌, ◌-◌, min, [], length, get_or};
 ghost use Rattle.table.specs.Every.{every};
 ghost use Rattle.byte_class.specs.Bytes.{is_single};

@@ -8,6 +8,8 @@
 // (`label`, then each part, then the call, each from the index on that the one before answered), an arm for each kind, and
 // what it prints of an answer; of a kind that it does not know it prints `no such call`. Cases are added to a file by its
 // script under `cases/`; a new call is an arm more in the program over that crate.
+#![tactic(auto)]
+
 ghost use Rattle.std.specs.Prelude.{◌-◌, ◌≤◌, ◌<◌, min, ◌≡◌, length, take, drop, get_or};
 ghost use Rattle.std.proofs.Math.Seq.{paste};
 ghost use Rattle.io.specs.Counts.{IsPrefixLen};

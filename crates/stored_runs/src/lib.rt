@@ -1,5 +1,7 @@
 // From stored bytes to runs: the start that a header tells of, the run of a stored table, and what it ended in, printed;
 // and the program's line of a grammar file and a report.
+#![tactic(auto)]
+
 pub mod remembering;
 
 ghost use Rattle.std.specs.Prelude.{◌≡◌, length};

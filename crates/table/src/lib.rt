@@ -1,5 +1,7 @@
 // The grammar table: its limits and those of tokens, and whether two lent slices of words are a table and its rules
 // (numbers 3, 4 and 5).
+#![tactic(auto)]
+
 ghost use Rattle.std.specs.Prelude.{◌≡◌, ◌&&◌};
 ghost use Rattle.table.specs.Checks.{numbers, table_answer, right_words, fails3, fails4, fails5};
 

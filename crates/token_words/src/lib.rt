@@ -1,4 +1,6 @@
 // The whole scan: the words of all tokens of a report (numbers 1 to 5 and 8 to 10).
+#![tactic(auto)]
+
 mod index;
 
 ghost use Rattle.std.specs.Prelude.{◌≡◌, ◌||◌, ltb, ◌*◌, ◌≤◌, length};

@@ -1,5 +1,7 @@
 // The walk of a grammar over tokens from a start by a reading, with the list of its captures: the numbers 3, 4, 5, 7, 11, 12
 // and 16, then the outcome. A run and a run that lists are made of it.
+#![tactic(auto)]
+
 mod cycle;
 mod remembering;
 mod states;

@@ -1,4 +1,6 @@
 // Ford's well-formedness of a table: a verdict on a grammar before it runs (numbers 3, 4, 5 and 7).
+#![tactic(auto)]
+
 mod cells;
 mod facts;
 mod well;

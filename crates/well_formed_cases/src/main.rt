@@ -6,6 +6,8 @@
 // is made again, the node words, the rule words, and how many bytes the payload has in common with the
 // one before it, at the start of both. The payload is the node words, then the rule words. The kinds:
 //   c  check the table
+#![tactic(auto)]
+
 ghost use Rattle.std.specs.Prelude.{◌≡◌, ◌||◌, eqb, length};
 ghost use Rattle.well_formed.specs.Check.{check_answer, numbers};
 ghost use Rattle.stored_cases.specs.Numbers.{first_pairs, pairs};
