@@ -1,0 +1,13 @@
+-- `form_facts::choice` meets its contract.
+use borrow.Author.Rules.{rules}
+use mathlib.Core.Path.{refl, ◌∙◌}
+use Rattle.form_facts.specs.Rules.{gives}
+use Rattle.form_facts.proofs.FactLaws.{by_fact}
+use Rattle.form_facts.proofs.choice.Goals as goal
+
+pub returns : goal.returns
+unfolding gives
+returns c =
+    by_fact _ _ (c.facts_of.ensures.nothing_value ∙ rw (c.either.ensures, c.both.ensures) refl)
+    (c.facts_of.ensures.something_value ∙ rw (c.either-2.ensures, c.both-2.ensures) refl)
+    (c.facts_of.ensures.fails_value ∙ c.both-3.ensures)

@@ -1,0 +1,8 @@
+-- `slices::copy` meets its contract.
+use borrow.Author.Rules.{rules}
+use mathlib.Core.Path.{refl, ◌∙◌}
+use Rattle.slices.proofs.CopyLaws.{copy_front}
+use Rattle.slices.proofs.copy.Goals as goal
+
+pub returns : goal.returns
+returns c = (refl, c.put.ensures ∙ copy_front c.args.bytes.now c.args.out.now)

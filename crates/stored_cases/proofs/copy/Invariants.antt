@@ -1,0 +1,12 @@
+-- `stored_cases::copy` meets its contract.
+use native.Mathlib.Omega.{arith}
+use Prim.Native.Nat.{◌-◌}
+use borrow.Author.Rules.{rules}
+use Rattle.stored_cases.proofs.Laws.{Copied, copied_none, copied_more, copied_all}
+use Rattle.stored_cases.proofs.copy.Given as goal
+
+abbrev pub invariant-loop-i : goal.invariant-loop-i
+invariant-loop-i l = Copied (l.cases) l.at l.initial.bytes l.from l.n l.bytes l.i
+
+abbrev pub decreases-loop-i : goal.decreases-loop-i
+decreases-loop-i l = l.n - l.i

@@ -1,0 +1,7 @@
+-- `stored_cases::fill` meets its contract.
+use borrow.Author.Rules.{rules}
+use Rattle.stored_cases.proofs.Laws.{fills}
+use Rattle.stored_cases.proofs.fill.Goals as goal
+
+pub returns : goal.returns
+returns c = fills _ _ _ _ _ c.room_of.ensures c.count_here-n.ensures c.copy.ensures

@@ -1,0 +1,47 @@
+-- `well_formed::facts::pass` meets its contract.
+use mathlib.Core.Path.{◌≡◌, refl, ap, ◌∙◌}
+use native.Mathlib.Omega.{arith}
+use Prim.Native.Nat.{◌-◌, ◌≤◌}
+use lib.ListN.{length}
+use Rattle.well_formed.specs.InternalPasses.{three, FactsPass}
+use Rattle.well_formed.proofs.PassLaws.{started, looked_also}
+use Rattle.well_formed.proofs.CellLaws.{length_learnt}
+use Rattle.well_formed.proofs.StepLaws.{facts_turn}
+use Rattle.well_formed.proofs.facts.pass.Goals as goal
+
+pub loop-n-init : goal.loop-n-init
+loop-n-init c = (omega arith, refl, refl, refl, started _ _ _ _ c.requires.true_ones _ (λ k l. omega arith))
+
+pub loop-n-preserved : goal.loop-n-preserved
+loop-n-preserved c =
+    let loop-test =
+    c.loop-n-test in
+    let loop =
+    c.loop-n in
+    let start =
+    c in (
+      omega arith,
+      ap length c.learn-first.ensures.cells_after ∙ length_learnt _ _ _ ∙ loop.inv.1,
+      ap length c.learn-second.ensures.cells_after ∙ length_learnt _ _ _ ∙ loop.inv.2,
+      ap length c.learn-third.ensures.cells_after ∙ length_learnt _ _ _ ∙ loop.inv.3,
+      facts_turn start.args.nodes.now start.args.rules.now
+          (three start.args.nothing.now start.args.something.now start.args.fails.now) loop.nothing
+          loop.something loop.fails loop.n loop.found loop.inv.4 c.gives-new.result c.gives-new.ensures
+          loop-test.taken (omega (arith, loop-test.taken, loop.inv.1, start.pre.room_nothing))
+          (omega (arith, loop-test.taken, loop.inv.2, start.pre.room_something))
+          (omega (arith, loop-test.taken, loop.inv.3, start.pre.room_fails)) c.learn-first.ensures.cells_after
+          c.learn-second.ensures.cells_after c.learn-third.ensures.cells_after c.learn-first.ensures.value c.learn-second.ensures.value c.learn-third.ensures.value
+          c.either.ensures c.either-in-loop-n.ensures c.either-found.ensures,
+    )
+
+pub shape_of-nothing : goal.shape_of-nothing
+shape_of-nothing c = c.loop-n.invariant.1
+
+pub shape_of-something : goal.shape_of-something
+shape_of-something c = c.loop-n.invariant.2
+
+pub shape_of-fails : goal.shape_of-fails
+shape_of-fails c = c.loop-n.invariant.3
+
+pub returns : goal.returns
+returns c = looked_also _ _ _ (λ k l. omega arith) c.loop-n.invariant.4

@@ -1,0 +1,17 @@
+-- `well_formed::well::find` meets its contract.
+use mathlib.Core.Path.{◌≡◌, refl}
+use native.Mathlib.Omega.{arith}
+use lib.ListN.{length}
+use borrow.Author.Tests.{not-true, not-false}
+use Rattle.table.specs.Form.{node_count}
+use Rattle.well_formed.specs.InternalPasses.{well_cells, WellReady}
+use Rattle.well_formed.proofs.FixpointLaws.{missing}
+use Rattle.well_formed.proofs.DecidedLaws.{nodes_below, node_at}
+use Rattle.well_formed.proofs.PassLaws.{last_pass, fewer}
+use Rattle.well_formed.proofs.well.find.Given as goal
+
+abbrev pub invariant-loop : goal.invariant-loop
+invariant-loop l = WellReady l.nodes l.rules l.nothing l.well × (length l.well ≡ length l.initial.well)
+
+abbrev pub decreases-loop : goal.decreases-loop
+decreases-loop l = missing (well_cells l.nodes l.rules l.well) (nodes_below (node_count l.nodes))
