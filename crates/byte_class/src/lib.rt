@@ -4,7 +4,7 @@
 ghost use Rattle.std.specs.Prelude.{◌≡◌};
 ghost use Rattle.byte_class.specs.Bytes.{is_continuation, class_of};
 
-#[derive(Drop)]
+#[derive(Clone, Copy)]
 pub enum Class {
     Break,
     Tab,

@@ -14,14 +14,14 @@ use spellings::{right_spellings, singles_alone};
 use table::{Checked, refusals};
 
 // The fields of one tag: the offset of the first, and how many there are.
-#[derive(Drop)]
+#[derive(Clone, Copy)]
 pub struct Group {
     pub at: usize,
     pub count: usize,
 }
 
 // The fields of a file; the keywords stand behind tag 1's four bytes.
-#[derive(Drop)]
+#[derive(Clone, Copy)]
 pub struct Shape {
     pub right: bool,
     pub keywords: usize,
@@ -31,7 +31,7 @@ pub struct Shape {
 }
 
 // The shape of a file that passes 1 to 5, or the number of the first that fails.
-#[derive(Drop)]
+#[derive(Clone, Copy)]
 pub enum Inspected {
     Whole(Shape),
     Refused(u8),

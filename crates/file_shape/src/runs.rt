@@ -6,7 +6,7 @@ use crate::{FIRST_KEYWORD, Group, Shape};
 use file_fields::{next_at, right_at, tags};
 
 // How many fields of one tag stand in a row, and where they end.
-#[derive(Drop)]
+#[derive(Clone, Copy)]
 struct Run {
     count: usize,
     end: usize,

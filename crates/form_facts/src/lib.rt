@@ -9,7 +9,7 @@ ghost use Rattle.form_facts.specs.OneForm.{two, fact_of};
 use table::kinds;
 
 // What an expression may do: succeed reading nothing, succeed reading something, fail.
-#[derive(Drop)]
+#[derive(Clone, Copy)]
 pub struct Facts {
     pub nothing: bool,
     pub something: bool,

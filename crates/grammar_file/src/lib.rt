@@ -15,7 +15,7 @@ use table::refusals;
 
 // What a file was read as: the counts of nodes, rules and keywords and the start, or the number of the first check
 // that fails.
-#[derive(Drop)]
+#[derive(Clone, Copy)]
 pub enum FileRead {
     Read {
         nodes: usize,

@@ -20,7 +20,7 @@ use slices::{copy, put};
 use table::{Checked, refusals};
 
 // What was written: the number of bytes of the file, or the number of the first check that fails.
-#[derive(Drop)]
+#[derive(Clone, Copy)]
 pub enum FileWritten {
     Bytes(usize),
     Refused(u8),

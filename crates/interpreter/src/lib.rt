@@ -14,7 +14,7 @@ use walk::{Counting, Walk};
 
 // What a run answers: success with the number of tokens read and the state, failure with the farthest place, the number of the
 // first check that fails, or the lowest node that is not well formed (7).
-#[derive(Drop)]
+#[derive(Clone, Copy)]
 pub enum Ran {
     Success(u32, State),
     Failure(u32),
@@ -23,7 +23,7 @@ pub enum Ran {
 }
 
 // What a run that lists answers: the same, a success with the number of its captures.
-#[derive(Drop)]
+#[derive(Clone, Copy)]
 pub enum Listed {
     Success(u32, State, usize),
     Failure(u32),

@@ -17,7 +17,7 @@ use token_words::Scanned;
 use well_formed::Verdict;
 
 // What a run that lists answered, with the numbers of tokens and of captures that stand in the lent words.
-#[derive(Drop)]
+#[derive(Clone, Copy)]
 pub struct Entries {
     pub answer: Ran,
     pub tokens: usize,
@@ -25,7 +25,7 @@ pub struct Entries {
 }
 
 // What the parts before a run answer: the counts and the start, or the number of the first check that fails.
-#[derive(Drop)]
+#[derive(Clone, Copy)]
 enum Parts {
     Ready {
         nodes: usize,

@@ -12,7 +12,7 @@ use columns::{Interval, Outcome, State, Upper};
 pub const SLOT: usize = 12;
 
 // What is found: an outcome, or nothing.
-#[derive(Drop)]
+#[derive(Clone, Copy)]
 pub enum Known {
     Is(Outcome),
     Nothing,

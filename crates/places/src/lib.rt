@@ -15,14 +15,14 @@ use classes::{column_by, passed_by, run_class, run_width};
 const LAST: u32 = 4294967295;
 
 // An offset with its column.
-#[derive(Drop)]
+#[derive(Clone, Copy)]
 struct Spot {
     at: usize,
     column: u32,
 }
 
 // A token's place, if there is one, and the offset, column and mark behind it.
-#[derive(Drop)]
+#[derive(Clone, Copy)]
 pub struct Found {
     pub any: bool,
     pub ends: bool,

@@ -14,7 +14,7 @@ use table::refusals;
 const BYTES: usize = 65535;
 
 // How many keywords a grammar file has, or the number of the first check that fails.
-#[derive(Drop)]
+#[derive(Clone, Copy)]
 pub enum Checked {
     Keywords(usize),
     Refused(u8),

@@ -21,7 +21,7 @@ use terminals::terminal;
 const LAST_STEP: u32 = 524280;
 
 // What a step hands out.
-#[derive(Drop)]
+#[derive(Clone, Copy)]
 pub enum Handed {
     Token {
         terminal: u32,
@@ -34,7 +34,7 @@ pub enum Handed {
 }
 
 // What a step hands out, and the offset, column and mark that it reaches.
-#[derive(Drop)]
+#[derive(Clone, Copy)]
 pub struct Step {
     pub handed: Handed,
     pub at: usize,

@@ -46,7 +46,7 @@ const FEW: usize = 24;
 const MOST_HANDED: usize = 5000;
 
 // How many tokens were handed out, whether they are those of the scan, and the last step.
-#[derive(Drop)]
+#[derive(Clone, Copy)]
 struct Walk {
     count: usize,
     same: bool,

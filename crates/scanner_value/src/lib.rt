@@ -8,7 +8,7 @@ ghost use Rattle.scanner_value.specs.Nth.{nth_answer};
 
 use scanner::Handed;
 
-#[derive(Drop)]
+#[derive(Clone, Copy)]
 pub struct Scanner<'a> {
     pub report: &'a [u8],
     pub at: usize,

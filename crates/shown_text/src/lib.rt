@@ -15,7 +15,7 @@ use run_limits::tokens_wrong;
 use table::refusals;
 
 // Where the text for a capture lies, so many bytes from an offset on, or the number of the first check that fails.
-#[derive(Drop)]
+#[derive(Clone, Copy)]
 pub enum ShownPart {
     InReport { offset: usize, length: usize },
     InFile { offset: usize, length: usize },

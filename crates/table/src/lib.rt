@@ -27,7 +27,7 @@ pub const TOKENS: usize = 4096;
 pub const LAST_COLUMN: u32 = 65535;
 
 // Whether a table and its rules pass 3, 4 and 5, or the number of the first that fails.
-#[derive(Drop)]
+#[derive(Clone, Copy)]
 pub enum Checked {
     Passes,
     Refused(u8),

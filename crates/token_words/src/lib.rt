@@ -25,14 +25,14 @@ use spellings::{key, same};
 use table::{refusals, terminals};
 
 // How many tokens were written, or the number of the first check that fails.
-#[derive(Drop)]
+#[derive(Clone, Copy)]
 pub enum Scanned {
     Tokens(usize),
     Refused(u8),
 }
 
 // How many tokens a report has, and whether the column of one is over the last.
-#[derive(Drop)]
+#[derive(Clone, Copy)]
 struct Tally {
     count: usize,
     over: bool,

@@ -24,7 +24,7 @@ use well_formed::Verdict;
 
 // What a walk gives: success with the state, failure with the farthest place, the number of the first check that fails, or the
 // lowest node that is not well formed (7).
-#[derive(Drop)]
+#[derive(Clone, Copy)]
 pub enum Walk {
     Success(State),
     Failure(u32),
@@ -33,7 +33,7 @@ pub enum Walk {
 }
 
 // What a walk that lists gives: the same, a success with the number of captures.
-#[derive(Drop)]
+#[derive(Clone, Copy)]
 pub enum Counting {
     Success(State, usize),
     Failure(u32),
@@ -42,7 +42,7 @@ pub enum Counting {
 }
 
 // What a walk from a start gave: its outcome, and the number of captures that it lists.
-#[derive(Drop)]
+#[derive(Clone, Copy)]
 struct Whole {
     outcome: Outcome,
     count: usize,

@@ -15,7 +15,7 @@ use table::Checked;
 
 // What the check answers: the grammar passes, the number of the first of 3, 4 and 5 that fails, or the lowest node that is
 // not well formed (7).
-#[derive(Drop)]
+#[derive(Clone, Copy)]
 pub enum Verdict {
     Passes,
     Refused(u8),

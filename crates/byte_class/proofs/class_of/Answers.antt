@@ -105,12 +105,12 @@ returns-in-48-to-57 c =
 
 pub returns-in-128-to-191 : goal.returns-in-128-to-191
 unfolding is_continuation
-returns-in-128-to-191 c = sym (continuation_class c.args.b (between c.args.b 128 191 (past c.args.b 127 c.if-b-lt127.false c.in-128-to-191.in_default-own.rest.0.1) (up_to c.args.b 191 c.in-128-to-191.if-b-lt192-own.true)))
+returns-in-128-to-191 c = sym (continuation_class c.args.b (between c.args.b 128 191 (past c.args.b 127 c.in-128-to-191.if-b-lt127-own.false c.in-128-to-191.in_default-own.rest.0.1) (up_to c.args.b 191 c.in-128-to-191.if-b-lt192-own.true)))
 
 pub returns-in_default : goal.returns-in_default
 returns-in_default c =
     plain c.args.b false
-    (past c.args.b 32 c.if-b-lt32.false c.in_default.in_default-own.rest.0.0.1, omega arith, omega arith, omega arith, omega arith, omega arith) c.in_default.in_default-own.rest.1
+    (past c.args.b 32 c.in_default.if-b-lt32-own.false c.in_default.in_default-own.rest.0.0.1, omega arith, omega arith, omega arith, omega arith, omega arith) c.in_default.in_default-own.rest.1
     (below c.args.b 48 57 (omega arith)) (below c.args.b 128 191 (omega arith))
 
 pub returns-in_default-2 : goal.returns-in_default-2
@@ -133,11 +133,11 @@ returns-in-58 c = lone _ c.in-58.is
 
 pub returns-in-58-2 : goal.returns-in-58-2
 unfolding is_single class_of
-returns-in-58-2 c = paired _ 40 refl refl c.if-b-lt40.false c.in-58.if-b-lt42-own.true
+returns-in-58-2 c = paired _ 40 refl refl c.in-58.if-b-lt40-own.false c.in-58.if-b-lt42-own.true
 
 pub returns-in-58-3 : goal.returns-in-58-3
 unfolding is_single class_of
-returns-in-58-3 c = paired _ 58 refl refl c.if-b-lt58.false c.in-58.if-b-lt60-own.true
+returns-in-58-3 c = paired _ 58 refl refl c.in-58.if-b-lt58-own.false c.in-58.if-b-lt60-own.true
 
 pub returns-in-13 : goal.returns-in-13
 unfolding is_single class_of

@@ -32,7 +32,7 @@ pub returns-then-file-at-3 : goal.returns-then-file-at-3
 unfolding right_at
 returns-then-file-at-3 c =
     rw (
-      le-leb (c.args.at + 3 + c.length_at-n c.args.file.now c.args.at)
+      le-leb (c.args.at + 3 + length_at c.args.file.now c.args.at)
           (length c.args.file.now) (omega (arith, c.length_at-n.ensures)),
       ne_eqb _ _ c.if-file-at-3.true,
     ) refl
@@ -41,7 +41,7 @@ pub returns : goal.returns
 unfolding right_at
 returns c =
     rw (
-      le-leb (c.args.at + 3 + c.length_at-n c.args.file.now c.args.at)
+      le-leb (c.args.at + 3 + length_at c.args.file.now c.args.at)
           (length c.args.file.now) (omega (arith, c.length_at-n.ensures)),
       eq-eqb _ _ c.if-file-at-3.false,
       ← c.length_at-n.ensures,

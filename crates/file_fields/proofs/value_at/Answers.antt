@@ -23,7 +23,7 @@ returns-then-file-at c = sym (past_end c.args.file.now c.args.at (omega arith))
 pub returns-then-n-file : goal.returns-then-n-file
 unfolding value_at
 returns-then-n-file c =
-    let e : c.args.at + 3 + c.length_at-n.result - (c.args.at + 3) ≡ c.length_at-n c.args.file.now c.args.at =
+    let e : c.args.at + 3 + c.length_at-n.result - (c.args.at + 3) ≡ length_at c.args.file.now c.args.at =
     omega (arith, c.length_at-n.ensures) in
     ap (λ (n : ℕ). take n (drop (c.args.at + 3) c.args.file.now)) e
 

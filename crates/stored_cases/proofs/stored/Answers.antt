@@ -5,6 +5,11 @@ use Rattle.stored_cases.proofs.stored.Goals as goal
 
 pub returns : goal.returns
 returns c =
-    puts _ _ _ _ c.triple.ensures.0 c.triple-head.ensures.0
-    c.triple-2.ensures.0 c.triple-middle.ensures.0 c.triple-3.ensures.0
-    c.fill-next.ensures c.repeat.ensures c.fill.ensures
+    record {
+      value = (puts _ _ _ _ c.triple.ensures.0 c.triple-head.ensures.0
+          c.triple-2.ensures.0 c.triple-middle.ensures.0 c.triple-3.ensures.0
+          c.fill-next.ensures c.repeat.ensures c.fill.ensures).0;
+      bytes_after = (puts _ _ _ _ c.triple.ensures.0 c.triple-head.ensures.0
+          c.triple-2.ensures.0 c.triple-middle.ensures.0 c.triple-3.ensures.0
+          c.fill-next.ensures c.repeat.ensures c.fill.ensures).1;
+    }

@@ -1,0 +1,17 @@
+-- `file_tables::write_nodes` meets its contract.
+use native.Mathlib.Omega.{arith}
+use Prim.Native.Nat.{ℕ, ◌-◌, ◌*◌, ◌≤◌}
+use mathlib.Core.Path.{◌≡◌, refl, ap, ◌∙◌}
+use mathlib.Core.List.{◌++◌}
+use lib.ListN.{length, drop, length-set}
+use Rattle.table.specs.Words.{each_words}
+use Rattle.file_tables.specs.Tables.{words_of}
+use Rattle.file_fields.specs.Offsets.{value_at, offset_of, fields_from}
+use Rattle.file_tables.proofs.TableLaws.{node_next, four_same, offset_stepped}
+use Rattle.file_tables.proofs.write_nodes.Given as goal
+
+abbrev pub invariant-loop-i : goal.invariant-loop-i
+invariant-loop-i l = (l.i ≤ l.count) × (l.at ≡ offset_of l.file l.first l.i) × (l.out ≡ words_of (fields_from l.file l.first l.i) ++ drop (l.i * 4) l.initial.out) × (length l.out ≡ length l.initial.out)
+
+abbrev pub decreases-loop-i : goal.decreases-loop-i
+decreases-loop-i l = l.count - l.i

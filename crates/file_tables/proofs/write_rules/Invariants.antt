@@ -1,0 +1,17 @@
+-- `file_tables::write_rules` meets its contract.
+use native.Mathlib.Omega.{arith}
+use Prim.Native.Nat.{ℕ, ◌-◌, ◌≤◌}
+use mathlib.Core.Path.{◌≡◌, refl, ap, ◌∙◌}
+use mathlib.Core.List.{List, ◌++◌, map}
+use lib.ListN.{length, drop, get_or, length-set}
+use Rattle.file_tables.specs.Tables.{rule_node}
+use Rattle.file_fields.specs.Offsets.{offset_of, fields_from, value_at}
+use Rattle.file_fields.specs.Fields.{two_bytes}
+use Rattle.file_tables.proofs.TableLaws.{rule_next, offset_stepped}
+use Rattle.file_tables.proofs.write_rules.Given as goal
+
+abbrev pub invariant-loop-i : goal.invariant-loop-i
+invariant-loop-i l = (l.i ≤ l.count) × (l.at ≡ offset_of l.file l.first l.i) × (l.out ≡ map rule_node (fields_from l.file l.first l.i) ++ drop l.i l.initial.out) × (length l.out ≡ length l.initial.out)
+
+abbrev pub decreases-loop-i : goal.decreases-loop-i
+decreases-loop-i l = l.count - l.i

@@ -1,0 +1,8 @@
+-- `intervals::amount` meets its contract.
+use borrow.Author.Rules.{rules}
+use mathlib.Core.Path.{refl}
+use native.Mathlib.Omega.{arith}
+use Rattle.intervals.proofs.amount.Goals as goal
+
+pub returns-then-r-le-ANY : goal.returns-then-r-le-ANY
+returns-then-r-le-ANY c = omega (arith, c.if-r-le-ANY.true)

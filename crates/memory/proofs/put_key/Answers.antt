@@ -1,0 +1,9 @@
+-- `memory::put_key` meets its contract.
+use borrow.Author.Rules.{rules}
+use native.Mathlib.Omega.{arith}
+use lib.ListN.{length-set}
+use Rattle.memory.proofs.SlotLaws.{put_key}
+use Rattle.memory.proofs.put_key.Goals as goal
+
+pub returns : goal.returns
+returns c = put_key c.args.memory.now c.args.i _ _ _ _ _ _ c.marks_of.ensures c.end_word.ensures

@@ -1,0 +1,26 @@
+-- `spellings::all_spelled` meets its contract. The loop's invariant: `at` is the offset of field `i`, and
+-- the spellings before it are right.
+use Prim.Native.Nat.{◌-◌}
+use mathlib.Core.Path.{sym, ◌∙◌}
+use native.Mathlib.Omega.{arith}
+use borrow.Author.Tests.{not-true, not-false}
+use Rattle.spellings.specs.Spellings.{spelled}
+use Rattle.file_fields.proofs.Offsets.{length_spellings}
+use Rattle.spellings.proofs.SpellingLaws.{Passed, passed_none, passed_more, passed_fails, passed_all}
+use Rattle.spellings.proofs.all_spelled.Goals as goal
+
+pub loop-i-init : goal.loop-i-init
+loop-i-init c = passed_none
+
+pub returns-then-not-spelled : goal.returns-then-not-spelled
+returns-then-not-spelled c =
+    rw length_spellings (passed_fails c.loop-i.invariant c.loop-i-test.true c.spelling_at.ensures
+    (sym c.spelled.ensures ∙ not-true _ c.if-not-spelled.true-raw))
+
+pub loop-i-preserved : goal.loop-i-preserved
+loop-i-preserved c =
+    passed_more c.loop-i.invariant c.loop-i-test.true c.spelling_at.ensures
+    (sym c.spelled.ensures ∙ not-false _ c.if-not-spelled.false-raw) c.next_at-at.ensures
+
+pub returns : goal.returns
+returns c = rw length_spellings (passed_all c.loop-i.invariant c.loop-i-test.false)

@@ -1,0 +1,25 @@
+-- `spellings::distinct` meets its contract. The loop's invariant: `at` is the offset of field `j`, the
+-- spellings before it are distinct, and their keys are marked.
+use Prim.Native.Nat.{ℕ, ◌-◌, ◌<◌}
+use mathlib.Core.Path.{◌≡◌, sym, ap, ◌∙◌}
+use mathlib.Core.List.{List, []}
+use mathlib.Core.Bool.{Bool, not}
+use native.Mathlib.Omega.{arith}
+use borrow.Author.Tests.{not-true, not-false}
+use lib.ListN.{get_or}
+use Rattle.table.specs.Every.{every}
+use Rattle.table.proofs.Every.{every_same}
+use Rattle.file_fields.specs.Offsets.{spellings_from}
+use Rattle.spellings.specs.Spellings.{same_bytes, distinct}
+use Rattle.file_fields.proofs.Offsets.{length_spellings, spelling_from}
+use Rattle.spellings.proofs.SpellingLaws.{Passed, passed_none, passed_more, passed_fails, passed_all, here}
+use Rattle.spellings.proofs.KeyLaws.{Met, met_none, met_more, none_same}
+use Rattle.spellings.proofs.distinct.Given as goal
+
+abbrev pub invariant-loop-j : goal.invariant-loop-j
+invariant-loop-j l =
+    Passed l.file l.first l.count l.skip (differs (spellings_from l.file l.first l.count l.skip)) l.j l.at
+    × Met (spellings_from l.file l.first l.count l.skip) l.j l.met
+
+abbrev pub decreases-loop-j : goal.decreases-loop-j
+decreases-loop-j l = l.count - l.j
