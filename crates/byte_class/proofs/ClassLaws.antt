@@ -2,20 +2,12 @@
 use Prim.Native.Nat.{ℕ, ◌≤◌}
 use mathlib.Core.Path.{◌≡◌, refl, sym, ap, ◌∙◌}
 use mathlib.Core.Bool.{Bool, true, false, ◌&&◌}
-use mathlib.Core.List.{List}
 use lib.Dec.{leb}
 use native.Mathlib.Omega.{arith}
 use borrow.Author.Tests.{leb-true, le-ltb, le-leb, lt-leb, ne_eqb}
-use denote.Enum.Declared.{tag_of}
-use types.Run.{OneOf}
 use Rattle.byte_class.specs.Bytes.{is_single, is_continuation, class_of}
 use Rattle.byte_class.specs.declared.Class.{Class}
 use Rattle.byte_class.specs.declared.Class.TheVariants.{Break, Tab, Blank, Single, Digit, Run, Continuation, Refused}
-use Rattle.byte_class.specs.contracts.Class.{the_type}
-
--- The arm of the classes that no other arm names: their numbers are some of 0 to 7, in the order of `Class`.
-abbrev pub Others : List ℕ → Class → Type 0
-Others ks k = OneOf ks (tag_of the_type k)
 
 -- What holds of each of the eight holds of every class.
 pub each_class :

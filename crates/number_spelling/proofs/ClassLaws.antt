@@ -2,19 +2,18 @@
 use Prim.Native.Nat.{ℕ}
 use mathlib.Core.Path.{◌≡◌, refl, ap, ◌∙◌}
 use mathlib.Core.Bool.{Bool, false}
-use mathlib.Core.List.{[], ◌∷◌}
 use borrow.Author.Rules.{rules}
-use types.Run.{miss}
 use Rattle.byte_class.specs.Bytes.{class_of}
 use Rattle.byte_class.specs.declared.Class.{Class}
-use Rattle.byte_class.proofs.ClassLaws.{Others, each_class, by_class}
+use Rattle.byte_class.specs.declared.Class.TheVariants.{Digit}
+use Rattle.byte_class.proofs.ClassLaws.{each_class, by_class}
 use Rattle.number_spelling.specs.Number.{digit_class, is_digit}
 
-pub digit_others : (b : ℕ) {r : Class} → r ≡ class_of b → Others (0 ∷ 1 ∷ 2 ∷ 3 ∷ 5 ∷ 6 ∷ 7 ∷ []) r → false ≡ is_digit b
+pub digit_others : (b : ℕ) {r : Class} → r ≡ class_of b → (r ≡ Digit → ⊥) → false ≡ is_digit b
 unfolding is_digit
 digit_others b {r} e q =
-    each_class (λ k. Others (0 ∷ 1 ∷ 2 ∷ 3 ∷ 5 ∷ 6 ∷ 7 ∷ []) k → false ≡ digit_class k) (λ _. refl) (λ _. refl) (λ _. refl)
-    (λ _. refl) (λ h. absurd (miss (0 ∷ 1 ∷ 2 ∷ 3 ∷ 5 ∷ 6 ∷ 7 ∷ []) 4 tt h)) (λ _. refl) (λ _. refl) (λ _. refl) r q
+    each_class (λ k. (k ≡ Digit → ⊥) → false ≡ digit_class k) (λ _. refl) (λ _. refl) (λ _. refl)
+    (λ _. refl) (λ n. absurd (n refl)) (λ _. refl) (λ _. refl) (λ _. refl) r q
     ∙ ap digit_class e
 
 module _ (b : ℕ) {r k : Class} (e : r ≡ class_of b) (told : r ≡ k) where

@@ -4,7 +4,6 @@ use Prim.Native.Nat.{ℕ, ◌+◌, ◌≤◌}
 use mathlib.Core.Path.{◌≡◌, refl, sym, ap, ◌∙◌}
 use mathlib.Core.Bool.{Bool, true, false, cond, ◌&&◌, ◌||◌, true≢false, false≢true}
 use mathlib.Core.List.{List, [], ◌∷◌}
-use types.Run.{miss}
 use lib.Dec.{leb, ltb, eqb}
 use native.Mathlib.Nat.{add-zero}
 use native.Mathlib.Omega.{arith}
@@ -12,7 +11,7 @@ use borrow.Author.Rules.{rules}
 use Rattle.byte_class.specs.Bytes.{is_single, is_continuation, class_of}
 use Rattle.byte_class.specs.declared.Class.{Class}
 use Rattle.byte_class.specs.declared.Class.TheVariants.{Break, Tab, Blank, Single, Digit, Run, Continuation, Refused}
-use Rattle.byte_class.proofs.ClassLaws.{Others, each_class, continuation_class}
+use Rattle.byte_class.proofs.ClassLaws.{each_class, continuation_class}
 use Rattle.places.specs.Columns.{column_by, column_after}
 use Rattle.places.specs.Places.{run_class, in_run}
 use Rattle.places.specs.InternalFind.{passed_by, passed_over}
@@ -23,13 +22,13 @@ column_told told c w = sym w ∙ ap (λ (k : Class). column_by k c) (sym told)
 pub ruleset classes = (rules, column_told)
 
 -- Every class but Break, Tab and Continuation.
-abbrev advancing : List ℕ
-advancing = 2 ∷ 3 ∷ 4 ∷ 5 ∷ 7 ∷ []
+abbrev pub Advancing : Class → Type 0
+Advancing k = (k ≡ Break → ⊥) × (k ≡ Tab → ⊥) × (k ≡ Continuation → ⊥)
 
-pub column_others : (k : Class) (c : ℕ) → Others advancing k → c + 1 ≡ column_by k c
+pub column_others : (k : Class) (c : ℕ) → Advancing k → c + 1 ≡ column_by k c
 column_others k c =
-    each_class (λ k. Others advancing k → c + 1 ≡ column_by k c) (λ h. absurd (miss advancing 0 tt h)) (λ h. absurd (miss advancing 1 tt h))
-    (λ _. refl) (λ _. refl) (λ _. refl) (λ _. refl) (λ h. absurd (miss advancing 6 tt h)) (λ _. refl) k
+    each_class (λ k. Advancing k → c + 1 ≡ column_by k c) (λ h. absurd (h.0 refl)) (λ h. absurd (h.1 refl))
+    (λ _. refl) (λ _. refl) (λ _. refl) (λ _. refl) (λ h. absurd (h.2 refl)) (λ _. refl) k
 
 module _ (b : ℕ) {class : Class} (e : class ≡ class_of b) where
   pub column_found : (c : ℕ) {v : ℕ} → v ≡ column_by class c → v ≡ column_after b c

@@ -2,11 +2,8 @@
 use Rattle.number_spelling.proofs.ClassLaws.{classes, digit_others}
 use Rattle.number_spelling.proofs.is_digit.Goals as goal
 
-pub enum_told-1 : goal.enum_told-1
-enum_told-1 c = search classes
-
 pub returns-in-Digit : goal.returns-in-Digit
 returns-in-Digit c = search classes
 
 pub returns-in_default : goal.returns-in_default
-returns-in_default c = digit_others _ c.class_of-class.ensures c.in_default.in_default-own.keys2
+returns-in_default c = digit_others _ c.class_of-class.ensures c.in_default.not-Digit

@@ -64,29 +64,25 @@ empty s k h =
     (λ a. rw (drop-cons s k 0, ne_eqb k (length s) (omega arith)))
     (eq-or-lt_of_le h)
 
--- The digits behind a point.
-module _ (s : List ℕ) (whole end : ℕ) (h : whole < length s) (e : get_or s whole 0 ≡ 46) (d : Digits s (whole + 1) end) where
-  with_point : fraction (drop whole s) ≡ (digit_first (drop (whole + 1) s) && is_empty (drop end s))
+-- The digits behind a sign.
+module _ (s : List ℕ) (from whole : ℕ) (m : drop from s ≡ unsigned s) (d : Digits s from whole) where
+  no_whole : whole ≡ from → is_number s ≡ false
+  unfolding is_number
+  no_whole e = rw (← m, none s from whole d e)
+
+  with_whole : (whole ≡ from → ⊥) → is_number s ≡ fraction (drop whole s)
+  unfolding is_number
+  with_whole n = rw (← m, some s from whole d n, ← d.2)
+
+-- No byte or no point behind them.
+module _ (s : List ℕ) (whole : ℕ) where
+  no_rest : whole ≡ length s → fraction (drop whole s) ≡ true
   unfolding fraction
-  with_point = rw (drop-cons s whole 0, e, ← add-one whole, ← d.2)
+  no_rest e = rw (drop_of_length-le s {i = whole} (omega arith))
 
-  no_fraction : end ≡ whole + 1 → fraction (drop whole s) ≡ false
-  no_fraction p = rw (with_point, none s (whole + 1) end d p)
-
-  with_fraction : (end ≡ whole + 1 → ⊥) → fraction (drop whole s) ≡ eqb end (length s)
-  with_fraction n = rw (with_point, some s (whole + 1) end d n) (empty s end d.1)
-
--- The digits behind a point.
-module _ (s : List ℕ) (whole end : ℕ) (h : whole < length s) (e : get_or s whole 0 ≡ 46) (d : Digits s (whole + 1) end) where
-  with_point : fraction (drop whole s) ≡ (digit_first (drop (whole + 1) s) && is_empty (drop end s))
+  no_point : whole < length s → (get_or s whole 0 ≡ 46 → ⊥) → fraction (drop whole s) ≡ false
   unfolding fraction
-  with_point = rw (drop-cons s whole 0, e, ← add-one whole, ← d.2)
-
-  no_fraction : end ≡ whole + 1 → fraction (drop whole s) ≡ false
-  no_fraction p = rw (with_point, none s (whole + 1) end d p)
-
-  with_fraction : (end ≡ whole + 1 → ⊥) → fraction (drop whole s) ≡ eqb end (length s)
-  with_fraction n = rw (with_point, some s (whole + 1) end d n) (empty s end d.1)
+  no_point h n = rw (drop-cons s whole 0, ne_eqb _ 46 n)
 
 -- The digits behind a point.
 module _ (s : List ℕ) (whole end : ℕ) (h : whole < length s) (e : get_or s whole 0 ≡ 46) (d : Digits s (whole + 1) end) where

@@ -11,14 +11,8 @@ use Rattle.places.specs.Columns.{column_after, column_over}
 use Rattle.places.specs.Places.{in_run, run_length}
 use Rattle.places.proofs.ClassLaws.{run_found, run_width, width_most}
 use Rattle.places.proofs.FindLaws.{from_one, room_next, run_on, run_none, run_empty}
+use Rattle.places.proofs.run_end.Invariants.{Running}
 use Rattle.places.proofs.run_end.Goals as goal
-
--- The run and its last column, from what is left of it.
-abbrev Running : List ℕ → ℕ → ℕ → ℕ → ℕ → Type 0
-Running text first start at column =
-    Room text at column
-    × (first + run_length (drop first text) ≡ at + run_length (drop at text))
-    × (column_over (take (run_length (drop first text)) (drop first text)) start ≡ column_over (take (run_length (drop at text)) (drop at text)) column)
 
 module _ (text : List ℕ) (first start at column : ℕ) (r : Running text first start at column) where
   -- Nothing of the run is left.

@@ -13,6 +13,13 @@ use Rattle.places.proofs.ClassLaws.{run_found, run_width, width_most}
 use Rattle.places.proofs.FindLaws.{from_one, room_next, run_on, run_none, run_empty}
 use Rattle.places.proofs.run_end.Given as goal
 
+-- The run and its last column, from what is left of it.
+abbrev pub Running : List ℕ → ℕ → ℕ → ℕ → ℕ → Type 0
+Running text first start at column =
+    Room text at column
+    × (first + run_length (drop first text) ≡ at + run_length (drop at text))
+    × (column_over (take (run_length (drop first text)) (drop first text)) start ≡ column_over (take (run_length (drop at text)) (drop at text)) column)
+
 abbrev pub invariant-loop-at : goal.invariant-loop-at
 invariant-loop-at l = Running l.report l.first l.start l.at l.column
 

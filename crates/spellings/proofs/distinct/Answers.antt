@@ -14,11 +14,8 @@ use Rattle.spellings.specs.Spellings.{same_bytes, distinct}
 use Rattle.file_fields.proofs.Offsets.{length_spellings, spelling_from}
 use Rattle.spellings.proofs.SpellingLaws.{Passed, passed_none, passed_more, passed_fails, passed_all, here}
 use Rattle.spellings.proofs.KeyLaws.{Met, met_none, met_more, none_same}
+use Rattle.spellings.proofs.distinct.Invariants.{differs}
 use Rattle.spellings.proofs.distinct.Goals as goal
-
--- Whether a spelling differs from the first j names.
-abbrev differs : List (List ℕ) → ℕ → List ℕ → Bool
-differs names j s = every j (λ i. not (same_bytes (get_or names i []) s))
 
 -- The first j names are the same where no more are looked at.
 fewer :

@@ -16,6 +16,10 @@ use Rattle.spellings.proofs.SpellingLaws.{Passed, passed_none, passed_more, pass
 use Rattle.spellings.proofs.KeyLaws.{Met, met_none, met_more, none_same}
 use Rattle.spellings.proofs.distinct.Given as goal
 
+-- Whether a spelling differs from the first j names.
+abbrev pub differs : List (List ℕ) → ℕ → List ℕ → Bool
+differs names j s = every j (λ i. not (same_bytes (get_or names i []) s))
+
 abbrev pub invariant-loop-j : goal.invariant-loop-j
 invariant-loop-j l =
     Passed l.file l.first l.count l.skip (differs (spellings_from l.file l.first l.count l.skip)) l.j l.at

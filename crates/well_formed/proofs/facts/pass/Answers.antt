@@ -13,26 +13,20 @@ pub loop-n-init : goal.loop-n-init
 loop-n-init c = (omega arith, refl, refl, refl, started _ _ _ _ c.requires.true_ones _ (λ k l. omega arith))
 
 pub loop-n-preserved : goal.loop-n-preserved
-loop-n-preserved c =
-    let loop-test =
-    c.loop-n-test in
-    let loop =
-    c.loop-n in
-    let start =
-    c in (
-      omega arith,
-      ap length c.learn-first.ensures.cells_after ∙ length_learnt _ _ _ ∙ loop.inv.1,
-      ap length c.learn-second.ensures.cells_after ∙ length_learnt _ _ _ ∙ loop.inv.2,
-      ap length c.learn-third.ensures.cells_after ∙ length_learnt _ _ _ ∙ loop.inv.3,
-      facts_turn start.args.nodes.now start.args.rules.now
-          (three start.args.nothing.now start.args.something.now start.args.fails.now) loop.nothing
-          loop.something loop.fails loop.n loop.found loop.inv.4 c.gives-new.result c.gives-new.ensures
-          loop-test.taken (omega (arith, loop-test.taken, loop.inv.1, start.pre.room_nothing))
-          (omega (arith, loop-test.taken, loop.inv.2, start.pre.room_something))
-          (omega (arith, loop-test.taken, loop.inv.3, start.pre.room_fails)) c.learn-first.ensures.cells_after
-          c.learn-second.ensures.cells_after c.learn-third.ensures.cells_after c.learn-first.ensures.value c.learn-second.ensures.value c.learn-third.ensures.value
-          c.either.ensures c.either-in-loop-n.ensures c.either-found.ensures,
-    )
+loop-n-preserved c = (
+  omega arith,
+  ap length c.learn-first.ensures.cells_after ∙ length_learnt _ _ _ ∙ c.loop-n.invariant.1,
+  ap length c.learn-second.ensures.cells_after ∙ length_learnt _ _ _ ∙ c.loop-n.invariant.2,
+  ap length c.learn-third.ensures.cells_after ∙ length_learnt _ _ _ ∙ c.loop-n.invariant.3,
+  facts_turn c.args.nodes.now c.args.rules.now
+      (three c.args.nothing.now c.args.something.now c.args.fails.now) c.loop-n.nothing
+      c.loop-n.something c.loop-n.fails c.loop-n.n c.loop-n.found c.loop-n.invariant.4 c.gives-new.result c.gives-new.ensures
+      c.loop-n-test.taken (omega (arith, c.loop-n-test.taken, c.loop-n.invariant.1, c.requires.room_nothing))
+      (omega (arith, c.loop-n-test.taken, c.loop-n.invariant.2, c.requires.room_something))
+      (omega (arith, c.loop-n-test.taken, c.loop-n.invariant.3, c.requires.room_fails)) c.learn-first.ensures.cells_after
+      c.learn-second.ensures.cells_after c.learn-third.ensures.cells_after c.learn-first.ensures.value c.learn-second.ensures.value c.learn-third.ensures.value
+      c.either.ensures c.either-in-loop-n.ensures c.either-found.ensures,
+)
 
 pub shape_of-nothing : goal.shape_of-nothing
 shape_of-nothing c = c.loop-n.invariant.1
