@@ -1,6 +1,6 @@
 -- What one use of Ford's rules gives (01, "Well formed"; Ford 2004, carried over to the three layout forms): a form's facts and
 -- its well-formedness, from what is known of each node.
-use Rattle.std.specs.Prelude.{ℕ, Bool, true, false, ◌&&◌, ◌||◌, not as isFalse, List}
+use Rattle.std.specs.Prelude.{ℕ, Bool, true, false, ◌&&◌, ◌||◌, not as is_false, List}
 use Rattle.table.specs.Form.{Form, empty, terminal, rule, sequence, choice, not, repeat, indent, position}
 use Rattle.table.specs.Form.{align, other, stands_for}
 
@@ -43,10 +43,10 @@ unfoldable pub passes : List ℕ → (ℕ → Bool) → (ℕ → Bool) → Form 
 passes rules may well empty = true
 passes rules may well (terminal t) = true
 passes rules may well (rule r) = well (stands_for rules r)
-passes rules may well (sequence a b) = well a && (isFalse (may a) || well b)
+passes rules may well (sequence a b) = well a && (is_false (may a) || well b)
 passes rules may well (choice a b) = well a && well b
 passes rules may well (not a) = well a
-passes rules may well (repeat a) = well a && isFalse (may a)
+passes rules may well (repeat a) = well a && is_false (may a)
 passes rules may well (indent a r) = well a
 passes rules may well (position a r) = well a
 passes rules may well (align a) = well a

@@ -4,7 +4,7 @@
 
 ghost use Rattle.std.specs.Prelude.{◌≡◌, true, false, ◌++◌, ◌+◌, ◌*◌, ◌/◌, ◌%◌, ◌≤◌, ◌<◌, length};
 ghost use Rattle.table.specs.Answer.{afterwards};
-ghost use Rattle.table.specs.Checks.{numbers as tableNumbers};
+ghost use Rattle.table.specs.Checks.{numbers as table_numbers};
 ghost use Rattle.table.specs.Form.{node_count};
 ghost use Rattle.file_fields.specs.Offsets.{spellings_from};
 ghost use Rattle.spellings.specs.Spellings.{right_spellings};
@@ -61,7 +61,7 @@ pub fn write(
 
 // The first of 3, 4 and 5 that fails for a table and its rules with a start, or none.
 fn check_started(nodes: &[u16], rules: &[u16], node: u16, mode: u16) -> Checked
-    ensures { tableNumbers result ≡ started_answer nodes.now rules.now node mode }
+    ensures { table_numbers result ≡ started_answer nodes.now rules.now node mode }
 {
     let table = table::check(nodes, rules);
     match table {

@@ -13,7 +13,7 @@
 
 ghost use Rattle.std.specs.Prelude.{◌≡◌, length, drop};
 ghost use Rattle.table.specs.Words.{tabulate};
-ghost use Rattle.slices.specs.Filled.{filled as allAre};
+ghost use Rattle.slices.specs.Filled.{filled as all_are};
 
 use grammar_file::FileRead;
 use grammar_writer::FileWritten;
@@ -202,7 +202,7 @@ fn mark(bytes: &mut [u8], value: u8)
 
 // Whether every byte from an index on is a value.
 fn filled(bytes: &[u8], from: usize, value: u8) -> bool
-    ensures { result ≡ allAre value (drop from bytes.now) }
+    ensures { result ≡ all_are value (drop from bytes.now) }
 {
     let mut i = from;
     while i < bytes.len() {

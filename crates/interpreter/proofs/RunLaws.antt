@@ -22,7 +22,7 @@ use Rattle.clauses.proofs.ListWords.{length_list, list_fills}
 use Rattle.theorems.proofs.Narrows.{onward}
 use Rattle.theorems.proofs.Agreement.{run_given, farthest_only, captures_only, outcome_answered, answered_within}
 use Rattle.capture_list.specs.Put.{most_count}
-use Rattle.walk.specs.WalkAnswer.{ended, numbers as walkNumbers, walk_answer, walk_after}
+use Rattle.walk.specs.WalkAnswer.{ended, numbers as walk_numbers, walk_answer, walk_after}
 use Rattle.walk.specs.declared.Walk.{Walk}
 use Rattle.walk.specs.declared.Counting.{Counting}
 use Rattle.interpreter.specs.Numbers.{failing, end_of, Looked, CapturesStand}
@@ -49,8 +49,8 @@ module _ (reading : Reading) (nodes rules words : List ℕ) (start : Start) wher
   told e p = sym (ap ended e) ∙ p
 
   pub told_list :
-      {w v : Counting} → w ≡ v → walkNumbers w ≡ walk_answer reading nodes rules words start → walkNumbers v ≡ walk_answer reading nodes rules words start
-  told_list e p = sym (ap walkNumbers e) ∙ p
+      {w v : Counting} → w ≡ v → walk_numbers w ≡ walk_answer reading nodes rules words start → walk_numbers v ≡ walk_answer reading nodes rules words start
+  told_list e p = sym (ap walk_numbers e) ∙ p
 
   pub run_refused : {number : ℕ} → refused number ≡ walk_answer reading nodes rules words start → refused number ≡ run_answer reading nodes rules words start
   unfolding walk_answer

@@ -20,19 +20,16 @@ over_three r a b c d = omega arith
 
 -- A token fits by the relation that is asked: equal with the flag set, else the mode.
 pub fits_by :
-    {A B : Type 0}
     (flag : Bool)
     (mode r : ℕ)
     (c : Interval)
     (i : ℕ)
-    → A ⊎ B
-    → (A → (flag ≡ true) × (r ≡ 0))
-    → (B → (flag ≡ false) × (r ≡ mode))
+    → ((flag ≡ true) × (r ≡ 0)) ⊎ ((flag ≡ false) × (r ≡ mode))
     → {x : Bool}
     → x ≡ lies i (inner_ends r c)
     → x ≡ fits flag mode c i
-fits_by flag mode r c i (inl a) f g e = rw (f a).0 (rw (f a).1 at e)
-fits_by flag mode r c i (inr b) f g e = rw ((g b).0, ← (g b).1) e
+fits_by flag mode r c i (inl a) e = rw a.0 (rw a.1 at e)
+fits_by flag mode r c i (inr b) e = rw (b.0, ← b.1) e
 
 -- A column over the lower end lies in the inner set of greater.
 pub over_lower : (l i : ℕ) → ltb l i ≡ (leb (l + 1) i && true)

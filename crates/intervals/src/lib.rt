@@ -2,16 +2,16 @@
 #![tactic(auto)]
 
 ghost use Rattle.std.specs.Prelude.{◌≡◌, ◌-◌, ◌<◌};
-ghost use Rattle.columns.specs.Relations.{any, amount as amountOf};
-ghost use Rattle.columns.specs.Intervals.{lower_end, meet_ends, less as lessEnd, inner_ends, outer_ends, lies as liesIn};
-ghost use Rattle.columns.specs.Intervals.{fits as fitsIn, after_token};
+ghost use Rattle.columns.specs.Relations.{any, amount as amount_of};
+ghost use Rattle.columns.specs.Intervals.{lower_end, meet_ends, less as less_end, inner_ends, outer_ends, lies as lies_in};
+ghost use Rattle.columns.specs.Intervals.{fits as fits_in, after_token};
 
 use columns::{Interval, Upper};
 use table::relations;
 
 // Whether a token at column i fits: in the interval with the flag set, else in the mode's inner set.
 pub fn fits(flag: bool, mode: u16, c: Interval, i: u32) -> bool
-    ensures { result ≡ fitsIn flag mode c i }
+    ensures { result ≡ fits_in flag mode c i }
 {
     let l = c.lower;
     let r = if flag { relations::EQUAL } else { mode };
@@ -27,7 +27,7 @@ pub fn fits(flag: bool, mode: u16, c: Interval, i: u32) -> bool
 // Whether a column lies in the inner set of a step: exactly where the column less the amount lies in the interval.
 fn lies_in_step(r: u16, c: Interval, i: u32) -> bool
     requires { any < r }
-    ensures { result ≡ liesIn i (inner_ends r c) }
+    ensures { result ≡ lies_in i (inner_ends r c) }
 {
     let d = amount(r);
     if i < d { false } else { lies(c, i - d) }
@@ -35,7 +35,7 @@ fn lies_in_step(r: u16, c: Interval, i: u32) -> bool
 
 // The amount of a step: its number less 3; 0 for the relations that have a name.
 pub fn amount(r: u16) -> u32
-    ensures { result ≡ amountOf r }
+    ensures { result ≡ amount_of r }
 {
     if r <= relations::ANY {
         0
@@ -46,7 +46,7 @@ pub fn amount(r: u16) -> u32
 
 // Whether a column lies between the ends.
 fn lies(c: Interval, i: u32) -> bool
-    ensures { result ≡ liesIn i c }
+    ensures { result ≡ lies_in i c }
 {
     let h = c.upper;
     let l = c.lower;
@@ -104,7 +104,7 @@ fn outer(r: u16, c: Interval) -> Interval
 
 // An upper end less an amount; without end stays.
 fn less(h: Upper, d: u32) -> Upper
-    ensures { result ≡ lessEnd h d }
+    ensures { result ≡ less_end h d }
 {
     match h {
         Upper::Endless => h,

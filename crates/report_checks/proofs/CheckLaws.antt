@@ -9,7 +9,7 @@ use borrow.Author.Tests.{ltb-false}
 use Rattle.table.proofs.Every.{both_false}
 use Rattle.table.specs.Answer.{given, refused, refuse_if}
 use Rattle.table.proofs.AnswerLaws.{first_refuses, first_passes}
-use Rattle.grammar_file.specs.File.{file_answer, KeywordsStand, numbers as fileNumbers}
+use Rattle.grammar_file.specs.File.{file_answer, KeywordsStand, numbers as file_numbers}
 use Rattle.grammar_file.specs.declared.FileRead.{FileRead}
 use Rattle.grammar_file.specs.declared.FileRead.TheVariants.{Read, Refused as FileRefused}
 use Rattle.report_checks.specs.Report.{most_bytes, fails8}
@@ -23,15 +23,15 @@ unfolding fails8
 short_report text e = ltb-false most_bytes (length text) (both_false (ltb most_bytes (length text)) _ (sym e)).0
 
 -- What the file was read as, and what number 8 says of the report.
-module _ (file text : List ℕ) {r : FileRead} (e : fileNumbers r ≡ file_answer file) where
+module _ (file text : List ℕ) {r : FileRead} (e : file_numbers r ≡ file_answer file) where
   pub checks_file : {n : ℕ} → r ≡ FileRefused n → Checks file text (NotChecked n)
   unfolding first_answer
-  checks_file told = refuses (first_refuses _ (ap fileNumbers (sym told) ∙ e))
+  checks_file told = refuses (first_refuses _ (ap file_numbers (sym told) ∙ e))
 
   module _ {n l k s m : ℕ} (told : r ≡ Read n l k s m) {b : Bool} (t : b ≡ fails8 text) where
     behind : {v : Bool} → b ≡ v → refuse_if v 8 (given tt) ≡ first_answer file text
     unfolding first_answer
-    behind w = ap (λ (v : Bool). refuse_if {A = Unit} v 8 (given tt)) (sym w ∙ t) ∙ first_passes _ (ap fileNumbers (sym told) ∙ e)
+    behind w = ap (λ (v : Bool). refuse_if {A = Unit} v 8 (given tt)) (sym w ∙ t) ∙ first_passes _ (ap file_numbers (sym told) ∙ e)
 
     pub checks_8 : b ≡ true → Checks file text (NotChecked 8)
     checks_8 w = refuses (behind w)

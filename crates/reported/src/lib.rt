@@ -3,12 +3,12 @@
 #![tactic(auto)]
 
 ghost use Rattle.std.specs.Prelude.{◌≡◌, ℕ, ◌+◌, ◌*◌};
-ghost use Rattle.grammar_file.specs.File.{numbers as fileNumbers};
-ghost use Rattle.grammar_writer.specs.Written.{numbers as writtenNumbers};
-ghost use Rattle.token_words.specs.Numbers.{numbers as scanNumbers};
-ghost use Rattle.well_formed.specs.Check.{numbers as checkNumbers};
+ghost use Rattle.grammar_file.specs.File.{numbers as file_numbers};
+ghost use Rattle.grammar_writer.specs.Written.{numbers as written_numbers};
+ghost use Rattle.token_words.specs.Numbers.{numbers as scan_numbers};
+ghost use Rattle.well_formed.specs.Check.{numbers as check_numbers};
 ghost use Rattle.interpreter.specs.Numbers.{numbers, list_numbers};
-ghost use Rattle.shown_text.specs.Shown.{numbers as shownNumbers};
+ghost use Rattle.shown_text.specs.Shown.{numbers as shown_numbers};
 ghost use Rattle.reported.specs.Reported.{number, reported, contents_words, count_words, part_words};
 ghost use Rattle.reported.specs.Reported.{success_words, RunReported, ListReported};
 
@@ -23,8 +23,8 @@ use well_formed::Verdict;
 
 // Reports what a read of a grammar file answered: the five words where it was read.
 pub fn report_read(x: FileRead, res: &mut [usize; 5]) -> u32
-    ensures value { result ≡ number (fileNumbers x) }
-    ensures res_after { res.new ≡ reported contents_words (fileNumbers x) res.old }
+    ensures value { result ≡ number (file_numbers x) }
+    ensures res_after { res.new ≡ reported contents_words (file_numbers x) res.old }
 {
     match x {
         FileRead::Refused(n) => n as u32,
@@ -43,8 +43,8 @@ pub fn report_read(x: FileRead, res: &mut [usize; 5]) -> u32
 
 // Reports what a write of a grammar file answered: the number of bytes where it was written.
 pub fn report_write(x: FileWritten, res: &mut [usize; 1]) -> u32
-    ensures value { result ≡ number (writtenNumbers x) }
-    ensures res_after { res.new ≡ reported count_words (writtenNumbers x) res.old }
+    ensures value { result ≡ number (written_numbers x) }
+    ensures res_after { res.new ≡ reported count_words (written_numbers x) res.old }
 {
     match x {
         FileWritten::Refused(n) => n as u32,
@@ -57,8 +57,8 @@ pub fn report_write(x: FileWritten, res: &mut [usize; 1]) -> u32
 
 // Reports what a scan answered: the number of tokens where all were scanned.
 pub fn report_scan(x: Scanned, res: &mut [usize; 1]) -> u32
-    ensures value { result ≡ number (scanNumbers x) }
-    ensures res_after { res.new ≡ reported count_words (scanNumbers x) res.old }
+    ensures value { result ≡ number (scan_numbers x) }
+    ensures res_after { res.new ≡ reported count_words (scan_numbers x) res.old }
 {
     match x {
         Scanned::Refused(n) => n as u32,
@@ -71,7 +71,7 @@ pub fn report_scan(x: Scanned, res: &mut [usize; 1]) -> u32
 
 // Reports a verdict, for 7 with the node.
 pub fn report_check(x: Verdict) -> u32
-    ensures { result ≡ number (checkNumbers x) }
+    ensures { result ≡ number (check_numbers x) }
 {
     match x {
         Verdict::Refused(n) => n as u32,
@@ -123,8 +123,8 @@ pub fn report_list(x: Listed, res: &mut [usize; 8]) -> u32
 
 // Reports where a shown text lies: its offset, its length and which slice, 0 for the report and 1 for the grammar file.
 pub fn report_shown(x: ShownPart, res: &mut [usize; 3]) -> u32
-    ensures value { result ≡ number (shownNumbers x) }
-    ensures res_after { res.new ≡ reported part_words (shownNumbers x) res.old }
+    ensures value { result ≡ number (shown_numbers x) }
+    ensures res_after { res.new ≡ reported part_words (shown_numbers x) res.old }
 {
     match x {
         ShownPart::InReport { offset, length } => {

@@ -9,7 +9,7 @@ ghost use Rattle.grammar_file.specs.File.{most_keywords};
 ghost use Rattle.places.specs.Moves.{position, move_of};
 ghost use Rattle.scanner.specs.Tokens.{terminal_at};
 ghost use Rattle.scanner.specs.Steps.{step_fails9, step_answer, standing, position_of};
-ghost use Rattle.scanner.specs.Steps.{numbers as stepNumbers};
+ghost use Rattle.scanner.specs.Steps.{numbers as step_numbers};
 ghost use Rattle.scanner.specs.InternalFind.{Ready, HandsOut};
 
 use places::{Found, bytes_at, find};
@@ -44,8 +44,8 @@ pub struct Step {
 
 // The next token of a report from an offset, a column and a mark on, and the position behind it.
 pub fn next_token(file: &[u8], report: &[u8], at: usize, column: u32, mark: bool) -> Step
-    ensures handed_value { stepNumbers result.handed ≡ step_answer file.now report.now (position at column mark) }
-    ensures result_value { position_of result ≡ standing (stepNumbers result.handed) report.now (position at column mark) }
+    ensures handed_value { step_numbers result.handed ≡ step_answer file.now report.now (position at column mark) }
+    ensures result_value { position_of result ≡ standing (step_numbers result.handed) report.now (position at column mark) }
 {
     let first = first_checks(file, report);
     match first {

@@ -11,7 +11,7 @@ use Rattle.table.proofs.AnswerLaws.{first_refuses, first_passes}
 use Rattle.file_fields.specs.Offsets.{value_at, offset_of}
 use Rattle.table.specs.Checks.{fails3, fails4}
 use Rattle.grammar_file.specs.File.{Contents, most_keywords, fields_of, keywords, rule_list, node_table, fails1, fails2, fails5_by_file, contents}
-use Rattle.grammar_file.specs.File.{file_answer, KeywordsStand, numbers as fileNumbers}
+use Rattle.grammar_file.specs.File.{file_answer, KeywordsStand, numbers as file_numbers}
 use Rattle.grammar_file.specs.declared.FileRead.{FileRead}
 use Rattle.grammar_file.specs.declared.FileRead.TheVariants.{Read, Refused as FileRefused}
 use Rattle.report_checks.specs.Report.{fails8}
@@ -42,10 +42,10 @@ contents_are file x h =
     let fs = fields_of file in
     five_pass (fails1 file) (fails2 fs) (fails3 (node_table fs) (rule_list fs)) (fails4 (node_table fs) (rule_list fs)) (fails5_by_file fs) x (contents fs) h
 
-module _ (file report words : List ℕ) (c : Capture) {f : FileRead} (e : fileNumbers f ≡ file_answer file) where
+module _ (file report words : List ℕ) (c : Capture) {f : FileRead} (e : file_numbers f ≡ file_answer file) where
   pub by_file : {n : ℕ} → f ≡ FileRefused n → refused n ≡ shown_answer file report words c
   unfolding shown_answer first_answer
-  by_file told = first_refuses _ (first_refuses _ (ap fileNumbers (sym told) ∙ e))
+  by_file told = first_refuses _ (first_refuses _ (ap file_numbers (sym told) ∙ e))
 
   module _ {n l k s m : ℕ} (told : f ≡ Read n l k s m) where
     read : Contents
@@ -53,7 +53,7 @@ module _ (file report words : List ℕ) (c : Capture) {f : FileRead} (e : fileNu
 
     passes : given read ≡ file_answer file
     unfolding read
-    passes = ap fileNumbers (sym told) ∙ e
+    passes = ap file_numbers (sym told) ∙ e
 
     rules_are : l ≡ length (rule_list (fields_of file))
     unfolding contents read

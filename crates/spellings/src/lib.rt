@@ -4,8 +4,8 @@
 ghost use Rattle.std.specs.Prelude.{◌≡◌, not, true, false, ◌<◌, ◌-◌, min, [], length, get_or};
 ghost use Rattle.table.specs.Every.{every};
 ghost use Rattle.byte_class.specs.Bytes.{is_single};
-ghost use Rattle.spellings.specs.Spellings.{visible, spelled as isSpelled, single_alone, same_bytes};
-ghost use Rattle.spellings.specs.Spellings.{distinct as areDistinct, right_spellings};
+ghost use Rattle.spellings.specs.Spellings.{visible, spelled as is_spelled, single_alone, same_bytes};
+ghost use Rattle.spellings.specs.Spellings.{distinct as are_distinct, right_spellings};
 ghost use Rattle.file_fields.specs.Offsets.{spellings_from};
 ghost use Rattle.spellings.specs.Keys.{key_of};
 
@@ -75,7 +75,7 @@ pub fn same(s: &[u8], t: &[u8]) -> bool
 
 // 1 to 32 bytes, each of them visible.
 fn spelled(s: &[u8]) -> bool
-    ensures { result ≡ isSpelled s.now }
+    ensures { result ≡ is_spelled s.now }
 {
     if s.len() < 1 {
         return false;
@@ -137,7 +137,7 @@ pub fn right_spellings(file: &[u8], first: usize, count: usize, skip: usize) -> 
 fn all_spelled(file: &[u8], first: usize, count: usize, skip: usize) -> bool
     ensures { result
         ≡ every (length (spellings_from file.now first count skip))
-        (λ i. isSpelled (get_or (spellings_from file.now first count skip) i [])) }
+        (λ i. is_spelled (get_or (spellings_from file.now first count skip) i [])) }
 {
     let mut at = first;
     let mut i = 0;
@@ -170,7 +170,7 @@ pub fn singles_alone(file: &[u8], first: usize, count: usize) -> bool
 
 // Each spelling differs from those before it. A key that none before it has tells so at once.
 fn distinct(file: &[u8], first: usize, count: usize, skip: usize) -> bool
-    ensures { result ≡ areDistinct (spellings_from file.now first count skip) }
+    ensures { result ≡ are_distinct (spellings_from file.now first count skip) }
 {
     let mut met = [false; 4096];
     let mut at = first;

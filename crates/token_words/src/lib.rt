@@ -12,7 +12,7 @@ ghost use Rattle.report_checks.specs.Report.{most_bytes};
 ghost use Rattle.scanner.specs.Tokens.{terminal_from, terminal_at};
 ghost use Rattle.token_words.specs.Places.{places};
 ghost use Rattle.token_words.specs.Scan.{words_of, scan_tokens, scan_answer};
-ghost use Rattle.token_words.specs.Numbers.{numbers as scanNumbers};
+ghost use Rattle.token_words.specs.Numbers.{numbers as scan_numbers};
 ghost use Rattle.token_words.specs.InternalScan.{written, Measured};
 ghost use Rattle.token_words.specs.InternalIndex.{Indexed};
 
@@ -40,9 +40,9 @@ struct Tally {
 
 // Writes the tokens of a report by a grammar file's keywords, four words each.
 pub fn scan(file: &[u8], report: &[u8], tokens: &mut [u32]) -> Scanned
-    ensures result_value { scanNumbers result ≡ scan_answer file.now report.now (length tokens.old) }
+    ensures result_value { scan_numbers result ≡ scan_answer file.now report.now (length tokens.old) }
     ensures tokens_after { tokens.new
-        ≡ afterwards (scanNumbers result) (words_of (scan_tokens file.now report.now))
+        ≡ afterwards (scan_numbers result) (words_of (scan_tokens file.now report.now))
         tokens.old }
 {
     let first = first_checks(file, report);

@@ -1,7 +1,7 @@
 -- What a walk from a start answers and lists, over plain values: by its outcome, or by the first number that applies.
 use Prim.Native.Nat.{ℕ, ◌+◌, ◌-◌, ◌*◌, ◌/◌, ◌≤◌, ◌<◌, ◌^◌, min}
 use mathlib.Core.Path.{◌≡◌, refl, sym, ap, subst, ◌∙◌}
-use mathlib.Core.Bool.{Bool, true, false, cond, not as isFalse, ◌||◌}
+use mathlib.Core.Bool.{Bool, true, false, cond, not as is_false, ◌||◌}
 use mathlib.Core.List.{List, [], ◌∷◌}
 use lib.ListN.{length, get_or, replicate}
 use native.Mathlib.Omega.{arith}
@@ -51,12 +51,12 @@ use Rattle.walk.proofs.WalkLaws.{weight_most}
 upper_right : (nodes words : List ℕ) (start : Start) → fails12 nodes words start ≡ false → finite_over start.interval.upper ≡ false
 unfolding fails12
 upper_right nodes words start e =
-    let n = isFalse (ltb start.node (node_count nodes)) in
+    let n = is_false (ltb start.node (node_count nodes)) in
     let p = ltb (tokens_of words).count start.place in
-    let o = isFalse (is_up_to start.interval.lower start.interval.upper) in
+    let o = is_false (is_up_to start.interval.lower start.interval.upper) in
     let l = ltb most_column start.interval.lower in
     let u = finite_over start.interval.upper in
-    (both_false (n || p || o || l) u (both_false (n || p || o || l || u) (isFalse (is_relation start.mode)) e).0).1
+    (both_false (n || p || o || l) u (both_false (n || p || o || l || u) (is_false (is_relation start.mode)) e).0).1
 
 upper_in : (h : Upper) → finite_over h ≡ false → finite h ≤ most_column
 upper_in (At x) e = ltb-false most_column x e

@@ -1,6 +1,6 @@
 // States: where the first child of a form begins, states and outcomes written anew, and one token.
 ghost use Rattle.std.specs.Prelude.{◌≡◌, ◌+◌, ◌<◌, ◌^◌, max};
-ghost use Rattle.columns.specs.Intervals.{plus as plusEnd, inner_ends};
+ghost use Rattle.columns.specs.Intervals.{plus as plus_end, inner_ends};
 ghost use Rattle.columns.specs.InternalHighest.{finite, highest, rise};
 ghost use Rattle.readings.specs.Readings.{reading_of, in_force};
 ghost use Rattle.walk.specs.InternalWalk.{child_state, with_farthest, joined_outcome, ReadyToken, token_outcome};
@@ -71,7 +71,7 @@ fn inner(r: u16, c: Interval) -> Interval
 // An upper end plus an amount; without end stays.
 fn plus(h: Upper, d: u32) -> Upper
     requires { finite h + d < 2 ^ 32 }
-    ensures { result ≡ plusEnd h d }
+    ensures { result ≡ plus_end h d }
 {
     match h {
         Upper::Endless => h,

@@ -2,7 +2,7 @@
 -- facts of nodes, then as many rounds as there are nodes.
 use Prim.Native.Nat.{ℕ, zero, suc, ◌*◌, ◌<◌}
 use mathlib.Core.Path.{◌≡◌, refl, sym, ap, ap₂, subst, fun_ext, ◌∙◌}
-use mathlib.Core.Bool.{Bool, true, ◌&&◌, ◌||◌, or-true, not as isFalse}
+use mathlib.Core.Bool.{Bool, true, ◌&&◌, ◌||◌, or-true, not as is_false}
 use mathlib.Core.List.{List, [], ◌∷◌}
 use mathlib.Core.Logic.{◌↔◌, ⊎_elim}
 use lib.ListN.{length}
@@ -199,10 +199,10 @@ module _ (rules : List ℕ) (may : ℕ → Bool) where
   passes_more p q m (terminal t) e = e
   passes_more p q m (rule r) e = m (stands_for rules r) e
   passes_more p q m (sequence a b) e =
-      and_more (p a) (isFalse (may a) || p b) (q a) (isFalse (may a) || q b) (m a) (or_more (isFalse (may a)) (p b) (isFalse (may a)) (q b) (λ h. h) (m b)) e
+      and_more (p a) (is_false (may a) || p b) (q a) (is_false (may a) || q b) (m a) (or_more (is_false (may a)) (p b) (is_false (may a)) (q b) (λ h. h) (m b)) e
   passes_more p q m (choice a b) e = and_more (p a) (p b) (q a) (q b) (m a) (m b) e
   passes_more p q m (not a) e = m a e
-  passes_more p q m (repeat a) e = and_more (p a) (isFalse (may a)) (q a) (isFalse (may a)) (m a) (λ h. h) e
+  passes_more p q m (repeat a) e = and_more (p a) (is_false (may a)) (q a) (is_false (may a)) (m a) (λ h. h) e
   passes_more p q m (indent a r) e = m a e
   passes_more p q m (position a r) e = m a e
   passes_more p q m (align a) e = m a e
@@ -218,10 +218,10 @@ module _ (rules : List ℕ) (may : ℕ → Bool) where
   passes_same count p q s empty i = refl
   passes_same count p q s (terminal t) i = refl
   passes_same count p q s (rule r) i = s (stands_for rules r) i
-  passes_same count p q s (sequence a b) i = ap₂ ◌&&◌ (s a i.0) (ap (λ (c : Bool). isFalse (may a) || c) (s b i.1))
+  passes_same count p q s (sequence a b) i = ap₂ ◌&&◌ (s a i.0) (ap (λ (c : Bool). is_false (may a) || c) (s b i.1))
   passes_same count p q s (choice a b) i = ap₂ ◌&&◌ (s a i.0) (s b i.1)
   passes_same count p q s (not a) i = s a i
-  passes_same count p q s (repeat a) i = ap (λ (c : Bool). c && isFalse (may a)) (s a i)
+  passes_same count p q s (repeat a) i = ap (λ (c : Bool). c && is_false (may a)) (s a i)
   passes_same count p q s (indent a r) i = s a i
   passes_same count p q s (position a r) i = s a i
   passes_same count p q s (align a) i = s a i

@@ -2,7 +2,7 @@
 -- no repeat has a child that may read nothing.
 use Prim.Native.Nat.{ℕ, zero, suc, ◌+◌, ◌<◌, ◌≤◌}
 use mathlib.Core.Path.{◌≡◌, refl, sym, ap, ◌∙◌}
-use mathlib.Core.Bool.{Bool, true, false, cond, ◌||◌, true≢false, not as isFalse}
+use mathlib.Core.Bool.{Bool, true, false, cond, ◌||◌, true≢false, not as is_false}
 use mathlib.Core.List.{List}
 use native.Mathlib.Omega.{arith}
 use Rattle.table.specs.Answer.{given}
@@ -66,13 +66,13 @@ module _ (nodes rules : List ℕ) (count : ℕ) where
     entered_passes : {f : Form} {c : ℕ} → Enters nodes rules f c → Inside rules count f → passes rules may well f ≡ true → well c ≡ true
     unfolding passes
     entered_passes enters_rule i e = e
-    entered_passes (enters_first {a = a} {b = b}) i e = and_left (well a) (isFalse (may a) || well b) e
+    entered_passes (enters_first {a = a} {b = b}) i e = and_left (well a) (is_false (may a) || well b) e
     entered_passes (enters_second {a = a} {b = b} m) i e =
-        ap (λ (t : Bool). isFalse t || well b) (sym (all a i.0 m)) ∙ and_right (well a) (isFalse (may a) || well b) e
+        ap (λ (t : Bool). is_false t || well b) (sym (all a i.0 m)) ∙ and_right (well a) (is_false (may a) || well b) e
     entered_passes (enters_choice {a = a} {b = b}) i e = and_left (well a) (well b) e
     entered_passes (enters_other {a = a} {b = b}) i e = and_right (well a) (well b) e
     entered_passes enters_not i e = e
-    entered_passes (enters_repeat {a = a}) i e = and_left (well a) (isFalse (may a)) e
+    entered_passes (enters_repeat {a = a}) i e = and_left (well a) (is_false (may a)) e
     entered_passes enters_indent i e = e
     entered_passes enters_position i e = e
     entered_passes enters_align i e = e

@@ -1,7 +1,7 @@
 -- What the rounds find is true: each fact by the rules' least relation, each node by that of well-formedness.
 use Prim.Native.Nat.{ℕ, zero, suc, ◌<◌}
 use mathlib.Core.Path.{◌≡◌, refl, sym, ap, ap₂, ◌∙◌}
-use mathlib.Core.Bool.{Bool, true, false, ◌&&◌, ◌||◌, false≢true, or-true, not as isFalse}
+use mathlib.Core.Bool.{Bool, true, false, ◌&&◌, ◌||◌, false≢true, or-true, not as is_false}
 use mathlib.Core.List.{List}
 use mathlib.Core.Logic.{◌⊎◌, inl, inr, ⊎_elim}
 use Rattle.table.specs.Form.{Form, empty, terminal, rule, sequence, choice, not, repeat, indent, position, align, other, form, stands_for}
@@ -162,12 +162,12 @@ module _ (nodes rules : List ℕ) (count : ℕ) (inside : (n : ℕ) → n < coun
     passes_true well t (terminal u) i e = terminal_well
     passes_true well t (rule r) i e = rule_well (t (stands_for rules r) i e)
     passes_true well t (sequence a b) i e =
-        sequence_well (t a i.0 (and_left (well a) (isFalse (may a) || well b) e))
-        (λ d. t b i.1 (ap (λ (c : Bool). isFalse c || well b) (sym (all a i.0 d)) ∙ and_right (well a) (isFalse (may a) || well b) e))
+        sequence_well (t a i.0 (and_left (well a) (is_false (may a) || well b) e))
+        (λ d. t b i.1 (ap (λ (c : Bool). is_false c || well b) (sym (all a i.0 d)) ∙ and_right (well a) (is_false (may a) || well b) e))
     passes_true well t (choice a b) i e = choice_well (t a i.0 (and_left (well a) (well b) e)) (t b i.1 (and_right (well a) (well b) e))
     passes_true well t (not a) i e = not_well (t a i e)
     passes_true well t (repeat a) i e =
-        repeat_well (t a i (and_left (well a) (isFalse (may a)) e)) (λ d. false≢true (ap isFalse (sym (all a i d)) ∙ and_right (well a) (isFalse (may a)) e))
+        repeat_well (t a i (and_left (well a) (is_false (may a)) e)) (λ d. false≢true (ap is_false (sym (all a i d)) ∙ and_right (well a) (is_false (may a)) e))
     passes_true well t (indent a r) i e = indent_well (t a i e)
     passes_true well t (position a r) i e = position_well (t a i e)
     passes_true well t (align a) i e = align_well (t a i e)
@@ -182,19 +182,19 @@ module _ (nodes rules : List ℕ) (count : ℕ) (inside : (n : ℕ) → n < coun
   -- Where a further use of the rules brings nothing, every well-formed node is found.
   module _ (right_may : (n : ℕ) → may n ≡ true → May nodes rules (form nodes n) nothing) (well : ℕ → Bool)
       (closed : (n : ℕ) → n < count → passes rules may well (form nodes n) ≡ true → well n ≡ true) where
-    if_may : (a : ℕ) (x : Bool) → (may a ≡ true → x ≡ true) → (isFalse (may a) || x) ≡ true
+    if_may : (a : ℕ) (x : Bool) → (may a ≡ true → x ≡ true) → (is_false (may a) || x) ≡ true
     if_may a x g = by_test (may a) refl
       where
-        by_test : (t : Bool) → may a ≡ t → (isFalse (may a) || x) ≡ true
-        by_test true e = ap (λ (c : Bool). isFalse c || x) e ∙ g e
-        by_test false e = ap (λ (c : Bool). isFalse c || x) e
+        by_test : (t : Bool) → may a ≡ t → (is_false (may a) || x) ≡ true
+        by_test true e = ap (λ (c : Bool). is_false c || x) e ∙ g e
+        by_test false e = ap (λ (c : Bool). is_false c || x) e
 
-    no_may : (a : ℕ) → (May nodes rules (form nodes a) nothing → ⊥) → isFalse (may a) ≡ true
+    no_may : (a : ℕ) → (May nodes rules (form nodes a) nothing → ⊥) → is_false (may a) ≡ true
     no_may a g = by_test (may a) refl
       where
-        by_test : (t : Bool) → may a ≡ t → isFalse (may a) ≡ true
+        by_test : (t : Bool) → may a ≡ t → is_false (may a) ≡ true
         by_test true e = absurd (g (right_may a e))
-        by_test false e = ap isFalse e
+        by_test false e = ap is_false e
 
     found : {f : Form} → WellFormed nodes rules f → Inside rules count f → passes rules may well f ≡ true
     unfolding passes

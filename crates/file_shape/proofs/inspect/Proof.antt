@@ -8,7 +8,7 @@ use mathlib.Core.Path.{◌≡◌, refl, sym, ap, ◌∙◌}
 use mathlib.Core.Bool.{true, false}
 use mathlib.Core.List.{List}
 use Rattle.table.specs.Answer.{given}
-use Rattle.table.specs.Checks.{numbers as checkedNumbers}
+use Rattle.table.specs.Checks.{numbers as checked_numbers}
 use Rattle.file_shape.specs.Contents.{fields_of, fails2, file_answer}
 use Rattle.file_shape.specs.Shape.{Parts}
 use Rattle.file_shape.specs.declared.Shape.{Shape}
@@ -37,7 +37,7 @@ spellings_right c = c.before.before.before
 
 table_answered :
     (c : tie.After-check-tables)
-    → let r = fields_right (spellings_right c) in checkedNumbers c.check-tables.result ≡ table_at (file r) (shape r)
+    → let r = fields_right (spellings_right c) in checked_numbers c.check-tables.result ≡ table_at (file r) (shape r)
 table_answered c = c.check-tables.ensures
 
 -- Where it passes too.
@@ -47,7 +47,7 @@ table_right c = c.before.before
 table_passes :
     (c : tie.After-enum-told)
     → let r = fields_right (spellings_right (table_right c)) in given tt ≡ table_at (file r) (shape r)
-table_passes c = ap checkedNumbers (sym c.enum_told.given.1) ∙ table_answered (table_right c)
+table_passes c = ap checked_numbers (sym c.enum_told.given.1) ∙ table_answered (table_right c)
 
 returns : tie.Need-returns
 unfolding file_answer
@@ -61,7 +61,7 @@ returns-3 c =
     let at_table = c.before.before.before in
     let named = spellings_right at_table in
     by_table _ _ (parts (fields_right named)) (names_right named)
-    (ap checkedNumbers (sym c.before.table.given.1) ∙ table_answered at_table)
+    (ap checked_numbers (sym c.before.table.given.1) ∙ table_answered at_table)
 
 returns-4 : tie.Need-returns-4
 returns-4 c =

@@ -17,4 +17,4 @@ returns-in-Failure c =
 pub returns-in-Success : goal.returns-in-Success
 returns-in-Success c =
     put_success c.args.memory.now c.args.i _ _ _ _ _ _ c.marks_of.ensures c.end_word.ensures
-    ∙ sym (ap (λ (c.x-in-Success-1 : Outcome). put_words c.args.memory.now (c.args.i + 6) (outcome_words c.x-in-Success-1)) c.in-Success.is)
+    ∙ sym (ap (λ (x : Outcome). put_words c.args.memory.now (c.args.i + 6) (outcome_words x)) c.in-Success.is)

@@ -96,24 +96,17 @@ module _ (s : List ℕ) (whole end : ℕ) (h : whole < length s) (e : get_or s w
   with_fraction : (end ≡ whole + 1 → ⊥) → fraction (drop whole s) ≡ eqb end (length s)
   with_fraction n = rw (with_point, some s (whole + 1) end d n) (empty s end d.1)
 
--- What is left to ask where there are digits behind the sign.
-behind :
-    (c : tie.Else1)
-    → is_number c.before.before.before.before.args.s.now
-    ≡ fraction (drop c.before.digits_end.result c.before.before.before.before.args.s.now)
-behind c = with_whole _ _ _ c.before.before.minus.ensures.1 c.before.digits_end.ensures c.if1.false
-
 pub returns-then-whole-from : goal.returns-then-whole-from
 returns-then-whole-from c = sym (no_whole _ _ _ c.minus-from.ensures.1 c.digits_end-whole.ensures c.if-whole-from.true)
 
 pub returns-then-whole-s : goal.returns-then-whole-s
-returns-then-whole-s c = sym (behind c ∙ no_rest _ _ c.if-whole-s.true)
+returns-then-whole-s c = sym (with_whole _ _ _ c.minus-from.ensures.1 c.digits_end-whole.ensures c.if-whole-from.false ∙ no_rest _ _ c.if-whole-s.true)
 
 pub returns-then-s-whole-ne46 : goal.returns-then-s-whole-ne46
-returns-then-s-whole-ne46 c = sym (behind c ∙ no_point c.args.s.now c.digits_end-whole.result (omega arith) c.if-s-whole-ne46.true)
+returns-then-s-whole-ne46 c = sym (with_whole _ _ _ c.minus-from.ensures.1 c.digits_end-whole.ensures c.if-whole-from.false ∙ no_point c.args.s.now c.digits_end-whole.result (omega arith) c.if-s-whole-ne46.true)
 
 pub returns-then-end-whole : goal.returns-then-end-whole
-returns-then-end-whole c = sym (behind c ∙ no_fraction _ _ _ (omega arith) c.if-s-whole-ne46.false c.digits_end-end.ensures c.if-end-whole.true)
+returns-then-end-whole c = sym (with_whole _ _ _ c.minus-from.ensures.1 c.digits_end-whole.ensures c.if-whole-from.false ∙ no_fraction _ _ _ (omega arith) c.if-s-whole-ne46.false c.digits_end-end.ensures c.if-end-whole.true)
 
 pub returns : goal.returns
-returns c = sym (behind c ∙ with_fraction _ _ _ (omega arith) c.if-s-whole-ne46.false c.digits_end-end.ensures c.if-end-whole.false)
+returns c = sym (with_whole _ _ _ c.minus-from.ensures.1 c.digits_end-whole.ensures c.if-whole-from.false ∙ with_fraction _ _ _ (omega arith) c.if-s-whole-ne46.false c.digits_end-end.ensures c.if-end-whole.false)

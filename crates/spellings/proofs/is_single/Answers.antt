@@ -2,7 +2,6 @@
 use Prim.Native.Nat.{ℕ}
 use mathlib.Core.Path.{◌≡◌, refl, sym, ap, ◌∙◌}
 use mathlib.Core.Bool.{Bool, true, false, cond, ◌&&◌, ◌||◌}
-use mathlib.Core.Logic.{◌⊎◌, inl, inr}
 use native.Mathlib.Omega.{arith}
 use borrow.Author.Rules.{rules}
 use borrow.Author.Tests.{eqb-true, eq-eqb, ne_eqb}
@@ -12,6 +11,7 @@ use Rattle.byte_class.specs.declared.Class.{Class}
 use Rattle.byte_class.specs.declared.Class.TheVariants.{Break, Tab, Blank, Single, Digit, Run, Continuation, Refused}
 use Rattle.byte_class.specs.Bytes.{is_single, is_continuation, class_of}
 use Rattle.byte_class.specs.contracts.Class.{the_type}
+use Rattle.byte_class.proofs.ClassLaws.{each_class}
 use Rattle.spellings.proofs.is_single.Goals as goal
 
 -- What holds of a number, and of b if another test holds, holds of b if one of the two does.
@@ -65,17 +65,13 @@ by_position b = by_test (is_single b) refl
         (no_other (eqb b 10) (eqb b 9) (eqb b 13 || eqb b 32) (ltb b 32 || eqb b 127) (leb 48 b && leb b 57) (is_continuation b)))
 
 -- None of the other positions is that of the single bytes.
-apart : (n : ℕ) → (n ≡ 0) ⊎ ((n ≡ 1) ⊎ ((n ≡ 2) ⊎ ((n ≡ 4) ⊎ ((n ≡ 5) ⊎ ((n ≡ 6) ⊎ (n ≡ 7)))))) → n ≡ 3 → ⊥
-apart n (inl e) = omega arith
-apart n (inr (inl e)) = omega arith
-apart n (inr (inr (inl e))) = omega arith
-apart n (inr (inr (inr (inl e)))) = omega arith
-apart n (inr (inr (inr (inr (inl e))))) = omega arith
-apart n (inr (inr (inr (inr (inr (inl e)))))) = omega arith
-apart n (inr (inr (inr (inr (inr (inr e)))))) = omega arith
+apart : (k : Class) → (k ≡ Single → ⊥) → eqb (position k) 3 ≡ false
+apart k =
+    each_class (λ k. (k ≡ Single → ⊥) → eqb (position k) 3 ≡ false) (λ _. refl) (λ _. refl) (λ _. refl) (λ n. absurd (n refl))
+    (λ _. refl) (λ _. refl) (λ _. refl) (λ _. refl) k
 
 pub returns-in-Single : goal.returns-in-Single
-returns-in-Single c = rw (by_position _, ← c.class_of.ensures) (sym (eq-eqb _ _ c.in-Single.in-Single-own.keys1))
+returns-in-Single c = rw (by_position _, ← c.class_of.ensures, c.in-Single.is) refl
 
 pub returns-in_default : goal.returns-in_default
-returns-in_default c = rw (by_position _, ← c.class_of.ensures) (sym (ne_eqb _ _ (apart _ c.in_default.in_default-own.keys2)))
+returns-in_default c = rw (by_position _, ← c.class_of.ensures) (sym (apart _ c.in_default.not-Single))

@@ -21,9 +21,9 @@ loop-n-preserved c = (
   facts_turn c.args.nodes.now c.args.rules.now
       (three c.args.nothing.now c.args.something.now c.args.fails.now) c.loop-n.nothing
       c.loop-n.something c.loop-n.fails c.loop-n.n c.loop-n.found c.loop-n.invariant.4 c.gives-new.result c.gives-new.ensures
-      c.loop-n-test.taken (omega (arith, c.loop-n-test.taken, c.loop-n.invariant.1, c.requires.room_nothing))
-      (omega (arith, c.loop-n-test.taken, c.loop-n.invariant.2, c.requires.room_something))
-      (omega (arith, c.loop-n-test.taken, c.loop-n.invariant.3, c.requires.room_fails)) c.learn-first.ensures.cells_after
+      c.loop-n-test.true (omega (arith, c.loop-n-test.true, c.loop-n.invariant.1, c.requires.room_nothing))
+      (omega (arith, c.loop-n-test.true, c.loop-n.invariant.2, c.requires.room_something))
+      (omega (arith, c.loop-n-test.true, c.loop-n.invariant.3, c.requires.room_fails)) c.learn-first.ensures.cells_after
       c.learn-second.ensures.cells_after c.learn-third.ensures.cells_after c.learn-first.ensures.value c.learn-second.ensures.value c.learn-third.ensures.value
       c.either.ensures c.either-in-loop-n.ensures c.either-found.ensures,
 )
