@@ -16,7 +16,7 @@ use Rattle.columns.specs.declared.Interval.{Interval}
 use Rattle.columns.specs.declared.Reading.{Reading}
 use Rattle.clauses.specs.Clauses as clauses
 use Rattle.clauses.specs.Clauses.{Tokens, Next, State, Outcome, success, failure, Fits, clear, aligned, counts, Run}
-use Rattle.clauses.specs.Trace.{Trace, tried, ◌then◌, captured, trace, Gives}
+use Rattle.clauses.specs.Trace.{Trace, tried, ◌then◌, dropped, captured, trace, Gives}
 use Rattle.clauses.specs.Evaluation.{Result, ended, unfinished, after, behind, ruled, reads, indented, step, evaluate}
 
 never : {o : Outcome Interval} {t : Trace} → unfinished ≡ ended o t → ⊥
@@ -154,7 +154,7 @@ module _ (reading : Reading) (nodes rules : List ℕ) (tokens : Tokens) where
     step_derived τ (table.sequence p q) s =
         after_derived _ _ _ (h τ _ _) (λ s' d. behind_derived _ _ (h τ _ _) (λ o e. derived (clauses.sequence d e))) (λ d. derived (clauses.sequence_fails d))
     step_derived τ (table.choice p q) s =
-        after_derived _ _ _ (h τ _ _) (λ s' d. derived (clauses.choice_first d)) (λ d. behind_derived _ _ (h τ _ _) (λ o e. derived (clauses.choice_second d e)))
+        after_derived _ _ _ (h τ _ _) (λ s' d. derived (clauses.choice_first d)) (λ d. behind_derived (dropped (shown d)) _ (h τ _ _) (λ o e. derived (clauses.choice_second d e)))
     step_derived τ (table.not p) s = after_derived _ _ _ (h τ _ _) (λ s' d. derived (clauses.not_fails d)) (λ d. derived (clauses.not d))
     step_derived τ (table.repeat p) s =
         after_derived _ _ _ (h τ _ _) (λ s' d. behind_derived _ _ (h τ _ _) (λ o e. derived (clauses.repeat_again d e))) (λ d. derived (clauses.repeat_ends d))

@@ -14,10 +14,10 @@ use Rattle.line.specs.Line.{file_start, after_parts, parts_answer}
 -- The lowest number of the parts, then 13, then what the run ends in with the number of captures: for so many words lent for the
 -- tokens and for the captures.
 unfoldable pub entries_answer : List ℕ → List ℕ → ℕ → ℕ → Answer Listing
-entries_answer file report tokensLent capturesLent =
-    after_parts file report tokensLent
+entries_answer file report tokens_lent captures_lent =
+    after_parts file report tokens_lent
     (list_answer By2017 (node_table (fields_of file)) (rule_list (fields_of file)) (words_of (scan_tokens file report))
-    (file_start file) capturesLent)
+    (file_start file) captures_lent)
 
 -- What the run ends in alone, by which the last lines are printed.
 abbrev pub end_answer : Answer Listing → Answer Ended
@@ -59,8 +59,8 @@ entries file report =
 
 -- The words lent for the captures afterwards: the list and zeros behind it, where nothing refuses.
 unfoldable pub captures_after : List ℕ → List ℕ → ℕ → List ℕ → List ℕ
-captures_after file report tokensLent before =
-    afterwards (entries_answer file report tokensLent (length before)) (list_words (entries file report) (length before)) before
+captures_after file report tokens_lent before =
+    afterwards (entries_answer file report tokens_lent (length before)) (list_words (entries file report) (length before)) before
 
 -- The capture at a place of a list, from its four words; zeros where there is no such place.
 unfoldable pub capture_at : List ℕ → ℕ → Capture
