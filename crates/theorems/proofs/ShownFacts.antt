@@ -80,3 +80,21 @@ module _ {ℓ κ} (D : Domain {ℓ, κ}) (reading : Reading) (nodes rules : List
   shown (align d) nothing (at_once e) = facts.align_child (shown d nothing (at_once e))
   shown (align d) something (further l) = facts.align_child (shown d something (further l))
   shown (align_fails d) fails not_at_all = facts.align_child (shown d fails not_at_all)
+  shown (empty {τ = τ} {s = s}) fails h = elim h [ ]
+  shown (terminal_clear {τ = τ} {a = a} {i = i} {w = w} {I = I} n m) fails h = elim h [ ]
+  shown (terminal_aligned {τ = τ} {a = a} {i = i} {w = w} {I = I} n m) fails h = elim h [ ]
+  shown (terminal_fails {τ = τ} {a = a} {w = w} {I = I} {b = b} h) nothing x16 = elim x16 [ ]
+  shown (terminal_fails {τ = τ} {a = a} {w = w} {I = I} {b = b} h) something x17 = elim x17 [ ]
+  shown (sequence_fails {τ = τ} {p = p} {q = q} {s = s} d) nothing h = elim h [ ]
+  shown (sequence_fails {τ = τ} {p = p} {q = q} {s = s} d) something h = elim h [ ]
+  shown (choice_first {τ = τ} {p = p} {q = q} {s = s} d) fails h = elim h [ ]
+  shown (not {τ = τ} {p = p} {s = s} d) fails h = elim h [ ]
+  shown (not_fails {τ = τ} {p = p} {s = s} d) nothing h = elim h [ ]
+  shown (not_fails {τ = τ} {p = p} {s = s} d) something h = elim h [ ]
+  shown (repeat_ends {τ = τ} {p = p} {s = s} d) fails h = elim h [ ]
+  shown (indent {τ = τ} {p = p} {ρ = ρ} {w = w} {I = I} {b = b} c d) fails h = elim h [ ]
+  shown (indent_fails {τ = τ} {p = p} {ρ = ρ} {w = w} {I = I} {b = b} c d) nothing h = elim h [ ]
+  shown (indent_fails {τ = τ} {p = p} {ρ = ρ} {w = w} {I = I} {b = b} c d) something h = elim h [ ]
+  shown (align {τ = τ} {p = p} {w = w} {I = I} {b = b} d) fails h = elim h [ ]
+  shown (align_fails {τ = τ} {p = p} {w = w} {I = I} {b = b} d) nothing h = elim h [ ]
+  shown (align_fails {τ = τ} {p = p} {w = w} {I = I} {b = b} d) something h = elim h [ ]
