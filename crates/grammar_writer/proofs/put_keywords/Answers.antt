@@ -1,0 +1,64 @@
+-- `grammar_writer::put_keywords` meets its contract: after k turns the first k keywords stand there.
+use borrow.Author.Rules.{rules}
+use Prim.Native.Nat.{◌-◌, ◌≤◌}
+use mathlib.Core.Path.{◌≡◌, refl, sym, ap, ◌∙◌}
+use mathlib.Core.List.{[]}
+use native.Mathlib.Omega.{arith}
+use lib.ListN.{length}
+use Rattle.file_fields.specs.Offsets.{offset_of, spellings_from}
+use Rattle.file_fields.proofs.Offsets.{length_spellings}
+use Rattle.file_tables.proofs.TableLaws.{offset_stepped}
+use Rattle.grammar_writer.specs.FieldBytes.{keyword_field}
+use Rattle.grammar_writer.proofs.PutLaws.{Put, put_starts, Next, next_field}
+use Rattle.grammar_writer.proofs.SectionLaws.{spelling_short, spelling_is, keyword_of, keyword_short}
+use Rattle.grammar_writer.proofs.put_keywords.Goals as goal
+
+-- The keyword that is put.
+next :
+    (c : tie.After-put-field-arg2 invariant-loop decreases-loop)
+    → let spelling = c.before.before in
+    let loop = spelling.before.before.loop in
+    let a = spelling.before.before.before.before.before.args in
+    Next (keyword_of (spellings_from a.file.now 4 a.count 0)) a.to a.out.now loop.k loop.end loop.out 2 []
+    spelling.spelling-at.result.now
+next c =
+    let spelling = c.before.before in
+    let tested = spelling.before in
+    let loop = tested.before.loop in
+    let start = tested.before.before.before.before in
+    let a = start.args in
+    let words = spellings_from a.file.now 4 a.count 0 in
+    let test = tested.loop-test.true in
+    let word = spelling_is a.file.now 4 a.count 0 test loop.invariant.1 spelling.spelling-at.ensures in
+    next_field (keyword_of words) a.to a.out.now loop.k loop.invariant.0 35 a.count (omega arith)
+    (keyword_short words (spelling_short words start.requires.0)) test start.requires.1 2 [] spelling.spelling-at.result.now
+    (ap keyword_field (sym word))
+
+pub loop-k-init : goal.loop-k-init
+unfolding offset_of
+loop-k-init c = (put_starts (keyword_of (spellings_from c.args.file.now 4 c.args.count 0)) c.args.to c.args.out.now, refl, omega arith)
+
+pub put_field-end-requires : goal.put_field-end-requires
+put_field-end-requires c =
+    record {
+      tail_len_bound = ((next c).asks).0;
+      tail_in_bounds = ((next c).asks).1;
+    }
+
+pub loop-k-preserved : goal.loop-k-preserved
+loop-k-preserved c = (
+  (next c).puts c.put_field-end.ensures.value c.put_field-end.ensures.out_after,
+  offset_stepped c.args.file.now 4 c.loop-k.k c.next_at-at.ensures c.loop-k.invariant.1,
+  omega arith,
+)
+
+pub shape_of-out : goal.shape_of-out
+shape_of-out c = c.loop-k.invariant.0.same
+
+pub returns : goal.returns
+returns c =
+    let all : c.loop-k.k ≡ length (spellings_from c.args.file.now 4 c.args.count 0) = omega (arith, length_spellings c.args.file.now 4 c.args.count 0) in
+    record {
+      value = c.loop-k.invariant.0.ends ∙ rw all refl;
+      out_after = c.loop-k.invariant.0.stands ∙ rw all refl;
+    }
