@@ -10,7 +10,7 @@
 // A nested call of a first child is remembered in a lent slice: its outcome is looked up before and kept after it. It begins as
 // if nothing was tried, so that the outcome does not hang on the farthest place before, which is joined to it afterwards.
 ghost use Rattle.std.specs.Prelude.{◌≡◌, ◌+◌};
-ghost use Rattle.table.specs.Form.{form, stands_for, rule as rule-form};
+ghost use Rattle.table.specs.Form.{form, stands_for, rule as rule_form};
 ghost use Rattle.readings.specs.Readings.{reading_of};
 ghost use Rattle.capture_list.specs.InternalList.{Room};
 ghost use Rattle.walk.specs.InternalWalk.{child_state, first_node, weight, Ready, ReadyFirst, ReadyRule};
@@ -211,7 +211,7 @@ fn rule(
     requires ready_rule { ReadyRule nodes.now rules.now tokens.now x s }
     requires room { Room (weight nodes.now rules.now tokens.now (stands_for rules.now x) s + 1) counts.old list.old }
     requires remembering { Remembering (reading_of by_2014) nodes.now rules.now tokens.now memory.old }
-    ensures walked { Walked (reading_of by_2014) nodes.now rules.now tokens.now mode (rule-form x) s
+    ensures walked { Walked (reading_of by_2014) nodes.now rules.now tokens.now mode (rule_form x) s
         counts.old list.old result counts.new list.new }
     ensures remembering_2 { Remembering (reading_of by_2014) nodes.now rules.now tokens.now memory.new }
 {

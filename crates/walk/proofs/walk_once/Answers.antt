@@ -1,6 +1,7 @@
 -- `walk::walk_once` meets its contract.
 use borrow.Author.Rules.{rules}
 use mathlib.Core.Path.{sym}
+use native.Mathlib.Omega.{arith}
 use Rattle.walk.proofs.RunLaws.{begin_ready, begin_room, whole_failed, whole_read, remembers_by}
 use Rattle.walk.proofs.walk_once.Goals as goal
 
@@ -9,7 +10,7 @@ expression-x-requires c =
     record {
       ready = begin_ready c.args.reading c.args.nodes.now c.args.rules.now c.args.tokens.now c.args.start c.requires.admitted;
       room = begin_room c.args.reading c.args.nodes.now c.args.rules.now c.args.tokens.now c.args.start c.requires.admitted
-          c.requires.counted_le_most_count c.WELLFORMED.1.1.1.0.0;
+          c.requires.counted_le_most_count (omega arith);
       remembering = remembers_by (sym c.is_by_2014-by_2014.ensures) c.requires.remembering;
     }
 

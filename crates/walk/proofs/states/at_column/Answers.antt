@@ -4,7 +4,7 @@ use mathlib.Core.Path.{refl}
 use Rattle.walk.proofs.states.at_column.Goals as goal
 
 pub returns-then-fits : goal.returns-then-fits
-returns-then-fits c = rw (← c.fits2.ensures, c.if-fits.true, c.after_token-new.ensures) refl
+returns-then-fits c = rw (← c.fits.ensures, c.if-fits.true, c.after_token-new.ensures) refl
 
 pub returns-else-fits : goal.returns-else-fits
-returns-else-fits c = rw (← c.fits2.ensures, c.if-fits.false) refl
+returns-else-fits c = rw (← c.fits.ensures, c.if-fits.false) refl
