@@ -2,7 +2,7 @@
 -- others do not, and there the readings differ.
 use Prim.Native.Nat.{ℕ}
 use mathlib.Core.Path.{◌≡◌, refl}
-use mathlib.Core.Bool.{Bool, true, false}
+use mathlib.Core.Bool.{Bool, true, false, true≢false}
 use mathlib.Core.List.{List, [], ◌∷◌}
 use Rattle.table.specs.Words.{each_words}
 use Rattle.table.specs.Every.{every}
@@ -40,7 +40,7 @@ data FibreHeld : Form → Bool → Type 0 where
   any_number : FibreHeld (indent 4 any) false
   number : FibreHeld (terminal 0) false
   any_line_end : FibreHeld (indent 5 any) false
-  line_end_lem : FibreHeld (terminal 2) false
+  line_end : FibreHeld (terminal 2) false
   inside : FibreHeld (indent 11 greater) false
   entries : FibreHeld (repeat 10) false
   aligned_entry : FibreHeld (align 9) false
@@ -97,7 +97,7 @@ held_again entries = entries
 held_indent : {p ρ : ℕ} {b : Bool} → FibreHeld (indent p ρ) b → FibreHeld (form fibre_nodes p) b
 unfolding form each_words fibre_nodes
 held_indent any_number = number
-held_indent any_line_end = line_end_lem
+held_indent any_line_end = line_end
 held_indent inside = entries
 
 held_align : {p : ℕ} {b : Bool} → FibreHeld (align p) b → FibreHeld (form fibre_nodes p) true
@@ -128,10 +128,16 @@ unfolding form each_words fibre_nodes fibre_rules
 fibre_reads aligned_fibre m = terminal_reads fibre_nodes fibre_rules (first_unread fibre_nodes fibre_rules (rule_unread fibre_nodes fibre_rules m))
 fibre_reads aligned_entry m = terminal_reads fibre_nodes fibre_rules (first_unread fibre_nodes fibre_rules (rule_unread fibre_nodes fibre_rules m))
 
+-- Under an indent the flag is clear.
+indent_clear : {p ρ : ℕ} {b : Bool} → FibreHeld (indent p ρ) b → b ≡ false
+indent_clear any_number = refl
+indent_clear any_line_end = refl
+indent_clear inside = refl
+
 -- The splicer's grammar reads alike.
 pub fibre_alike : ReadAlike fibre_nodes fibre_rules (form fibre_nodes 2) false
 unfolding form each_words fibre_nodes
-fibre_alike = alike_held fibre_nodes fibre_rules FibreHeld fibre_closed report (λ p ρ h. elim h [ ]) (λ p h m. fibre_reads h m)
+fibre_alike = alike_held fibre_nodes fibre_rules FibreHeld fibre_closed report (λ p ρ h. absurd (true≢false (indent_clear h))) (λ p h m. fibre_reads h m)
 
 -- 16 does not apply: it has no position.
 no_positions : (place : ℕ) (interval : Interval) → fails16 By2014 fibre_nodes (start_at 2 place interval) ≡ false

@@ -13,27 +13,6 @@ use Rattle.grammar_writer.proofs.PutLaws.{Put, put_starts, Next, next_field}
 use Rattle.grammar_writer.proofs.SectionLaws.{spelling_short, spelling_is, keyword_of, keyword_short}
 use Rattle.grammar_writer.proofs.put_keywords.Goals as goal
 
--- The keyword that is put.
-next :
-    (c : tie.After-put-field-arg2 invariant-loop decreases-loop)
-    → let spelling = c.before.before in
-    let loop = spelling.before.before.loop in
-    let a = spelling.before.before.before.before.before.args in
-    Next (keyword_of (spellings_from a.file.now 4 a.count 0)) a.to a.out.now loop.k loop.end loop.out 2 []
-    spelling.spelling-at.result.now
-next c =
-    let spelling = c.before.before in
-    let tested = spelling.before in
-    let loop = tested.before.loop in
-    let start = tested.before.before.before.before in
-    let a = start.args in
-    let words = spellings_from a.file.now 4 a.count 0 in
-    let test = tested.loop-test.true in
-    let word = spelling_is a.file.now 4 a.count 0 test loop.invariant.1 spelling.spelling-at.ensures in
-    next_field (keyword_of words) a.to a.out.now loop.k loop.invariant.0 35 a.count (omega arith)
-    (keyword_short words (spelling_short words start.requires.0)) test start.requires.1 2 [] spelling.spelling-at.result.now
-    (ap keyword_field (sym word))
-
 pub loop-k-init : goal.loop-k-init
 unfolding offset_of
 loop-k-init c = (put_starts (keyword_of (spellings_from c.args.file.now 4 c.args.count 0)) c.args.to c.args.out.now, refl, omega arith)
@@ -41,13 +20,25 @@ loop-k-init c = (put_starts (keyword_of (spellings_from c.args.file.now 4 c.args
 pub put_field-end-requires : goal.put_field-end-requires
 put_field-end-requires c =
     record {
-      tail_len_bound = ((next c).asks).0;
-      tail_in_bounds = ((next c).asks).1;
+      tail_len_bound = (((let words = spellings_from c.args.file.now 4 c.args.count 0 in
+          let word = spelling_is c.args.file.now 4 c.args.count 0 c.loop-k-test.true c.loop-k.invariant.1 c.spelling_at-word.ensures in
+          next_field (keyword_of words) c.args.to c.args.out.now c.loop-k.k c.loop-k.invariant.0 35 c.args.count (omega arith)
+          (keyword_short words (spelling_short words c.requires.count_value)) c.loop-k-test.true c.requires.count_in_bounds 2 [] c.spelling_at-word.result.now
+          (ap keyword_field (sym word)))).asks).0;
+      tail_in_bounds = (((let words = spellings_from c.args.file.now 4 c.args.count 0 in
+          let word = spelling_is c.args.file.now 4 c.args.count 0 c.loop-k-test.true c.loop-k.invariant.1 c.spelling_at-word.ensures in
+          next_field (keyword_of words) c.args.to c.args.out.now c.loop-k.k c.loop-k.invariant.0 35 c.args.count (omega arith)
+          (keyword_short words (spelling_short words c.requires.count_value)) c.loop-k-test.true c.requires.count_in_bounds 2 [] c.spelling_at-word.result.now
+          (ap keyword_field (sym word)))).asks).1;
     }
 
 pub loop-k-preserved : goal.loop-k-preserved
 loop-k-preserved c = (
-  (next c).puts c.put_field-end.ensures.value c.put_field-end.ensures.out_after,
+  ((let words = spellings_from c.args.file.now 4 c.args.count 0 in
+      let word = spelling_is c.args.file.now 4 c.args.count 0 c.loop-k-test.true c.loop-k.invariant.1 c.spelling_at-word.ensures in
+      next_field (keyword_of words) c.args.to c.args.out.now c.loop-k.k c.loop-k.invariant.0 35 c.args.count (omega arith)
+      (keyword_short words (spelling_short words c.requires.count_value)) c.loop-k-test.true c.requires.count_in_bounds 2 [] c.spelling_at-word.result.now
+      (ap keyword_field (sym word)))).puts c.put_field-end.ensures.value c.put_field-end.ensures.out_after,
   offset_stepped c.args.file.now 4 c.loop-k.k c.next_at-at.ensures c.loop-k.invariant.1,
   omega arith,
 )

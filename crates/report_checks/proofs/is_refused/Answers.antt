@@ -2,11 +2,8 @@
 use Rattle.report_checks.proofs.ClassLaws.{classes, refused_others}
 use Rattle.report_checks.proofs.is_refused.Goals as goal
 
-pub enum_told-1 : goal.enum_told-1
-enum_told-1 c = search classes
-
 pub returns-in-Refused : goal.returns-in-Refused
 returns-in-Refused c = search classes
 
 pub returns-in_default : goal.returns-in_default
-returns-in_default c = refused_others _ c.class_of-class.ensures c.in_default.in_default-own.keys2
+returns-in_default c = refused_others _ c.class_of-class.ensures c.in_default.not-Refused
