@@ -23,8 +23,8 @@ use Rattle.theorems.proofs.Narrows.{onward}
 use Rattle.theorems.proofs.Agreement.{run_given, farthest_only, captures_only, outcome_answered, answered_within}
 use Rattle.capture_list.specs.Put.{most_count}
 use Rattle.walk.specs.WalkAnswer.{ended, numbers as walk_numbers, walk_answer, walk_after}
+use Rattle.walk.specs.declared.Answered.{Answered}
 use Rattle.walk.specs.declared.Walk.{Walk}
-use Rattle.walk.specs.declared.Counting.{Counting}
 use Rattle.interpreter.specs.Numbers.{failing, end_of, Looked, CapturesStand}
 
 -- What refuses the second of two answers refuses the first, where the second is given.
@@ -45,11 +45,11 @@ either false after lent e = refl
 
 module _ (reading : Reading) (nodes rules words : List ℕ) (start : Start) where
   -- The walk's answer, by the case that it is: of one that lists nothing, and of one that lists.
-  pub told : {w v : Walk} → w ≡ v → ended w ≡ run_answer reading nodes rules words start → ended v ≡ run_answer reading nodes rules words start
+  pub told : {w v : Answered} → w ≡ v → ended w ≡ run_answer reading nodes rules words start → ended v ≡ run_answer reading nodes rules words start
   told e p = sym (ap ended e) ∙ p
 
   pub told_list :
-      {w v : Counting} → w ≡ v → walk_numbers w ≡ walk_answer reading nodes rules words start → walk_numbers v ≡ walk_answer reading nodes rules words start
+      {w v : Walk} → w ≡ v → walk_numbers w ≡ walk_answer reading nodes rules words start → walk_numbers v ≡ walk_answer reading nodes rules words start
   told_list e p = sym (ap walk_numbers e) ∙ p
 
   pub run_refused : {number : ℕ} → refused number ≡ walk_answer reading nodes rules words start → refused number ≡ run_answer reading nodes rules words start

@@ -10,7 +10,7 @@ ghost use Rattle.interpreter.specs.Numbers.{numbers, Derived, list_numbers, List
 
 use columns::{Reading, Start, State};
 use table::refusals;
-use walk::{Counting, Walk};
+use walk::{Answered, Walk};
 
 // What a run answers: success with the number of tokens read and the state, failure with the farthest place, the number of the
 // first check that fails, or the lowest node that is not well formed (7).
@@ -59,10 +59,10 @@ pub fn remember(
 {
     let w = walk::run(nodes, rules, tokens, start, reading, memory);
     match w {
-        Walk::Refused(number) => Ran::Refused(number),
-        Walk::IllFormed(node) => Ran::IllFormed(node),
-        Walk::Failure(farthest) => Ran::Failure(farthest),
-        Walk::Success(u) => {
+        Answered::Refused(number) => Ran::Refused(number),
+        Answered::IllFormed(node) => Ran::IllFormed(node),
+        Answered::Failure(farthest) => Ran::Failure(farthest),
+        Answered::Success(u) => {
             let read = u.place - start.place;
             Ran::Success(read, u)
         }
@@ -89,10 +89,10 @@ pub fn list(
     let mut memory = [0u32; 65536];
     let w = walk::list(nodes, rules, tokens, start, reading, captures, &mut memory);
     match w {
-        Counting::Refused(number) => Listed::Refused(number),
-        Counting::IllFormed(node) => Listed::IllFormed(node),
-        Counting::Failure(farthest) => Listed::Failure(farthest),
-        Counting::Success(u, count) => {
+        Walk::Refused(number) => Listed::Refused(number),
+        Walk::IllFormed(node) => Listed::IllFormed(node),
+        Walk::Failure(farthest) => Listed::Failure(farthest),
+        Walk::Success(u, count) => {
             if captures.len() / 4 < count {
                 return Listed::Refused(refusals::CAPTURE_ROOM);
             }

@@ -7,20 +7,20 @@ use Rattle.clauses.specs.Clauses.{success, failure}
 use Rattle.clauses.specs.RunAnswer.{Ended, our_end, run_answer}
 use Rattle.clauses.specs.ListAnswer.{our_captures, Listing, list_words}
 use Rattle.capture_list.specs.Put.{most_count}
+use Rattle.walk.specs.declared.Answered.{Answered}
+use Rattle.walk.specs.declared.Answered.TheVariants as walk
 use Rattle.walk.specs.declared.Walk.{Walk}
-use Rattle.walk.specs.declared.Walk.TheVariants as walk
-use Rattle.walk.specs.declared.Counting.{Counting}
-use Rattle.walk.specs.declared.Counting.TheVariants.{Success, Failure, Refused, IllFormed}
+use Rattle.walk.specs.declared.Walk.TheVariants.{Success, Failure, Refused, IllFormed}
 
--- The number and the values for each case of `Walk`.
-abbrev pub ended : Walk → Answer Ended
+-- The number and the values for each case of `Answered`.
+abbrev pub ended : Answered → Answer Ended
 ended (walk.Success s) = given (record { outcome = success (s.place, s.interval, s.flag); farthest = s.farthest })
 ended (walk.Failure farthest) = given (record { outcome = failure; farthest = farthest })
 ended (walk.Refused number) = refused number
 ended (walk.IllFormed node) = refused_at 7 node
 
--- The same for each case of `Counting`.
-abbrev pub numbers : Counting → Answer Listing
+-- The same for each case of `Walk`.
+abbrev pub numbers : Walk → Answer Listing
 numbers (Success s n) =
     given
     (record {

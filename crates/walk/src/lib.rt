@@ -25,7 +25,7 @@ use well_formed::Verdict;
 // What a walk gives: success with the state, failure with the farthest place, the number of the first check that fails, or the
 // lowest node that is not well formed (7).
 #[derive(Clone, Copy)]
-pub enum Walk {
+pub enum Answered {
     Success(State),
     Failure(u32),
     Refused(u8),
@@ -34,7 +34,7 @@ pub enum Walk {
 
 // What a walk that lists gives: the same, a success with the number of captures.
 #[derive(Clone, Copy)]
-pub enum Counting {
+pub enum Walk {
     Success(State, usize),
     Failure(u32),
     Refused(u8),
@@ -56,17 +56,17 @@ pub fn run(
     start: Start,
     reading: Reading,
     memory: &mut [u32],
-) -> Walk
+) -> Answered
     ensures result_value { ended result ≡ run_answer reading nodes.now rules.now tokens.now start }
     ensures memory_after { memory.new
         ≡ memory_after reading nodes.now rules.now tokens.now start memory.old }
 {
     match admitted(nodes, rules, tokens, start, reading) {
         Verdict::Refused(number) => {
-            return Walk::Refused(number);
+            return Answered::Refused(number);
         }
         Verdict::IllFormed(node) => {
-            return Walk::IllFormed(node);
+            return Answered::IllFormed(node);
         }
         Verdict::Passes => {}
     }
@@ -78,8 +78,8 @@ pub fn run(
     clear(memory, 0); // whatever was remembered
     let x = whole.outcome;
     match x {
-        Outcome::Failure(farthest) => Walk::Failure(farthest),
-        Outcome::Success(u) => Walk::Success(u),
+        Outcome::Failure(farthest) => Answered::Failure(farthest),
+        Outcome::Success(u) => Answered::Success(u),
     }
 }
 
@@ -94,7 +94,7 @@ pub fn list(
     reading: Reading,
     list: &mut [u32],
     memory: &mut [u32],
-) -> Counting
+) -> Walk
     ensures result_value { numbers result ≡ walk_answer reading nodes.now rules.now tokens.now start }
     ensures list_after { list.new
         ≡ walk_after reading nodes.now rules.now tokens.now start list.old }
@@ -103,10 +103,10 @@ pub fn list(
 {
     match admitted(nodes, rules, tokens, start, reading) {
         Verdict::Refused(number) => {
-            return Counting::Refused(number);
+            return Walk::Refused(number);
         }
         Verdict::IllFormed(node) => {
-            return Counting::IllFormed(node);
+            return Walk::IllFormed(node);
         }
         Verdict::Passes => {}
     }
@@ -118,9 +118,26 @@ pub fn list(
     clear(memory, 0);
     let x = whole.outcome;
     match x {
-        Outcome::Failure(farthest) => Counting::Failure(farthest),
-        Outcome::Success(u) => Counting::Success(u, count),
+        Outcome::Failure(farthest) => Walk::Failure(farthest),
+        Outcome::Success(u) => Walk::Success(u, count),
     }
+}
+
+// The same, with nothing lent to remember in.
+pub fn from_start(
+    nodes: &[u16],
+    rules: &[u16],
+    tokens: &[u32],
+    start: Start,
+    reading: Reading,
+    list: &mut [u32],
+) -> Walk
+    ensures value { numbers result ≡ walk_answer reading nodes.now rules.now tokens.now start }
+    ensures list_after { list.new
+        ≡ walk_after reading nodes.now rules.now tokens.now start list.old }
+{
+    let mut none = [0u32; 1];
+    crate::list(nodes, rules, tokens, start, reading, list, &mut none)
 }
 
 // Whether a run may begin: the first of 3, 4, 5, 7, 11, 12 and 16 that fails, or none.

@@ -9,7 +9,7 @@ pub returns-then-captures-count : goal.returns-then-captures-count
 returns-then-captures-count c =
     let x =
     list_13 c.args.reading c.args.nodes.now c.args.rules.now c.args.tokens.now c.args.start
-    c.args.captures.now c.list-w.ensures.list_after c.WELLFORMED.1.1.1.1.1.0.0 c.list-w.auto.list
+    c.args.captures.now c.list-w.ensures.list_after (omega arith) c.list-w.auto.list
     (shown_list _ _ _ _ _ (told_list _ _ _ _ _ c.in-Success.is c.list-w.ensures.result_value)) (omega (arith, c.if-captures-count.true)) in
     record {
       result_value = x.0;
@@ -53,13 +53,13 @@ pub returns-in-Failure : goal.returns-in-Failure
 returns-in-Failure c =
     record {
       result_value = (list_failure c.args.reading c.args.nodes.now c.args.rules.now c.args.tokens.now c.args.start
-          c.args.captures.now c.list-w.ensures.list_after c.WELLFORMED.1.1.1.1.1.0.0 c.list-w.auto.list
+          c.args.captures.now c.list-w.ensures.list_after (omega arith) c.list-w.auto.list
           (shown_list _ _ _ _ _ (told_list _ _ _ _ _ c.in-Failure.is c.list-w.ensures.result_value))).0;
       captures_after = (list_failure c.args.reading c.args.nodes.now c.args.rules.now c.args.tokens.now c.args.start
-          c.args.captures.now c.list-w.ensures.list_after c.WELLFORMED.1.1.1.1.1.0.0 c.list-w.auto.list
+          c.args.captures.now c.list-w.ensures.list_after (omega arith) c.list-w.auto.list
           (shown_list _ _ _ _ _ (told_list _ _ _ _ _ c.in-Failure.is c.list-w.ensures.result_value))).1.0;
       list_derived = (list_failure c.args.reading c.args.nodes.now c.args.rules.now c.args.tokens.now c.args.start
-          c.args.captures.now c.list-w.ensures.list_after c.WELLFORMED.1.1.1.1.1.0.0 c.list-w.auto.list
+          c.args.captures.now c.list-w.ensures.list_after (omega arith) c.list-w.auto.list
           (shown_list _ _ _ _ _ (told_list _ _ _ _ _ c.in-Failure.is c.list-w.ensures.result_value))).1.1;
     }
 
@@ -67,12 +67,12 @@ pub returns-else-captures-count : goal.returns-else-captures-count
 returns-else-captures-count c =
     record {
       result_value = (list_success c.args.reading c.args.nodes.now c.args.rules.now c.args.tokens.now c.args.start
-          c.args.captures.now c.list-w.ensures.list_after c.WELLFORMED.1.1.1.1.1.0.0 c.list-w.auto.list
+          c.args.captures.now c.list-w.ensures.list_after (omega arith) c.list-w.auto.list
           c.in-Success.u (shown_list _ _ _ _ _ (told_list _ _ _ _ _ c.in-Success.is c.list-w.ensures.result_value)) (omega (arith, c.if-captures-count.false))).0;
       captures_after = (list_success c.args.reading c.args.nodes.now c.args.rules.now c.args.tokens.now c.args.start
-          c.args.captures.now c.list-w.ensures.list_after c.WELLFORMED.1.1.1.1.1.0.0 c.list-w.auto.list
+          c.args.captures.now c.list-w.ensures.list_after (omega arith) c.list-w.auto.list
           c.in-Success.u (shown_list _ _ _ _ _ (told_list _ _ _ _ _ c.in-Success.is c.list-w.ensures.result_value)) (omega (arith, c.if-captures-count.false))).1.0;
       list_derived = (list_success c.args.reading c.args.nodes.now c.args.rules.now c.args.tokens.now c.args.start
-          c.args.captures.now c.list-w.ensures.list_after c.WELLFORMED.1.1.1.1.1.0.0 c.list-w.auto.list
+          c.args.captures.now c.list-w.ensures.list_after (omega arith) c.list-w.auto.list
           c.in-Success.u (shown_list _ _ _ _ _ (told_list _ _ _ _ _ c.in-Success.is c.list-w.ensures.result_value)) (omega (arith, c.if-captures-count.false))).1.1;
     }

@@ -99,15 +99,14 @@ expression-first-x-requires t c = (call_less c.loop-again.invariant.0 c.in_defau
 pub expression-loop-again-smaller-in-4 : goal.expression-loop-again-smaller-in-4
 expression-loop-again-smaller-in-4 t c =
     choice_less c.loop-again.invariant.0 c.first_node-c.ensures c.first-x.ensures.walked_first c.in-Failure.farthest c.in-Failure.is
-  c.failed-back.ensures c.in-4.is
+    c.failed-back.ensures c.in-4.is
 
 pub expression-loop-again-preserved-in-4 : goal.expression-loop-again-preserved-in-4
-expression-loop-again-preserved-in-4 t c =
-    (
-    choice_again c.loop-again.invariant.0 c.first_node-c.ensures c.first-x.ensures.walked_first c.in-Failure.farthest c.in-Failure.is
-        c.failed-back.ensures c.in-4.is,
-    kept_on c.first-x.ensures.remembering_2 c.first-x.auto.memory c.loop-again.invariant.1,
-  )
+expression-loop-again-preserved-in-4 t c = (
+  choice_again c.loop-again.invariant.0 c.first_node-c.ensures c.first-x.ensures.walked_first c.in-Failure.farthest c.in-Failure.is
+      c.failed-back.ensures c.in-4.is,
+  kept_on c.first-x.ensures.remembering_2 c.first-x.auto.memory c.loop-again.invariant.1,
+)
 
 pub expression-shape_of-list-in-5 : goal.expression-shape_of-list-in-5
 expression-shape_of-list-in-5 t c = call_long c.loop-again.invariant.0 c.first_node-c.ensures c.first-x.ensures.walked_first
@@ -119,7 +118,7 @@ pub expression-returns-in-5 : goal.expression-returns-in-5
 expression-returns-in-5 t c =
     record {
       walked = out_not c.loop-again.invariant.0 c.first_node-c.ensures c.first-x.ensures.walked_first c.in-Failure.farthest c.in-Failure.is
-        c.failed-back.ensures c.in-5.is;
+          c.failed-back.ensures c.in-5.is;
       remembering_2 = c.first-x.ensures.remembering_2;
     }
 
@@ -133,7 +132,7 @@ pub expression-returns-in-6 : goal.expression-returns-in-6
 expression-returns-in-6 t c =
     record {
       walked = out_repeat c.loop-again.invariant.0 c.first_node-c.ensures c.first-x.ensures.walked_first c.in-Failure.farthest c.in-Failure.is
-        c.failed-back.ensures c.in-6.is;
+          c.failed-back.ensures c.in-6.is;
       remembering_2 = c.first-x.ensures.remembering_2;
     }
 
@@ -147,7 +146,7 @@ pub expression-returns-in_default-kind : goal.expression-returns-in_default-kind
 expression-returns-in_default-kind t c =
     record {
       walked = out_failed c.loop-again.invariant.0 c.first_node-c.ensures c.first-x.ensures.walked_first c.in-Failure.farthest c.in-Failure.is
-        c.in_default.in_default-own.rest.0.0.1 c.in_default.in_default-own.rest.0.1 c.in_default.in_default-own.rest.1 c.in_default-kind.in_default-kind-own.rest.0.0.1 c.in_default-kind.in_default-kind-own.rest.0.1 c.in_default-kind.in_default-kind-own.rest.1;
+          c.in_default.in_default-own.rest.0.0.1 c.in_default.in_default-own.rest.0.1 c.in_default.in_default-own.rest.1 c.in_default-kind.in_default-kind-own.rest.0.0.1 c.in_default-kind.in_default-kind-own.rest.0.1 c.in_default-kind.in_default-kind-own.rest.1;
       remembering_2 = c.first-x.ensures.remembering_2;
     }
 
@@ -161,22 +160,21 @@ pub expression-returns-in-1 : goal.expression-returns-in-1
 expression-returns-in-1 t c =
     record {
       walked = out_terminal c.loop-again.invariant.0 c.first_node-c.ensures c.first-x.ensures.walked_first c.in-Success.u c.in-Success.is
-        c.in-1.is;
+          c.in-1.is;
       remembering_2 = c.first-x.ensures.remembering_2;
     }
 
 pub expression-loop-again-smaller-in-3 : goal.expression-loop-again-smaller-in-3
 expression-loop-again-smaller-in-3 t c =
     sequence_less c.loop-again.invariant.0 c.first_node-c.ensures c.first-x.ensures.walked_first c.in-Success.u c.in-Success.is
-  c.in-3.is
+    c.in-3.is
 
 pub expression-loop-again-preserved-in-3 : goal.expression-loop-again-preserved-in-3
-expression-loop-again-preserved-in-3 t c =
-    (
-    sequence_again c.loop-again.invariant.0 c.first_node-c.ensures c.first-x.ensures.walked_first c.in-Success.u c.in-Success.is
-        c.in-3.is,
-    kept_on c.first-x.ensures.remembering_2 c.first-x.auto.memory c.loop-again.invariant.1,
-  )
+expression-loop-again-preserved-in-3 t c = (
+  sequence_again c.loop-again.invariant.0 c.first_node-c.ensures c.first-x.ensures.walked_first c.in-Success.u c.in-Success.is
+      c.in-3.is,
+  kept_on c.first-x.ensures.remembering_2 c.first-x.auto.memory c.loop-again.invariant.1,
+)
 
 pub expression-shape_of-list-in-4-kind : goal.expression-shape_of-list-in-4-kind
 expression-shape_of-list-in-4-kind t c = call_long c.loop-again.invariant.0 c.first_node-c.ensures c.first-x.ensures.walked_first
@@ -188,7 +186,7 @@ pub expression-returns-in-4-kind : goal.expression-returns-in-4-kind
 expression-returns-in-4-kind t c =
     record {
       walked = out_choice c.loop-again.invariant.0 c.first_node-c.ensures c.first-x.ensures.walked_first c.in-Success.u c.in-Success.is
-        c.in-4-kind.is;
+          c.in-4-kind.is;
       remembering_2 = c.first-x.ensures.remembering_2;
     }
 
@@ -202,22 +200,21 @@ pub expression-returns-in-5-kind : goal.expression-returns-in-5-kind
 expression-returns-in-5-kind t c =
     record {
       walked = out_not_fails c.loop-again.invariant.0 c.first_node-c.ensures c.first-x.ensures.walked_first c.in-Success.u c.in-Success.is
-        c.in-5-kind.is;
+          c.in-5-kind.is;
       remembering_2 = c.first-x.ensures.remembering_2;
     }
 
 pub expression-loop-again-smaller : goal.expression-loop-again-smaller
 expression-loop-again-smaller t c =
     repeat_less c.loop-again.invariant.0 c.first_node-c.ensures c.first-x.ensures.walked_first c.in-Success.u c.in-Success.is
-  c.in-6-kind.is
+    c.in-6-kind.is
 
 pub expression-loop-again-preserved : goal.expression-loop-again-preserved
-expression-loop-again-preserved t c =
-    (
-    repeat_again c.loop-again.invariant.0 c.first_node-c.ensures c.first-x.ensures.walked_first c.in-Success.u c.in-Success.is
-        c.in-6-kind.is,
-    kept_on c.first-x.ensures.remembering_2 c.first-x.auto.memory c.loop-again.invariant.1,
-  )
+expression-loop-again-preserved t c = (
+  repeat_again c.loop-again.invariant.0 c.first_node-c.ensures c.first-x.ensures.walked_first c.in-Success.u c.in-Success.is
+      c.in-6-kind.is,
+  kept_on c.first-x.ensures.remembering_2 c.first-x.auto.memory c.loop-again.invariant.1,
+)
 
 pub expression-shape_of-list-in-7 : goal.expression-shape_of-list-in-7
 expression-shape_of-list-in-7 t c = call_long c.loop-again.invariant.0 c.first_node-c.ensures c.first-x.ensures.walked_first
@@ -229,7 +226,7 @@ pub expression-returns-in-7 : goal.expression-returns-in-7
 expression-returns-in-7 t c =
     record {
       walked = out_indent c.loop-again.invariant.0 c.first_node-c.ensures c.first-x.ensures.walked_first c.in-Success.u
-        c.in-Success.is c.in-7.is c.in_force-q.ensures c.left-v.ensures;
+          c.in-Success.is c.in-7.is c.in_force-q.ensures c.left-v.ensures;
       remembering_2 = c.first-x.ensures.remembering_2;
     }
 
@@ -243,8 +240,8 @@ pub expression-returns-in_default-kind-2 : goal.expression-returns-in_default-ki
 expression-returns-in_default-kind-2 t c =
     record {
       walked = out_align c.loop-again.invariant.0 c.first_node-c.ensures c.first-x.ensures.walked_first c.in-Success.u
-        c.in-Success.is c.in_default.in_default-own.rest.0.0.1 c.in_default.in_default-own.rest.0.1 c.in_default.in_default-own.rest.1 c.in_default-kind-2.in_default-kind-2-own.rest.0.0.0.0.0.1 c.in_default-kind-2.in_default-kind-2-own.rest.0.0.0.0.1 c.in_default-kind-2.in_default-kind-2-own.rest.0.0.0.1
-        c.in_default-kind-2.in_default-kind-2-own.rest.0.0.1 c.in_default-kind-2.in_default-kind-2-own.rest.0.1 c.in_default-kind-2.in_default-kind-2-own.rest.1 c.aligned-v.ensures;
+          c.in-Success.is c.in_default.in_default-own.rest.0.0.1 c.in_default.in_default-own.rest.0.1 c.in_default.in_default-own.rest.1 c.in_default-kind-2.in_default-kind-2-own.rest.0.0.0.0.0.1 c.in_default-kind-2.in_default-kind-2-own.rest.0.0.0.0.1 c.in_default-kind-2.in_default-kind-2-own.rest.0.0.0.1
+          c.in_default-kind-2.in_default-kind-2-own.rest.0.0.1 c.in_default-kind-2.in_default-kind-2-own.rest.0.1 c.in_default-kind-2.in_default-kind-2-own.rest.1 c.aligned-v.ensures;
       remembering_2 = c.first-x.ensures.remembering_2;
     }
 
@@ -289,7 +286,7 @@ pub first-returns-in-Is : goal.first-returns-in-Is
 first-returns-in-Is t c =
     record {
       walked_first = out_recalled c.requires.ready_first c.entered-here.ensures c.untried-inside.ensures c.joined.ensures c.requires.room c.requires.remembering
-        c.in-Is.ensures;
+          c.in-Is.ensures;
       remembering_2 = c.requires.remembering;
     }
 
@@ -304,21 +301,23 @@ first-shape_of-list-then-puts_back t c = c.expression-y.auto.list
 
 pub first-shape_of-memory-then-puts_back : goal.first-shape_of-memory-then-puts_back
 first-shape_of-memory-then-puts_back t c =
-    elim c.if-remembers-2.branch
-    [ first-then-remembers-2 w ↦ ap length w.memory-is ∙ w.remember.auto.memory ∙ c.expression-y.auto.memory
-    | first-else-remembers-2 w ↦ ap length w.memory-is ∙ c.expression-y.auto.memory ]
+    elim c.if-remembers-2.branch [
+      | first-then-remembers-2 w ↦ ap length w.memory-is ∙ w.remember.auto.memory ∙ c.expression-y.auto.memory
+      | first-else-remembers-2 w ↦ ap length w.memory-is ∙ c.expression-y.auto.memory
+    ]
 
 pub first-returns-then-puts_back : goal.first-returns-then-puts_back
 first-returns-then-puts_back t c =
     record {
       walked_first = out_back c.requires.ready_first c.entered-here.ensures c.untried-inside.ensures c.joined-x.ensures c.requires.room
-        c.hush.ensures c.expression-y.ensures.walked c.puts_back.ensures c.if-puts_back.true;
-      remembering_2 = elim c.if-remembers-2.branch
-      [ first-then-remembers-2 w ↦
-          subst (Remembering _ _ _ _) (sym w.memory-is)
-          (remembers_walked c.requires.ready_first c.entered-here.ensures c.untried-inside.ensures c.expression-y.ensures.remembering_2
-          c.expression-y.ensures.walked w.entered-there.ensures w.remember.ensures)
-      | first-else-remembers-2 w ↦ subst (Remembering _ _ _ _) (sym w.memory-is) c.expression-y.ensures.remembering_2 ];
+          c.hush.ensures c.expression-y.ensures.walked c.puts_back.ensures c.if-puts_back.true;
+      remembering_2 = elim c.if-remembers-2.branch [
+        | first-then-remembers-2 w ↦
+            subst (Remembering _ _ _ _) (sym w.memory-is)
+            (remembers_walked c.requires.ready_first c.entered-here.ensures c.untried-inside.ensures c.expression-y.ensures.remembering_2
+            c.expression-y.ensures.walked w.entered-there.ensures w.remember.ensures)
+        | first-else-remembers-2 w ↦ subst (Remembering _ _ _ _) (sym w.memory-is) c.expression-y.ensures.remembering_2
+      ];
     }
 
 pub first-shape_of-list : goal.first-shape_of-list
@@ -326,21 +325,23 @@ first-shape_of-list t c = c.expression-y.auto.list
 
 pub first-shape_of-memory : goal.first-shape_of-memory
 first-shape_of-memory t c =
-    elim c.if-remembers-2.branch
-    [ first-then-remembers-2 w ↦ ap length w.memory-is ∙ w.remember.auto.memory ∙ c.expression-y.auto.memory
-    | first-else-remembers-2 w ↦ ap length w.memory-is ∙ c.expression-y.auto.memory ]
+    elim c.if-remembers-2.branch [
+      | first-then-remembers-2 w ↦ ap length w.memory-is ∙ w.remember.auto.memory ∙ c.expression-y.auto.memory
+      | first-else-remembers-2 w ↦ ap length w.memory-is ∙ c.expression-y.auto.memory
+    ]
 
 pub first-returns : goal.first-returns
 first-returns t c =
     record {
       walked_first = out_on c.requires.ready_first c.entered-here.ensures c.untried-inside.ensures c.joined-x.ensures c.requires.room
-        c.hush.ensures c.expression-y.ensures.walked c.puts_back.ensures c.if-puts_back.false;
-      remembering_2 = elim c.if-remembers-2.branch
-      [ first-then-remembers-2 w ↦
-          subst (Remembering _ _ _ _) (sym w.memory-is)
-          (remembers_walked c.requires.ready_first c.entered-here.ensures c.untried-inside.ensures c.expression-y.ensures.remembering_2
-          c.expression-y.ensures.walked w.entered-there.ensures w.remember.ensures)
-      | first-else-remembers-2 w ↦ subst (Remembering _ _ _ _) (sym w.memory-is) c.expression-y.ensures.remembering_2 ];
+          c.hush.ensures c.expression-y.ensures.walked c.puts_back.ensures c.if-puts_back.false;
+      remembering_2 = elim c.if-remembers-2.branch [
+        | first-then-remembers-2 w ↦
+            subst (Remembering _ _ _ _) (sym w.memory-is)
+            (remembers_walked c.requires.ready_first c.entered-here.ensures c.untried-inside.ensures c.expression-y.ensures.remembering_2
+            c.expression-y.ensures.walked w.entered-there.ensures w.remember.ensures)
+        | first-else-remembers-2 w ↦ subst (Remembering _ _ _ _) (sym w.memory-is) c.expression-y.ensures.remembering_2
+      ];
     }
 
 pub rule-bounds-rules-i : goal.rule-bounds-rules-i
