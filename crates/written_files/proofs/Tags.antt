@@ -93,9 +93,9 @@ by_tag r u =
 
 module _ (fs : List Field) (r : Runs fs) where
   -- Such fields are in order.
-  pub in_order : in_order fs ≡ true
+  pub in_order_lem : in_order fs ≡ true
   unfolding in_order later_tags
-  in_order =
+  in_order_lem =
       ap in_order (sym r.split)
       ∙ rw (
         eq-eqb r.one.tag 1 r.t1,
