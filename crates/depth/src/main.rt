@@ -11,9 +11,9 @@ use columns::{Interval, Reading, Start, Upper};
 use interpreter::Listed;
 use stored_cases::{least, load_16, pair, part};
 
-fn main() {
+fn main(rt: HostRuntime) {
     let mut bytes = io::large_buffer();
-    let n = stored_cases::read(b"shape", &mut bytes);
+    let n = stored_cases::read(&rt, b"shape", &mut bytes);
     call(part(&bytes, 0, n));
 }
 

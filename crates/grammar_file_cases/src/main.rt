@@ -38,10 +38,10 @@ const TABLE: usize = b't' as usize;
 // What every lent word holds before a read.
 const MARKER: u16 = 60000;
 
-fn main() {
+fn main(rt: HostRuntime) {
     let mut cases = stored_cases::room_for_cases();
     let mut bytes = stored_cases::room_for_part();
-    let n = stored_cases::read(b"cases", &mut cases);
+    let n = stored_cases::read(&rt, b"cases", &mut cases);
     records(part(&cases, 0, n), &mut bytes);
 }
 

@@ -31,12 +31,12 @@ const AGAIN: usize = b'a' as usize;
 // What every lent byte holds before a call.
 const MARKER: u8 = 238;
 
-fn main() {
+fn main(rt: HostRuntime) {
     let mut cases = stored_cases::room_for_cases();
     let mut file = stored_cases::room_for_part();
     let mut words = stored_cases::room_for_part();
     let mut out = stored_cases::room_for_part();
-    let n = stored_cases::read(b"cases", &mut cases);
+    let n = stored_cases::read(&rt, b"cases", &mut cases);
     records(part(&cases, 0, n), &mut file, &mut words, &mut out);
 }
 

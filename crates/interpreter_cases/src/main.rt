@@ -47,11 +47,11 @@ const AGAIN: usize = 1200;
 
 const AGAIN_CONTENTS: usize = 3;
 
-fn main() {
+fn main(rt: HostRuntime) {
     let mut cases = stored_cases::room_for_cases();
     let mut table = stored_cases::room_for_part();
     let mut text = stored_cases::room_for_part();
-    let n = stored_cases::read(b"cases", &mut cases);
+    let n = stored_cases::read(&rt, b"cases", &mut cases);
     records(part(&cases, 0, n), &mut table, &mut text);
 }
 

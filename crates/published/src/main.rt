@@ -18,9 +18,9 @@ const RUN_BY_2014: usize = b'R' as usize;
 
 const LINE: usize = b'l' as usize;
 
-fn main() {
+fn main(rt: HostRuntime) {
     let mut cases = stored_cases::room_for_cases();
-    let n = stored_cases::read(b"cases", &mut cases);
+    let n = stored_cases::read(&rt, b"cases", &mut cases);
     records(part(&cases, 0, n));
 }
 

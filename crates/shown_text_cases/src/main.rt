@@ -22,12 +22,12 @@ const FEW: usize = 64;
 
 const END: usize = 32;
 
-fn main() {
+fn main(rt: HostRuntime) {
     let mut cases = stored_cases::room_for_cases();
     let mut file = stored_cases::room_for_part();
     let mut report = stored_cases::room_for_part();
     let mut text = stored_cases::room_for_part();
-    let n = stored_cases::read(b"cases", &mut cases);
+    let n = stored_cases::read(&rt, b"cases", &mut cases);
     records(part(&cases, 0, n), &mut file, &mut report, &mut text);
 }
 

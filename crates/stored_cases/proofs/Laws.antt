@@ -1,14 +1,11 @@
 -- Laws on lists that a loop writes from the front, on parts that are cut off at the end, and on repeated bytes.
-use Prim.Native.Nat.{ℕ, zero, suc, ◌+◌, ◌-◌, ◌*◌, ◌≤◌, ◌<◌, min}
-use mathlib.Core.Path.{◌≡◌, refl, sym, ap, subst, ◌∙◌}
-use mathlib.Core.Bool.{Bool, true, false, cond}
+use Prim.Native.Nat.{ℕ, zero, suc, ◌+◌, ◌-◌, ◌≤◌, ◌<◌, min}
+use mathlib.Core.Path.{◌≡◌, refl, sym, ap, ◌∙◌}
 use mathlib.Core.List.{List, [], ◌∷◌, ◌++◌, append-nil}
 use native.Mathlib.Numerals.{add-one, unary_clauses}
-use native.Mathlib.Nat.{add-sub_cancel_left}
 use native.Mathlib.Omega.{arith}
-use lib.ListN.{length, take, drop, get_or, set, length-append, length-drop, length-set, length-take, get_or-eq_default}
+use lib.ListN.{length, take, drop, get_or, set, length-drop, length-set, length-take, get_or-eq_default}
 use lib.Seq.{drop-cons, set_at, append_snoc, paste, paste-zero, paste-suc, get_or-drop, drop-length}
-use lib.Dec.{leb}
 use borrow.Author.Tests.{le-leb, lt-leb}
 use Rattle.table.specs.Words.{tabulate}
 use Rattle.table.proofs.Words.{length_tabulate}

@@ -17,21 +17,54 @@ ghost use Rattle.table.specs.Words.{tabulate};
 ghost use Rattle.stored_cases.specs.Numbers.{pair_at, triple_at, quad_at, first_pairs, first_quads};
 ghost use Rattle.stored_cases.specs.Parts.{here, past, label_end, room, filled_by, repeated, stored_bytes, stored_end};
 
+use std::fs::File;
+use std::io::{Error, ErrorKind};
+use std::os::fd::AsRawFd;
+use std::rt::Files;
+
+// The number that the system gives standard error.
+const STDERR: i32 = 2;
+
 // At least the number of records of a file.
 pub const MOST_RECORDS: u32 = 100000;
 
 // Reads a file, and says how many bytes it gave: none if it cannot be opened.
-pub fn read(path: &[u8], bytes: &mut [u8]) -> usize
+pub fn read(rt: &(impl Files<File = File> + Alloc), path: &[u8], bytes: &mut [u8]) -> usize
     ensures { IsPrefixLen result bytes.new }
 {
-    let fd = os::open_read(path);
-    if fd < 0 {
-        os::fail(path);
-        return 0;
+    match open(rt, path) {
+        Ok(file) => io::read_full(file.as_raw_fd(), bytes),
+        Err(error) => {
+            fail(rt, path, &error);
+            0
+        }
     }
-    let n = io::read_full(fd, bytes);
-    libc::close(fd);
-    n
+}
+
+// Opens a file for reading. std takes a path as text, so one that is not UTF-8 is refused.
+fn open(files: &impl Files<File = File>, path: &[u8]) -> std::io::Result<File> {
+    match std::str::from_utf8(path) {
+        Ok(path) => File::open(files, path),
+        Err(_) => Err(Error::from(ErrorKind::InvalidFilename)),
+    }
+}
+
+// Writes a line to standard error: what failed, a colon and why, without the system's number of the error.
+fn fail(rt: &impl Alloc, what: &[u8], error: &Error) {
+    io::write_all(STDERR, what);
+    io::write_all(STDERR, b": ");
+    if let Ok(text) = error.to_string(rt.alloc()) {
+        io::write_all(STDERR, without_number(text.as_str()).as_bytes());
+    }
+    io::write_all(STDERR, b"\n");
+}
+
+// An error's text without the system's number of it, which std puts behind it.
+fn without_number(text: &str) -> &str {
+    match text.split_once(" (os error ") {
+        Some((reason, _)) => reason,
+        None => text,
+    }
 }
 
 // 1,000,000 zeros, for a file of cases; only their number is said.

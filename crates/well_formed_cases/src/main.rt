@@ -19,10 +19,10 @@ use well_formed::Verdict;
 // The kinds of calls.
 const CHECK: usize = b'c' as usize;
 
-fn main() {
+fn main(rt: HostRuntime) {
     let mut cases = stored_cases::room_for_cases();
     let mut bytes = stored_cases::room_for_part();
-    let n = stored_cases::read(b"cases", &mut cases);
+    let n = stored_cases::read(&rt, b"cases", &mut cases);
     records(part(&cases, 0, n), &mut bytes);
 }
 

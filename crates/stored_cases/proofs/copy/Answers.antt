@@ -1,8 +1,7 @@
 -- `stored_cases::copy` meets its contract.
 use native.Mathlib.Omega.{arith}
-use Prim.Native.Nat.{◌-◌}
 use borrow.Author.Rules.{rules}
-use Rattle.stored_cases.proofs.Laws.{Copied, copied_none, copied_more, copied_all}
+use Rattle.stored_cases.proofs.Laws.{copied_none, copied_more, copied_all}
 use Rattle.stored_cases.proofs.copy.Goals as goal
 
 pub loop-i-init : goal.loop-i-init

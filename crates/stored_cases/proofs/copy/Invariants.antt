@@ -1,8 +1,6 @@
 -- `stored_cases::copy` meets its contract.
-use native.Mathlib.Omega.{arith}
 use Prim.Native.Nat.{◌-◌}
-use borrow.Author.Rules.{rules}
-use Rattle.stored_cases.proofs.Laws.{Copied, copied_none, copied_more, copied_all}
+use Rattle.stored_cases.proofs.Laws.{Copied}
 use Rattle.stored_cases.proofs.copy.Given as goal
 
 abbrev pub invariant-loop-i : goal.invariant-loop-i

@@ -1,5 +1,4 @@
 -- `stored_cases::fill` meets its contract.
-use borrow.Author.Rules.{rules}
 use Rattle.stored_cases.proofs.Laws.{fills}
 use Rattle.stored_cases.proofs.fill.Goals as goal
 

@@ -1,10 +1,6 @@
 -- `stored_cases::load_32` meets its contract.
 use native.Mathlib.Omega.{arith}
-use borrow.Author.Rules.{rules}
-use Prim.Native.Nat.{◌-◌, ◌*◌}
-use lib.ListN.{length}
-use Rattle.stored_cases.specs.Numbers.{quad_at}
-use Rattle.stored_cases.proofs.Laws.{Written, written_none, written_more, written_all}
+use Rattle.stored_cases.proofs.Laws.{written_none, written_more, written_all}
 use Rattle.stored_cases.proofs.load_32.Goals as goal
 
 pub loop-i-init : goal.loop-i-init

@@ -1,10 +1,8 @@
 -- `stored_cases::load_32` meets its contract.
-use native.Mathlib.Omega.{arith}
-use borrow.Author.Rules.{rules}
 use Prim.Native.Nat.{◌-◌, ◌*◌}
 use lib.ListN.{length}
 use Rattle.stored_cases.specs.Numbers.{quad_at}
-use Rattle.stored_cases.proofs.Laws.{Written, written_none, written_more, written_all}
+use Rattle.stored_cases.proofs.Laws.{Written}
 use Rattle.stored_cases.proofs.load_32.Given as goal
 
 abbrev pub invariant-loop-i : goal.invariant-loop-i

@@ -1,5 +1,4 @@
 -- `stored_cases::part` meets its contract.
-use borrow.Author.Rules.{rules}
 use Rattle.stored_cases.proofs.Laws.{part_clipped}
 use Rattle.stored_cases.proofs.part.Goals as goal
 

@@ -1,5 +1,4 @@
 -- `stored_cases::quad` meets its contract.
-use borrow.Author.Rules.{rules}
 use native.Mathlib.Omega.{arith}
 use Rattle.stored_cases.specs.Numbers.{quad_at}
 use Rattle.stored_cases.proofs.Laws.{quad_none}

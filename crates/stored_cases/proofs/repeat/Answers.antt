@@ -1,8 +1,6 @@
 -- `stored_cases::repeat` meets its contract.
 use native.Mathlib.Omega.{arith}
-use Prim.Native.Nat.{◌-◌}
-use borrow.Author.Rules.{rules}
-use Rattle.stored_cases.proofs.Laws.{Repeating, repeating_more, repeating_all, repeated_not}
+use Rattle.stored_cases.proofs.Laws.{repeating_more, repeating_all, repeated_not}
 use Rattle.stored_cases.proofs.repeat.Goals as goal
 
 pub returns-then-distance-from : goal.returns-then-distance-from

@@ -1,5 +1,4 @@
 -- `stored_cases::show_16` meets its contract.
-use borrow.Author.Rules.{rules}
 use Prim.Native.Nat.{◌-◌, ◌≤◌}
 use lib.ListN.{length}
 use Rattle.stored_cases.proofs.show_16.Given as goal

@@ -1,5 +1,4 @@
 -- `stored_cases::show_32` meets its contract.
-use borrow.Author.Rules.{rules}
 use Prim.Native.Nat.{◌-◌, ◌≤◌}
 use lib.ListN.{length}
 use Rattle.stored_cases.proofs.show_32.Given as goal

@@ -1,5 +1,4 @@
 -- `stored_cases::stored` meets its contract.
-use borrow.Author.Rules.{rules}
 use Rattle.stored_cases.proofs.Laws.{puts}
 use Rattle.stored_cases.proofs.stored.Goals as goal
 
@@ -8,8 +7,8 @@ returns c =
     record {
       value = (puts _ _ _ _ c.triple.ensures.0 c.triple-head.ensures.0
           c.triple-2.ensures.0 c.triple-middle.ensures.0 c.triple-3.ensures.0
-          c.fill-next.ensures c.repeat.ensures c.fill.ensures).0;
+          (c.fill-next.ensures.value, c.fill-next.ensures.bytes_after) c.repeat.ensures (c.fill.ensures.value, c.fill.ensures.bytes_after)).0;
       bytes_after = (puts _ _ _ _ c.triple.ensures.0 c.triple-head.ensures.0
           c.triple-2.ensures.0 c.triple-middle.ensures.0 c.triple-3.ensures.0
-          c.fill-next.ensures c.repeat.ensures c.fill.ensures).1;
+          (c.fill-next.ensures.value, c.fill-next.ensures.bytes_after) c.repeat.ensures (c.fill.ensures.value, c.fill.ensures.bytes_after)).1;
     }
