@@ -31,78 +31,43 @@ indexed_at-requires c = c.requires.indexed
 
 pub offset_bounds-tokens-to : goal.offset_bounds-tokens-to
 offset_bounds-tokens-to c =
-    omega (
-      arith,
-      (let free =
-          writing_room (keywords_from c.args.file.now c.args.keywords) c.args.report.now
-          c.args.tokens.now (position c.loop-place.at c.loop-place.column c.loop-place.mark) c.loop-place.to c.loop-place.tokens
-          c.loop-place.invariant c.find-place.result c.find-place.ensures (not-false _ c.if-not-place.false) c.requires.report_in_bounds in
-          let kept =
-          out_length (keywords_from c.args.file.now c.args.keywords) c.args.report.now
-          c.args.tokens.now (position c.loop-place.at c.loop-place.column c.loop-place.mark) c.loop-place.to c.loop-place.tokens
-          c.loop-place.invariant c.requires.report_in_bounds in
-          (omega (arith, free, kept), omega (arith, free, (omega arith)))),
-    )
+    let free =
+    writing_room (keywords_from c.args.file.now c.args.keywords) c.args.report.now c.args.tokens.now (position c.loop-place.at c.loop-place.column c.loop-place.mark) c.loop-place.to c.loop-place.tokens c.loop-place.invariant c.find-place.result c.find-place.ensures (not-false _ c.if-not-place.false) c.requires.report_in_bounds in
+    let kept =
+    out_length (keywords_from c.args.file.now c.args.keywords) c.args.report.now c.args.tokens.now (position c.loop-place.at c.loop-place.column c.loop-place.mark) c.loop-place.to c.loop-place.tokens c.loop-place.invariant c.requires.report_in_bounds in
+    omega (arith, free, kept)
 
 pub bounds-tokens-to : goal.bounds-tokens-to
 bounds-tokens-to c =
-    omega (
-      arith,
-      (let free =
-          writing_room (keywords_from c.args.file.now c.args.keywords) c.args.report.now
-          c.args.tokens.now (position c.loop-place.at c.loop-place.column c.loop-place.mark) c.loop-place.to c.loop-place.tokens
-          c.loop-place.invariant c.find-place.result c.find-place.ensures (not-false _ c.if-not-place.false) c.requires.report_in_bounds in
-          let kept =
-          out_length (keywords_from c.args.file.now c.args.keywords) c.args.report.now
-          c.args.tokens.now (position c.loop-place.at c.loop-place.column c.loop-place.mark) c.loop-place.to c.loop-place.tokens
-          c.loop-place.invariant c.requires.report_in_bounds in
-          (omega (arith, free, kept), omega (arith, free, (omega arith)))),
-    )
+    let free =
+    writing_room (keywords_from c.args.file.now c.args.keywords) c.args.report.now c.args.tokens.now (position c.loop-place.at c.loop-place.column c.loop-place.mark) c.loop-place.to c.loop-place.tokens c.loop-place.invariant c.find-place.result c.find-place.ensures (not-false _ c.if-not-place.false) c.requires.report_in_bounds in
+    let kept =
+    out_length (keywords_from c.args.file.now c.args.keywords) c.args.report.now c.args.tokens.now (position c.loop-place.at c.loop-place.column c.loop-place.mark) c.loop-place.to c.loop-place.tokens c.loop-place.invariant c.requires.report_in_bounds in
+    omega (arith, free, kept)
 
 pub overflow_add-tokens : goal.overflow_add-tokens
 overflow_add-tokens c =
-    omega (
-      arith,
-      (let free =
-          writing_room (keywords_from c.args.file.now c.args.keywords) c.args.report.now
-          c.args.tokens.now (position c.loop-place.at c.loop-place.column c.loop-place.mark) c.loop-place.to c.loop-place.tokens
-          c.loop-place.invariant c.find-place.result c.find-place.ensures (not-false _ c.if-not-place.false) c.requires.report_in_bounds in
-          let kept =
-          out_length (keywords_from c.args.file.now c.args.keywords) c.args.report.now
-          c.args.tokens.now (position c.loop-place.at c.loop-place.column c.loop-place.mark) c.loop-place.to c.loop-place.tokens
-          c.loop-place.invariant c.requires.report_in_bounds in
-          (omega (arith, free, kept), omega (arith, free, (omega arith)))),
-    )
+    let free =
+    writing_room (keywords_from c.args.file.now c.args.keywords) c.args.report.now c.args.tokens.now (position c.loop-place.at c.loop-place.column c.loop-place.mark) c.loop-place.to c.loop-place.tokens c.loop-place.invariant c.find-place.result c.find-place.ensures (not-false _ c.if-not-place.false) c.requires.report_in_bounds in
+    let kept =
+    out_length (keywords_from c.args.file.now c.args.keywords) c.args.report.now c.args.tokens.now (position c.loop-place.at c.loop-place.column c.loop-place.mark) c.loop-place.to c.loop-place.tokens c.loop-place.invariant c.requires.report_in_bounds in
+    omega (arith, free, kept)
 
 pub offset_bounds-tokens-to-in-loop-place : goal.offset_bounds-tokens-to-in-loop-place
 offset_bounds-tokens-to-in-loop-place c =
-    omega (
-      arith,
-      (let free =
-          writing_room (keywords_from c.args.file.now c.args.keywords) c.args.report.now
-          c.args.tokens.now (position c.loop-place.at c.loop-place.column c.loop-place.mark) c.loop-place.to c.loop-place.tokens
-          c.loop-place.invariant c.find-place.result c.find-place.ensures (not-false _ c.if-not-place.false) c.requires.report_in_bounds in
-          let kept =
-          out_length (keywords_from c.args.file.now c.args.keywords) c.args.report.now
-          c.args.tokens.now (position c.loop-place.at c.loop-place.column c.loop-place.mark) c.loop-place.to c.loop-place.tokens
-          c.loop-place.invariant c.requires.report_in_bounds in
-          (omega (arith, free, kept), omega (arith, free, (omega arith)))),
-    )
+    let free =
+    writing_room (keywords_from c.args.file.now c.args.keywords) c.args.report.now c.args.tokens.now (position c.loop-place.at c.loop-place.column c.loop-place.mark) c.loop-place.to c.loop-place.tokens c.loop-place.invariant c.find-place.result c.find-place.ensures (not-false _ c.if-not-place.false) c.requires.report_in_bounds in
+    let kept =
+    out_length (keywords_from c.args.file.now c.args.keywords) c.args.report.now c.args.tokens.now (position c.loop-place.at c.loop-place.column c.loop-place.mark) c.loop-place.to c.loop-place.tokens c.loop-place.invariant c.requires.report_in_bounds in
+    omega (arith, free, kept)
 
 pub bounds-tokens-to-in-loop-place : goal.bounds-tokens-to-in-loop-place
 bounds-tokens-to-in-loop-place c =
-    simp length-set (omega (
-      arith,
-      (let free =
-          writing_room (keywords_from c.args.file.now c.args.keywords) c.args.report.now
-          c.args.tokens.now (position c.loop-place.at c.loop-place.column c.loop-place.mark) c.loop-place.to c.loop-place.tokens
-          c.loop-place.invariant c.find-place.result c.find-place.ensures (not-false _ c.if-not-place.false) c.requires.report_in_bounds in
-          let kept =
-          out_length (keywords_from c.args.file.now c.args.keywords) c.args.report.now
-          c.args.tokens.now (position c.loop-place.at c.loop-place.column c.loop-place.mark) c.loop-place.to c.loop-place.tokens
-          c.loop-place.invariant c.requires.report_in_bounds in
-          (omega (arith, free, kept), omega (arith, free, (omega arith)))),
-    ))
+    let free =
+    writing_room (keywords_from c.args.file.now c.args.keywords) c.args.report.now c.args.tokens.now (position c.loop-place.at c.loop-place.column c.loop-place.mark) c.loop-place.to c.loop-place.tokens c.loop-place.invariant c.find-place.result c.find-place.ensures (not-false _ c.if-not-place.false) c.requires.report_in_bounds in
+    let kept =
+    out_length (keywords_from c.args.file.now c.args.keywords) c.args.report.now c.args.tokens.now (position c.loop-place.at c.loop-place.column c.loop-place.mark) c.loop-place.to c.loop-place.tokens c.loop-place.invariant c.requires.report_in_bounds in
+    simp length-set (omega (arith, free, kept))
 
 pub overflow_cast-tokens : goal.overflow_cast-tokens
 overflow_cast-tokens c =
@@ -115,48 +80,27 @@ overflow_cast-tokens c =
 
 pub overflow_add-tokens-in-loop-place : goal.overflow_add-tokens-in-loop-place
 overflow_add-tokens-in-loop-place c =
-    omega (
-      arith,
-      (let free =
-          writing_room (keywords_from c.args.file.now c.args.keywords) c.args.report.now
-          c.args.tokens.now (position c.loop-place.at c.loop-place.column c.loop-place.mark) c.loop-place.to c.loop-place.tokens
-          c.loop-place.invariant c.find-place.result c.find-place.ensures (not-false _ c.if-not-place.false) c.requires.report_in_bounds in
-          let kept =
-          out_length (keywords_from c.args.file.now c.args.keywords) c.args.report.now
-          c.args.tokens.now (position c.loop-place.at c.loop-place.column c.loop-place.mark) c.loop-place.to c.loop-place.tokens
-          c.loop-place.invariant c.requires.report_in_bounds in
-          (omega (arith, free, kept), omega (arith, free, (omega arith)))),
-    )
+    let free =
+    writing_room (keywords_from c.args.file.now c.args.keywords) c.args.report.now c.args.tokens.now (position c.loop-place.at c.loop-place.column c.loop-place.mark) c.loop-place.to c.loop-place.tokens c.loop-place.invariant c.find-place.result c.find-place.ensures (not-false _ c.if-not-place.false) c.requires.report_in_bounds in
+    let kept =
+    out_length (keywords_from c.args.file.now c.args.keywords) c.args.report.now c.args.tokens.now (position c.loop-place.at c.loop-place.column c.loop-place.mark) c.loop-place.to c.loop-place.tokens c.loop-place.invariant c.requires.report_in_bounds in
+    omega (arith, free, kept)
 
 pub offset_bounds-tokens-to-in-loop-place-2 : goal.offset_bounds-tokens-to-in-loop-place-2
 offset_bounds-tokens-to-in-loop-place-2 c =
-    omega (
-      arith,
-      (let free =
-          writing_room (keywords_from c.args.file.now c.args.keywords) c.args.report.now
-          c.args.tokens.now (position c.loop-place.at c.loop-place.column c.loop-place.mark) c.loop-place.to c.loop-place.tokens
-          c.loop-place.invariant c.find-place.result c.find-place.ensures (not-false _ c.if-not-place.false) c.requires.report_in_bounds in
-          let kept =
-          out_length (keywords_from c.args.file.now c.args.keywords) c.args.report.now
-          c.args.tokens.now (position c.loop-place.at c.loop-place.column c.loop-place.mark) c.loop-place.to c.loop-place.tokens
-          c.loop-place.invariant c.requires.report_in_bounds in
-          (omega (arith, free, kept), omega (arith, free, (omega arith)))),
-    )
+    let free =
+    writing_room (keywords_from c.args.file.now c.args.keywords) c.args.report.now c.args.tokens.now (position c.loop-place.at c.loop-place.column c.loop-place.mark) c.loop-place.to c.loop-place.tokens c.loop-place.invariant c.find-place.result c.find-place.ensures (not-false _ c.if-not-place.false) c.requires.report_in_bounds in
+    let kept =
+    out_length (keywords_from c.args.file.now c.args.keywords) c.args.report.now c.args.tokens.now (position c.loop-place.at c.loop-place.column c.loop-place.mark) c.loop-place.to c.loop-place.tokens c.loop-place.invariant c.requires.report_in_bounds in
+    omega (arith, free, kept)
 
 pub bounds-tokens-to-in-loop-place-2 : goal.bounds-tokens-to-in-loop-place-2
 bounds-tokens-to-in-loop-place-2 c =
-    simp length-set (omega (
-      arith,
-      (let free =
-          writing_room (keywords_from c.args.file.now c.args.keywords) c.args.report.now
-          c.args.tokens.now (position c.loop-place.at c.loop-place.column c.loop-place.mark) c.loop-place.to c.loop-place.tokens
-          c.loop-place.invariant c.find-place.result c.find-place.ensures (not-false _ c.if-not-place.false) c.requires.report_in_bounds in
-          let kept =
-          out_length (keywords_from c.args.file.now c.args.keywords) c.args.report.now
-          c.args.tokens.now (position c.loop-place.at c.loop-place.column c.loop-place.mark) c.loop-place.to c.loop-place.tokens
-          c.loop-place.invariant c.requires.report_in_bounds in
-          (omega (arith, free, kept), omega (arith, free, (omega arith)))),
-    ))
+    let free =
+    writing_room (keywords_from c.args.file.now c.args.keywords) c.args.report.now c.args.tokens.now (position c.loop-place.at c.loop-place.column c.loop-place.mark) c.loop-place.to c.loop-place.tokens c.loop-place.invariant c.find-place.result c.find-place.ensures (not-false _ c.if-not-place.false) c.requires.report_in_bounds in
+    let kept =
+    out_length (keywords_from c.args.file.now c.args.keywords) c.args.report.now c.args.tokens.now (position c.loop-place.at c.loop-place.column c.loop-place.mark) c.loop-place.to c.loop-place.tokens c.loop-place.invariant c.requires.report_in_bounds in
+    simp length-set (omega (arith, free, kept))
 
 pub overflow_cast-tokens-in-loop-place : goal.overflow_cast-tokens-in-loop-place
 overflow_cast-tokens-in-loop-place c =
@@ -169,63 +113,35 @@ overflow_cast-tokens-in-loop-place c =
 
 pub overflow_add-tokens-in-loop-place-2 : goal.overflow_add-tokens-in-loop-place-2
 overflow_add-tokens-in-loop-place-2 c =
-    omega (
-      arith,
-      (let free =
-          writing_room (keywords_from c.args.file.now c.args.keywords) c.args.report.now
-          c.args.tokens.now (position c.loop-place.at c.loop-place.column c.loop-place.mark) c.loop-place.to c.loop-place.tokens
-          c.loop-place.invariant c.find-place.result c.find-place.ensures (not-false _ c.if-not-place.false) c.requires.report_in_bounds in
-          let kept =
-          out_length (keywords_from c.args.file.now c.args.keywords) c.args.report.now
-          c.args.tokens.now (position c.loop-place.at c.loop-place.column c.loop-place.mark) c.loop-place.to c.loop-place.tokens
-          c.loop-place.invariant c.requires.report_in_bounds in
-          (omega (arith, free, kept), omega (arith, free, (omega arith)))),
-    )
+    let free =
+    writing_room (keywords_from c.args.file.now c.args.keywords) c.args.report.now c.args.tokens.now (position c.loop-place.at c.loop-place.column c.loop-place.mark) c.loop-place.to c.loop-place.tokens c.loop-place.invariant c.find-place.result c.find-place.ensures (not-false _ c.if-not-place.false) c.requires.report_in_bounds in
+    let kept =
+    out_length (keywords_from c.args.file.now c.args.keywords) c.args.report.now c.args.tokens.now (position c.loop-place.at c.loop-place.column c.loop-place.mark) c.loop-place.to c.loop-place.tokens c.loop-place.invariant c.requires.report_in_bounds in
+    omega (arith, free, kept)
 
 pub offset_bounds-tokens-to-in-loop-place-3 : goal.offset_bounds-tokens-to-in-loop-place-3
 offset_bounds-tokens-to-in-loop-place-3 c =
-    omega (
-      arith,
-      (let free =
-          writing_room (keywords_from c.args.file.now c.args.keywords) c.args.report.now
-          c.args.tokens.now (position c.loop-place.at c.loop-place.column c.loop-place.mark) c.loop-place.to c.loop-place.tokens
-          c.loop-place.invariant c.find-place.result c.find-place.ensures (not-false _ c.if-not-place.false) c.requires.report_in_bounds in
-          let kept =
-          out_length (keywords_from c.args.file.now c.args.keywords) c.args.report.now
-          c.args.tokens.now (position c.loop-place.at c.loop-place.column c.loop-place.mark) c.loop-place.to c.loop-place.tokens
-          c.loop-place.invariant c.requires.report_in_bounds in
-          (omega (arith, free, kept), omega (arith, free, (omega arith)))),
-    )
+    let free =
+    writing_room (keywords_from c.args.file.now c.args.keywords) c.args.report.now c.args.tokens.now (position c.loop-place.at c.loop-place.column c.loop-place.mark) c.loop-place.to c.loop-place.tokens c.loop-place.invariant c.find-place.result c.find-place.ensures (not-false _ c.if-not-place.false) c.requires.report_in_bounds in
+    let kept =
+    out_length (keywords_from c.args.file.now c.args.keywords) c.args.report.now c.args.tokens.now (position c.loop-place.at c.loop-place.column c.loop-place.mark) c.loop-place.to c.loop-place.tokens c.loop-place.invariant c.requires.report_in_bounds in
+    omega (arith, free, kept)
 
 pub bounds-tokens-to-in-loop-place-3 : goal.bounds-tokens-to-in-loop-place-3
 bounds-tokens-to-in-loop-place-3 c =
-    simp length-set (omega (
-      arith,
-      (let free =
-          writing_room (keywords_from c.args.file.now c.args.keywords) c.args.report.now
-          c.args.tokens.now (position c.loop-place.at c.loop-place.column c.loop-place.mark) c.loop-place.to c.loop-place.tokens
-          c.loop-place.invariant c.find-place.result c.find-place.ensures (not-false _ c.if-not-place.false) c.requires.report_in_bounds in
-          let kept =
-          out_length (keywords_from c.args.file.now c.args.keywords) c.args.report.now
-          c.args.tokens.now (position c.loop-place.at c.loop-place.column c.loop-place.mark) c.loop-place.to c.loop-place.tokens
-          c.loop-place.invariant c.requires.report_in_bounds in
-          (omega (arith, free, kept), omega (arith, free, (omega arith)))),
-    ))
+    let free =
+    writing_room (keywords_from c.args.file.now c.args.keywords) c.args.report.now c.args.tokens.now (position c.loop-place.at c.loop-place.column c.loop-place.mark) c.loop-place.to c.loop-place.tokens c.loop-place.invariant c.find-place.result c.find-place.ensures (not-false _ c.if-not-place.false) c.requires.report_in_bounds in
+    let kept =
+    out_length (keywords_from c.args.file.now c.args.keywords) c.args.report.now c.args.tokens.now (position c.loop-place.at c.loop-place.column c.loop-place.mark) c.loop-place.to c.loop-place.tokens c.loop-place.invariant c.requires.report_in_bounds in
+    simp length-set (omega (arith, free, kept))
 
 pub overflow_add-to : goal.overflow_add-to
 overflow_add-to c =
-    omega (
-      arith,
-      (let free =
-          writing_room (keywords_from c.args.file.now c.args.keywords) c.args.report.now
-          c.args.tokens.now (position c.loop-place.at c.loop-place.column c.loop-place.mark) c.loop-place.to c.loop-place.tokens
-          c.loop-place.invariant c.find-place.result c.find-place.ensures (not-false _ c.if-not-place.false) c.requires.report_in_bounds in
-          let kept =
-          out_length (keywords_from c.args.file.now c.args.keywords) c.args.report.now
-          c.args.tokens.now (position c.loop-place.at c.loop-place.column c.loop-place.mark) c.loop-place.to c.loop-place.tokens
-          c.loop-place.invariant c.requires.report_in_bounds in
-          (omega (arith, free, kept), omega (arith, free, (omega arith)))),
-    )
+    let free =
+    writing_room (keywords_from c.args.file.now c.args.keywords) c.args.report.now c.args.tokens.now (position c.loop-place.at c.loop-place.column c.loop-place.mark) c.loop-place.to c.loop-place.tokens c.loop-place.invariant c.find-place.result c.find-place.ensures (not-false _ c.if-not-place.false) c.requires.report_in_bounds in
+    let kept =
+    out_length (keywords_from c.args.file.now c.args.keywords) c.args.report.now c.args.tokens.now (position c.loop-place.at c.loop-place.column c.loop-place.mark) c.loop-place.to c.loop-place.tokens c.loop-place.invariant c.requires.report_in_bounds in
+    omega (arith, free, kept)
 
 pub loop-place-smaller : goal.loop-place-smaller
 loop-place-smaller c =
