@@ -1,0 +1,13 @@
+-- `well_formed_cases::answer` meets its contract.
+use mathlib.Core.Path.{◌∙◌}
+use borrow.Author.Rules.{rules}
+use Rattle.stored_cases.proofs.Laws.{lent}
+use Rattle.well_formed_cases.proofs.Laws.{as_many}
+use Rattle.well_formed_cases.proofs.answer.Goals as goal
+
+pub returns : goal.returns
+returns c =
+    c.check.ensures
+    ∙ as_many _ _
+    (lent _ _ _ 2100 c.room_for_nodes-node_words.ensures c.least-x.ensures)
+    (lent _ _ _ 200 c.room_for_rules-rule_words.ensures c.least-y.ensures)

@@ -1,0 +1,10 @@
+-- `well_formed_cases::check` meets its contract.
+use mathlib.Core.Path.{◌∙◌}
+use borrow.Author.Rules.{rules}
+use Rattle.well_formed_cases.proofs.Laws.{same_answer}
+use Rattle.well_formed_cases.proofs.check.Goals as goal
+
+pub returns : goal.returns
+returns c =
+    c.check.ensures.result_value
+    ∙ same_answer c.load_16.ensures c.load_16-2.ensures
