@@ -1,0 +1,19 @@
+-- `answer_line::entry::line_at` meets its contract: the line of each byte passed is counted.
+use Prim.Native.Nat.{◌-◌, ◌≤◌}
+use mathlib.Core.Logic.{⊎_elim}
+use native.Mathlib.Omega.{arith}
+use Rattle.answer_line.proofs.EntryLaws.{Counted, count_none, count_break, count_other, counted_at}
+use Rattle.answer_line.proofs.entry.line_at.Goals as goal
+
+pub loop-i-init : goal.loop-i-init
+loop-i-init c = (omega arith, count_none _)
+
+pub loop-i-preserved : goal.loop-i-preserved
+loop-i-preserved c =
+    ⊎_elim
+    (λ w. (omega arith, count_break c.loop-i.invariant.1 (omega arith) w.0.taken w.1))
+    (λ w. (omega arith, count_other c.loop-i.invariant.1 (omega arith) w.0.left w.1))
+    c.if-report-i-eq10.branch
+
+pub returns : goal.returns
+returns c = counted_at {offset = c.args.offset} c.loop-i.invariant.1 (omega arith)

@@ -1,0 +1,6 @@
+-- `reported::report_check` meets its contract.
+use borrow.Author.Rules.{rules}
+use Rattle.reported.proofs.report_check.Goals as goal
+
+pub returns-in-IllFormed : goal.returns-in-IllFormed
+returns-in-IllFormed c = rw c.in-IllFormed.is c.seven_at.ensures

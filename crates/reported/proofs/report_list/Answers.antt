@@ -1,0 +1,33 @@
+-- `reported::report_list` meets its contract.
+use borrow.Author.Rules.{rules}
+use Rattle.reported.proofs.ListLaws.{number_listed, words_listed, number_failed, words_failed}
+use Rattle.reported.proofs.ListLaws.{number_refused, words_refused, number_named, words_named}
+use Rattle.reported.proofs.report_list.Goals as goal
+
+pub returns-in-Success : goal.returns-in-Success
+returns-in-Success c =
+    record {
+      by_index = λ place. search number_listed;
+      by_index_2 = λ place. search words_listed;
+    }
+
+pub returns-in-Failure : goal.returns-in-Failure
+returns-in-Failure c =
+    record {
+      by_index = λ place. search number_failed;
+      by_index_2 = λ place. search words_failed;
+    }
+
+pub returns-in-Refused : goal.returns-in-Refused
+returns-in-Refused c =
+    record {
+      by_index = λ place. search number_refused;
+      by_index_2 = λ place. search words_refused;
+    }
+
+pub returns-in-IllFormed : goal.returns-in-IllFormed
+returns-in-IllFormed c =
+    record {
+      by_index = λ place. search number_named;
+      by_index_2 = λ place. search words_named;
+    }

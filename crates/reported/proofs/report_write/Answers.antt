@@ -1,0 +1,11 @@
+-- `reported::report_write` meets its contract.
+use borrow.Author.Rules.{rules}
+use mathlib.Core.Path.{refl}
+use Rattle.reported.proofs.report_write.Goals as goal
+
+pub returns-in-Bytes : goal.returns-in-Bytes
+returns-in-Bytes c =
+    record {
+      value = rw c.in-Bytes.is refl;
+      res_after = rw c.in-Bytes.is refl;
+    }

@@ -1,0 +1,6 @@
+-- `scanner_cases::holds` meets its contract.
+use borrow.Author.Rules.{rules}
+use Rattle.scanner_cases.proofs.holds.Goals as goal
+
+pub returns-in-Token : goal.returns-in-Token
+returns-in-Token c = rw c.in-Token.is c.are_words.ensures
