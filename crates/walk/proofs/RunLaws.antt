@@ -43,7 +43,7 @@ use Rattle.memory.proofs.MemoryLaws.{nothing_kept}
 use Rattle.walk.specs.declared.Whole.{Whole}
 use Rattle.walk.specs.InternalWalk.{state_of, outcome_of, farthest_of, weight, Checked, Ready, Walked}
 use Rattle.walk.specs.InternalRemembering.{Remembering}
-use Rattle.walk.specs.InternalRun.{Admitted, Counted, WholeWalk}
+use Rattle.walk.specs.InternalRun.{Admitted, Counted, WholeWalkFrom}
 use Rattle.walk.specs.WalkAnswer.{walk_answer, walk_after}
 use Rattle.walk.proofs.WalkLaws.{weight_most}
 
@@ -208,14 +208,19 @@ module _ (reading : Reading) (nodes rules words : List ℕ) (start : Start) wher
           ∙ farthest_only reading nodes rules words start limits checked.well (outcome_of o) d.gives.derived.run
 
       whole : (n : ℕ) → (k ≡ 0 → n ≡ min (length (listed (outcome_of o) d.shown)) most_count)
-          → WholeWalk reading nodes rules words start k l (record { outcome = o; count = n }) l'
+          → WholeWalkFrom reading nodes rules words start k l (record { outcome = o; count = n }) l'
       whole n e =
           record {
             run = d.gives.derived.run;
             farthest = looked;
-            count = rw (← same) e;
             long = long_left d.left;
-            there = rw (← same) (words_left d.left);
+            whole = λ z. record {
+              run = d.gives.derived.run;
+              farthest = looked;
+              count = rw (← same) (e z);
+              long = long_left d.left;
+              there = rw (← same) (words_left d.left z);
+            };
           }
 
     -- By a reading that is the run's.
@@ -224,7 +229,7 @@ module _ (reading : Reading) (nodes rules words : List ℕ) (start : Start) wher
         → v ≡ reading
         → Walked v nodes rules words start.mode (form nodes start.node) from (0 ∷ k ∷ []) l o c' l'
         → o ≡ Failure m
-        → WholeWalk reading nodes rules words start k l (record { outcome = Failure m; count = 0 }) l'
+        → WholeWalkFrom reading nodes rules words start k l (record { outcome = Failure m; count = 0 }) l'
     whole_failed {v} {k} {l} {o} {c'} {l'} m p d e =
         let f : Walked reading nodes rules words start.mode (form nodes start.node) from (0 ∷ k ∷ []) l (Failure m) c' l' = rw (e, p) at d in
         whole f 0 (λ z. omega arith)
@@ -234,7 +239,7 @@ module _ (reading : Reading) (nodes rules words : List ℕ) (start : Start) wher
         → v ≡ reading
         → Walked v nodes rules words start.mode (form nodes start.node) from (0 ∷ k ∷ []) l o c' l'
         → o ≡ Success u
-        → WholeWalk reading nodes rules words start k l (record { outcome = Success u; count = so_far c' }) l'
+        → WholeWalkFrom reading nodes rules words start k l (record { outcome = Success u; count = so_far c' }) l'
     whole_read {v} {k} {l} {o} {c'} {l'} u p d e =
         let f : Walked reading nodes rules words start.mode (form nodes start.node) from (0 ∷ k ∷ []) l (Success u) c' l' = rw (e, p) at d in
         whole f (so_far c') (count_left f.left)
@@ -249,7 +254,7 @@ module _ (reading : Reading) (nodes rules words : List ℕ) (start : Start) wher
     unfolding walk_answer
     given_walk e m c = rw (← answered, e, m, c) refl
 
-    module _ {k : ℕ} {l : List ℕ} {w : Whole} {l' : List ℕ} (d : WholeWalk reading nodes rules words start k l w l') where
+    module _ {k : ℕ} {l : List ℕ} {w : Whole} {l' : List ℕ} (d : WholeWalkFrom reading nodes rules words start k l w l') where
       outcome : (o : Outcome) → w.outcome ≡ o → outcome_of o ≡ our_outcome reading nodes rules words start
       outcome o e = settled (outcome_of o) (subst (λ (v : Outcome). EndsRun reading nodes rules words start (outcome_of v)) e d.run)
 
@@ -274,7 +279,7 @@ module _ (reading : Reading) (nodes rules words : List ℕ) (start : Start) wher
           → k ≡ 0
           → given (record { ended = record { outcome = clauses.success (state_of u); farthest = u.farthest }; count = w.count })
           ≡ walk_answer reading nodes rules words start
-      walk_success u e z = given_walk (outcome (Success u) e) (looked_to (Success u) e) (d.count z)
+      walk_success u e z = given_walk (outcome (Success u) e) (looked_to (Success u) e) (d.whole z).count
 
       -- What a walk answers that lists nothing.
       pub run_failure : (m : ℕ) → w.outcome ≡ Failure m → Answered (given (record { outcome = clauses.failure; farthest = m }))
@@ -325,7 +330,7 @@ module _ (reading : Reading) (nodes rules words : List ℕ) (start : Start) wher
 
         pub listed_there :
             {w : Whole} {l' l'' : List ℕ}
-            → WholeWalk reading nodes rules words start 0 lent w l'
+            → WholeWalkFrom reading nodes rules words start 0 lent w l'
             → l'' ≡ cleared_from (n * 4) l'
             → l'' ≡ walk_after reading nodes rules words start lent
-        listed_there {l' = l'} d z = filled l' d.long (d.there refl fits) z
+        listed_there {l' = l'} d z = filled l' d.long ((d.whole refl).there fits) z

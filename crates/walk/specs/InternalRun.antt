@@ -31,17 +31,24 @@ Admits reading nodes rules words start (IllFormed node) = refused_at 7 node ≡ 
 abbrev pub Counted : Reading → List ℕ → List ℕ → List ℕ → Start → ℕ → Type 0
 Counted reading nodes rules words start n = n ≡ min (length (our_captures reading nodes rules words start)) most_count
 
--- What a walk from a start shows: an outcome that is derived and its farthest place; and where it counts from 0, the number of
--- its captures, and where there is room for all of them their words at the list's beginning.
-pub record WholeWalk (reading : Reading) (nodes rules words : List ℕ) (start : Start) (from : ℕ) (list : List ℕ) (w : Whole)
+-- What a walk from a start shows: an outcome that is derived, its farthest place, the number of its captures, and where there
+-- is room for all of them their words at the list's beginning.
+pub record WholeWalk (reading : Reading) (nodes rules words : List ℕ) (start : Start) (list : List ℕ) (w : Whole)
     (list' : List ℕ) : Type 0 where
   pub run : EndsRun reading nodes rules words start (outcome_of w.outcome)
   pub farthest : farthest_of w.outcome ≡ our_farthest reading nodes rules words start
-  pub count : from ≡ 0 → Counted reading nodes rules words start w.count
+  pub count : Counted reading nodes rules words start w.count
   pub long : length list' ≡ length list
   pub there :
-      from ≡ 0
-      → length (our_captures reading nodes rules words start) * 4 ≤ length list
+      length (our_captures reading nodes rules words start) * 4 ≤ length list
       → (i : ℕ)
       → i < length (our_captures reading nodes rules words start) * 4
       → get_or list' i 0 ≡ get_or (each_words capture_words (our_captures reading nodes rules words start)) i 0
+
+-- What a walk shows that counts on from a number: an outcome that is derived and its farthest place; from 0 on, the rest too.
+pub record WholeWalkFrom (reading : Reading) (nodes rules words : List ℕ) (start : Start) (from : ℕ) (list : List ℕ) (w : Whole)
+    (list' : List ℕ) : Type 0 where
+  pub run : EndsRun reading nodes rules words start (outcome_of w.outcome)
+  pub farthest : farthest_of w.outcome ≡ our_farthest reading nodes rules words start
+  pub long : length list' ≡ length list
+  pub whole : from ≡ 0 → WholeWalk reading nodes rules words start list w list'

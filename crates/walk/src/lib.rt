@@ -12,7 +12,7 @@ ghost use Rattle.clauses.specs.RunAnswer.{run_answer};
 ghost use Rattle.clauses.specs.Remembering.{memory_after};
 ghost use Rattle.walk.specs.WalkAnswer.{ended, numbers, walk_answer, walk_after};
 ghost use Rattle.walk.specs.InternalRemembering.{Remembering};
-ghost use Rattle.walk.specs.InternalRun.{Admitted, Admits, Counted, WholeWalk};
+ghost use Rattle.walk.specs.InternalRun.{Admitted, Admits, Counted, WholeWalkFrom};
 
 use capture_list::{MOST, clear};
 use columns::{Outcome, Reading, Start, State};
@@ -207,7 +207,7 @@ fn walk_once(
     requires admitted { Admitted reading nodes.now rules.now tokens.now start }
     requires counted_le_most_count { counted ≤ most_count }
     requires remembering { Remembering reading nodes.now rules.now tokens.now memory.old }
-    ensures whole_walk { WholeWalk reading nodes.now rules.now tokens.now start counted list.old result
+    ensures whole_walk { WholeWalkFrom reading nodes.now rules.now tokens.now start counted list.old result
         list.new }
     ensures remembering_2 { Remembering reading nodes.now rules.now tokens.now memory.new }
 {

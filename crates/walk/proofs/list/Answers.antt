@@ -41,7 +41,7 @@ write_list-requires c =
     let passed = subst (Admits _ _ _ _ _) c.in-Passes.is c.admitted.ensures in
     record {
       admitted = passed;
-      counted = c.walk_once-whole.ensures.whole_walk.count refl;
+      counted = (c.walk_once-whole.ensures.whole_walk.whole refl).count;
       remembering = c.walk_once-whole.ensures.remembering_2;
     }
 

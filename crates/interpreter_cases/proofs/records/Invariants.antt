@@ -1,0 +1,11 @@
+-- `interpreter_cases::records` is safe and ends: the lengths stay, and the count of records left falls. Assumes nothing.
+use mathlib.Core.Path.{◌≡◌}
+use lib.ListN.{length}
+use borrow.Author.Rules.{rules}
+use Rattle.interpreter_cases.proofs.records.Given as goal
+
+abbrev pub invariant-loop-left : goal.invariant-loop-left
+invariant-loop-left l = (length l.table ≡ length l.initial.table) × (length l.text ≡ length l.initial.text)
+
+abbrev pub decreases-loop-left : goal.decreases-loop-left
+decreases-loop-left l = l.left

@@ -1,0 +1,15 @@
+-- `saktroum::saktroum_read` meets its contract.
+use borrow.Author.Rules.{rules}
+use mathlib.Core.Path.{ap, ◌∙◌}
+use Rattle.reported.specs.Reported.{number}
+use Rattle.saktroum.proofs.saktroum_read.Goals as goal
+
+pub returns : goal.returns
+returns c =
+    let number_handed = c.report_read.ensures.value ∙ ap number c.read-x.ensures.result_value in
+    record {
+      value = number_handed;
+      nodes_after = rw c.read-x.ensures.result_value at c.read-x.ensures.nodes_after;
+      rules_after = rw c.read-x.ensures.result_value at c.read-x.ensures.rules_after;
+      res_after = rw c.read-x.ensures.result_value at c.report_read.ensures.res_after;
+    }

@@ -1,0 +1,7 @@
+-- `saktroum::upper_from` meets its contract.
+use borrow.Author.Rules.{rules}
+use mathlib.Core.Path.{refl}
+use Rattle.saktroum.proofs.upper_from.Goals as goal
+
+pub returns-else-endless : goal.returns-else-endless
+returns-else-endless c = rw c.if-endless.false refl

@@ -1,0 +1,11 @@
+-- `stored_runs::run` meets its contract.
+use borrow.Author.Rules.{rules}
+use Rattle.stored_cases.proofs.Laws.{lent}
+use Rattle.stored_runs.proofs.Laws.{as_many_pairs}
+use Rattle.stored_runs.proofs.run.Goals as goal
+
+pub returns : goal.returns
+returns c =
+    as_many_pairs _ _ c.run_in.ensures
+    (lent _ _ _ 2100 c.room_for_nodes-node_words.ensures c.least-x.ensures)
+    (lent _ _ _ 200 c.room_for_rules-rule_words.ensures c.least-y.ensures)

@@ -1,0 +1,8 @@
+-- `stored_runs::run_over` meets its contract.
+use mathlib.Core.Path.{refl}
+use borrow.Author.Rules.{rules}
+use Rattle.stored_runs.proofs.Laws.{carried}
+use Rattle.stored_runs.proofs.run_over.Goals as goal
+
+pub returns : goal.returns
+returns c = carried _ _ refl refl c.load_32.ensures c.run.ensures
