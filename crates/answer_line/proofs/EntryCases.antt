@@ -1,13 +1,12 @@
 -- The line of an entry by what is shown for its capture, and that it has room.
-use Prim.Native.Nat.{ℕ, zero, suc, ◌+◌, ◌-◌, ◌*◌, ◌/◌, ◌%◌, ◌≤◌, ◌<◌}
-use mathlib.Core.Path.{◌≡◌, refl, sym, ap, ap₂, ◌∙◌}
+use Prim.Native.Nat.{ℕ, suc, ◌+◌, ◌-◌, ◌*◌, ◌/◌, ◌%◌, ◌≤◌, ◌<◌}
+use mathlib.Core.Path.{◌≡◌, refl, sym, ap, ◌∙◌}
 use mathlib.Core.Bool.{Bool, true, false, cond, not, ◌&&◌, ◌||◌}
-use mathlib.Core.List.{List, [], ◌∷◌, ◌++◌}
+use mathlib.Core.List.{List, [], ◌∷◌}
 use mathlib.Core.Logic.{⊎_elim}
 use lib.ListN.{length, drop, take, get_or, length-take, length-drop, get_or-eq_default}
 use lib.Dec.{eqb, leb, ltb}
-use borrow.Author.Tests.{lt-ltb, le-ltb, ltb-true, ltb-false, leb-true, not-false}
-use native.Mathlib.Nat.{zero-add}
+use borrow.Author.Tests.{ltb-true, ltb-false, leb-true, not-false}
 use native.Mathlib.Omega.{arith}
 use Rattle.table.specs.Answer.{Answer, given, refused, refused_at, refuse_if}
 use Rattle.table.specs.Every.{every}
@@ -19,12 +18,12 @@ use Rattle.grammar_file.specs.File.{Contents, fields_of, rule_list, rule_names, 
 use Rattle.report_checks.specs.Report.{fails8}
 use Rattle.report_checks.specs.FirstChecks.{first_answer}
 use Rattle.columns.specs.declared.Capture.{Capture}
-use Rattle.clauses.specs.Limits.{tokens_of, fails11}
+use Rattle.clauses.specs.Limits.{fails11}
 use Rattle.shown_text.specs.declared.ShownPart.{ShownPart}
 use Rattle.shown_text.specs.declared.ShownPart.TheVariants.{InReport, InFile, Refused}
 use Rattle.shown_text.specs.Shown.{Part, in_report, in_file, token_offset, reads_tokens, fails14, part_shown, shown_answer, shown_bytes}
-use Rattle.shown_text.specs.Shown.{unless_refused, numbers}
-use Rattle.capture_checks.proofs.CaptureLaws.{Right, right_capture}
+use Rattle.shown_text.specs.Shown.{numbers}
+use Rattle.capture_checks.proofs.CaptureLaws.{right_capture}
 use Rattle.shown_text.proofs.ShownLaws.{first_given}
 use Rattle.shown_text.proofs.PartLaws.{report_inside, report_cut}
 use Rattle.answer_line.specs.EntryLine.{breaks, first_line, line_of, column_of, read_bytes, unread_bytes, entry_bytes, entry_count, entry_after}

@@ -1,20 +1,18 @@
 -- The line of the farthest place, part by part, and by what the run answered.
 use Prim.Native.Nat.{ℕ, ◌+◌, ◌*◌, ◌/◌, ◌≤◌, ◌<◌, min}
 use mathlib.Core.Path.{◌≡◌, refl, sym, ap, ◌∙◌}
-use mathlib.Core.Bool.{Bool, true, false, cond, ◌||◌}
+use mathlib.Core.Bool.{Bool, true, false}
 use mathlib.Core.List.{List, [], ◌++◌, append_assoc}
 use mathlib.Core.Logic.{⊎_elim}
 use lib.ListN.{length, take, get_or}
-use lib.Dec.{ltb}
 use lib.Seq.{take_all}
 use borrow.Author.Tests.{lt-ltb, le-ltb}
 use native.Mathlib.Nat.{zero-add}
 use native.Mathlib.Omega.{arith}
-use Rattle.table.specs.Answer.{Answer, given, refused, refused_at}
+use Rattle.table.specs.Answer.{Answer}
 use Rattle.table.proofs.Orders.{le_or_lt}
 use Rattle.report_checks.specs.Report.{fails8}
-use Rattle.clauses.specs.Clauses.{success}
-use Rattle.clauses.specs.Limits.{tokens_of, fails11}
+use Rattle.clauses.specs.Limits.{fails11}
 use Rattle.clauses.specs.RunAnswer.{Ended}
 use Rattle.interpreter.specs.Numbers.{numbers}
 use Rattle.interpreter.specs.declared.Ran.{Ran}

@@ -1,5 +1,5 @@
 -- What a part of a walk leaves of the list of captures. No public promise rests on this file.
-use Rattle.std.specs.Prelude.{ℕ, ◌+◌, ◌*◌, ◌≤◌, ◌<◌, ◌^◌, min, ◌≡◌, List, [], ◌∷◌, length, get_or}
+use Rattle.std.specs.Prelude.{ℕ, ◌+◌, ◌*◌, ◌≤◌, ◌<◌, ◌^◌, min, ◌≡◌, List, length, get_or}
 use Rattle.table.specs.Words.{each_words}
 use Rattle.columns.specs.declared.Capture.{Capture}
 use Rattle.columns.specs.declared.State.{State}

@@ -9,7 +9,7 @@ use mathlib.Core.List.{List, [], ◌∷◌}
 use mathlib.Core.Logic.{◌↔◌}
 use lib.ListN.{length}
 use native.Mathlib.Omega.{arith}
-use Rattle.table.specs.Answer.{Answer, given}
+use Rattle.table.specs.Answer.{given}
 use Rattle.table.specs.Words.{each_words}
 use Rattle.table.specs.Every.{every}
 use Rattle.table.specs.Form.{terminal, rule, sequence, indent, align, form}
@@ -28,7 +28,7 @@ use Rattle.clauses.specs.AlikeOutcomes.{AlikeOutcome, alike_success}
 use Rattle.clauses.specs.Limits.{fails11, fails12, fails16}
 use Rattle.clauses.specs.Evaluation.{evaluate, outcome_for, trace_for}
 use Rattle.clauses.specs.RunAnswer.{SetRun, set_farthest, Ended, run_answer}
-use Rattle.clauses.specs.ListAnswer.{set_captures, our_captures, Listing, list_answer, list_words, list_after}
+use Rattle.clauses.specs.ListAnswer.{set_captures, our_captures, list_answer, list_words, list_after}
 use Rattle.clauses.specs.ThirdDemand.{ThirdDemand, ListDemand}
 use Rattle.clauses.specs.Cases.{four_words, token_words, ◌at◌, from, a, b}
 

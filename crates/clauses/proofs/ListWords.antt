@@ -1,7 +1,7 @@
 -- The words of a list of captures: how many, and that a list for which there is room fills its slice.
 use Prim.Native.Nat.{ℕ, ◌-◌, ◌*◌, ◌≤◌}
-use mathlib.Core.Path.{◌≡◌, refl, sym, ap, ◌∙◌}
-use mathlib.Core.List.{List, [], ◌++◌, append-nil}
+use mathlib.Core.Path.{◌≡◌, refl, ap, ◌∙◌}
+use mathlib.Core.List.{List, ◌++◌, append-nil}
 use lib.ListN.{length, drop, replicate, length-append, length-replicate, drop_of_length-le}
 use native.Mathlib.Omega.{arith}
 use Rattle.table.specs.Words.{each_words}

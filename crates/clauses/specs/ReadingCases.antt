@@ -2,7 +2,7 @@
 -- start), or a run that lists, with what is expected of it by 2017 and by 2014. The answers are worked by hand from Note 5,
 -- figure 6 of 000 and the clauses of 001, the farthest places from Note 7; `ReadingCasesHold`, in proofs, computes them all.
 use Rattle.std.specs.Prelude.{ℕ, Bool, true, false, List, [], ◌∷◌, ◌++◌}
-use Rattle.table.specs.Answer.{Answer, given, refused, refused_at}
+use Rattle.table.specs.Answer.{Answer, refused, refused_at}
 use Rattle.table.specs.Form.{Form, empty, terminal, rule, sequence, choice, not, repeat, indent, position, align}
 use Rattle.columns.specs.Relations.{equal, greater, at_least, any, step}
 use Rattle.columns.specs.Intervals.{to}

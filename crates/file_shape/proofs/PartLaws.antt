@@ -14,7 +14,7 @@ use Rattle.table.specs.Checks.{table_answer, fails3, fails4, fails5}
 use Rattle.file_fields.specs.Fields.{Field, two_bytes}
 use Rattle.spellings.specs.Spellings.{single_alone, right_spellings}
 use Rattle.file_tables.specs.Tables.{rule_node, words_of}
-use Rattle.file_shape.specs.Contents.{Contents, keywords, rule_names, rule_list, node_table, start_value, start_node, start_mode}
+use Rattle.file_shape.specs.Contents.{keywords, rule_names, rule_list, node_table, start_value, start_node, start_mode}
 use Rattle.file_shape.specs.Contents.{fields_of, fails2, fails5_by_file, contents, file_answer}
 use Rattle.file_fields.specs.Offsets.{value_at, fields_from, spellings_from}
 use Rattle.file_shape.specs.Shape.{Parts}

@@ -4,21 +4,20 @@ use mathlib.Core.Path.{◌≡◌, refl, sym, ap, ap₂, subst, ◌∙◌}
 use mathlib.Core.Bool.{Bool, true, false, cond}
 use mathlib.Core.List.{List, ◌++◌}
 use lib.ListN.{length, drop}
-use lib.Dec.{leb, ltb}
+use lib.Dec.{leb}
 use native.Mathlib.Omega.{arith}
 use borrow.Author.Tests.{lt-ltb, le-ltb, lt-leb, le-leb}
-use Rattle.table.specs.Answer.{Answer, given, refused, refused_at, and_then, afterwards}
+use Rattle.table.specs.Answer.{Answer, given, refused, refused_at, and_then}
 use Rattle.columns.specs.Intervals.{ends}
-use Rattle.columns.specs.declared.Interval.{Interval}
 use Rattle.columns.specs.declared.State.{State}
 use Rattle.columns.specs.declared.Start.{Start}
 use Rattle.columns.specs.declared.Reading.{Reading}
 use Rattle.well_formed.specs.WellFormed.{Passes}
-use Rattle.clauses.specs.Clauses.{Outcome, success}
+use Rattle.clauses.specs.Clauses.{success}
 use Rattle.clauses.specs.Limits.{tokens_of, WithinLimits}
-use Rattle.clauses.specs.RunAnswer.{EndsRun, ends_farthest, Ended, our_end, run_answer, Reads}
+use Rattle.clauses.specs.RunAnswer.{Ended, our_end, run_answer, Reads}
 use Rattle.clauses.specs.ListAnswer.{our_captures, fails13, Listing, list_answer, list_words, list_after}
-use Rattle.clauses.proofs.ListWords.{length_list, list_fills}
+use Rattle.clauses.proofs.ListWords.{list_fills}
 use Rattle.theorems.proofs.Narrows.{onward}
 use Rattle.theorems.proofs.Agreement.{run_given, farthest_only, captures_only, outcome_answered, answered_within}
 use Rattle.capture_list.specs.Put.{most_count}

@@ -16,11 +16,10 @@ use Rattle.interpreter.specs.declared.Ran.{Ran}
 use Rattle.interpreter.specs.declared.Ran.TheVariants.{Refused as RanRefused, IllFormed as RanIllFormed}
 use Rattle.interpreter.specs.declared.Listed.{Listed}
 use Rattle.interpreter.specs.declared.Listed.TheVariants as listed
-use Rattle.line.specs.Line.{start_at, file_start, after_parts, parts_answer, line_answer}
-use Rattle.line.specs.Entries.{entries_answer, end_answer, Placed, capture_count, given_count, token_count, tokens_after, captures_after, entries}
+use Rattle.line.specs.Line.{start_at, file_start, parts_answer, line_answer}
+use Rattle.line.specs.Entries.{entries_answer, end_answer, Placed, capture_count, given_count, token_count, captures_after, entries}
 use Rattle.line.specs.InternalParts.{Stands, Says, PartsGive, ran_of}
 use Rattle.line.specs.declared.Parts.{Parts}
-use Rattle.line.specs.declared.Parts.TheVariants.{Ready, Refused, IllFormed}
 use Rattle.line.specs.declared.Entries.{Entries}
 use Rattle.line.proofs.PartLaws.{parts_refuse, parts_name, parts_pass}
 

@@ -1,5 +1,5 @@
 -- Words lent to remember in, before a stored run and after it.
-use Rattle.std.specs.Prelude.{ℕ, zero, suc, ◌+◌, ◌%◌, ◌≡◌, Bool, true, ◌&&◌, List, [], ◌∷◌, get_or, eqb}
+use Rattle.std.specs.Prelude.{ℕ, zero, suc, ◌%◌, ◌≡◌, Bool, true, ◌&&◌, List, [], ◌∷◌, get_or, eqb}
 use Rattle.columns.specs.declared.Start.{Start}
 use Rattle.columns.specs.declared.Reading.{Reading}
 use Rattle.interpreter.specs.declared.Ran.{Ran}

@@ -1,9 +1,7 @@
 -- What stored bytes stand for in a run, and how many numbers are printed of what it ended in.
 use Rattle.std.specs.Prelude.{ℕ, zero, suc, ◌≡◌, Bool, true, false, List, get_or}
-use Rattle.columns.specs.declared.Interval.{Interval}
 use Rattle.columns.specs.declared.Start.{Start}
 use Rattle.columns.specs.declared.Reading.{Reading}
-use Rattle.columns.specs.declared.State.{State}
 use Rattle.columns.specs.declared.Upper.{Upper}
 use Rattle.columns.specs.declared.Upper.TheVariants.{At, Endless}
 use Rattle.interpreter.specs.Numbers.{numbers, Derived}

@@ -23,7 +23,7 @@ use Rattle.well_formed.proofs.VerdictLaws.{check_means}
 use Rattle.clauses.specs.Clauses.{Tokens, State, Outcome, success}
 use Rattle.clauses.specs.Limits.{tokens_of, fails11, fails12, fails16, WithinLimits}
 use Rattle.clauses.specs.AlikeOutcomes.{AlikeOutcome, alike_success, alike_failure}
-use Rattle.clauses.specs.Trace.{Trace, Gives, trace, farthest_from, listed}
+use Rattle.clauses.specs.Trace.{Trace, Gives, farthest_from, listed}
 use Rattle.clauses.specs.RunAnswer.{SetRun, EndsRun, our_outcome, our_trace, ends_farthest, set_farthest, our_farthest, Ended, our_end, run_answer, Reads}
 use Rattle.clauses.specs.ListAnswer.{ends_captures, set_captures, our_captures, fails13, Listing, list_answer, list_words, list_after}
 use Rattle.clauses.specs.ThirdDemand.{ThirdDemand, ListDemand}

@@ -11,7 +11,7 @@ use Rattle.columns.specs.Intervals.{ends}
 use Rattle.columns.specs.declared.Interval.{Interval}
 use Rattle.columns.specs.declared.Start.{Start}
 use Rattle.columns.specs.declared.Reading.{Reading}
-use Rattle.table.specs.Answer.{Answer, given}
+use Rattle.table.specs.Answer.{given}
 use Rattle.clauses.specs.Clauses.{Tokens, State, Outcome, Run, empty, terminal_clear, terminal_aligned, terminal_fails, rule}
 use Rattle.clauses.specs.Clauses.{sequence, sequence_fails, choice_first, choice_second, not, not_fails, repeat_ends}
 use Rattle.clauses.specs.Clauses.{repeat_again, indent, indent_fails, indent_through, position, align, align_fails}

@@ -1,6 +1,6 @@
 -- The captures of a success in their order (02, Note 2): an outer one before those inside it, otherwise in the order read, each
 -- between the ends of the one around it, with the right number around it. `CapturesInside` shows that their rules are there.
-use Prim.Native.Nat.{ℕ, ◌+◌, ◌≤◌, ◌<◌}
+use Prim.Native.Nat.{ℕ, ◌+◌, ◌≤◌}
 use mathlib.Core.Path.{◌≡◌, sym, subst}
 use mathlib.Core.List.{List, [], ◌∷◌, ◌++◌, append_assoc, append-nil}
 use native.Mathlib.Omega.{arith}

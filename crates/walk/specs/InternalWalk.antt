@@ -3,7 +3,7 @@ use Rattle.std.specs.Prelude.{ℕ, zero, suc, ◌+◌, ◌-◌, ◌*◌, ◌%◌
 use Rattle.table.specs.Limits.{most_nodes, relation_count, most_tokens, most_column}
 use Rattle.table.specs.Answer.{given}
 use Rattle.table.specs.Checks.{table_answer}
-use Rattle.table.specs.Form.{Form, rule, kind_of, node_count, stands_for}
+use Rattle.table.specs.Form.{Form, kind_of, node_count, stands_for}
 use Rattle.columns.specs.Relations.{amount}
 use Rattle.columns.specs.Lawful.{Some}
 use Rattle.columns.specs.Intervals.{ends, inner_ends, fits, after_token}

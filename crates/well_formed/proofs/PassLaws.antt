@@ -4,12 +4,10 @@ use mathlib.Core.Path.{◌≡◌, refl, sym, fun_ext, ◌∙◌}
 use mathlib.Core.Bool.{Bool, true, false, not, ◌&&◌, ◌||◌, true≢false, false≢true}
 use mathlib.Core.List.{List}
 use mathlib.Core.Logic.{◌⊎◌, inl, inr, ⊎_elim}
-use lib.ListN.{set}
 use borrow.Author.Tests.{not-true}
 use Rattle.table.proofs.Every.{and_left, and_right, both_false}
 use Rattle.table.proofs.Orders.{le_or_lt}
-use Rattle.well_formed.specs.Facts.{nothing}
-use Rattle.well_formed.specs.InternalPasses.{Pass, Finished, cell}
+use Rattle.well_formed.specs.InternalPasses.{Pass, Finished}
 use Rattle.well_formed.proofs.RoundLaws.{one_of}
 use Rattle.well_formed.proofs.FixpointLaws.{Each, missing, same_found}
 

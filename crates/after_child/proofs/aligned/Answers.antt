@@ -1,5 +1,4 @@
 -- `after_child::aligned` meets its contract.
-use borrow.Author.Rules.{rules}
 use mathlib.Core.Path.{ap}
 use Rattle.after_child.specs.AfterChild.{with_flag}
 use Rattle.after_child.proofs.aligned.Goals as goal

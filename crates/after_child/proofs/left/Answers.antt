@@ -1,5 +1,4 @@
 -- `after_child::left` meets its contract.
-use borrow.Author.Rules.{rules}
 use mathlib.Core.Path.{ap}
 use Rattle.after_child.specs.AfterChild.{with_interval}
 use Rattle.after_child.proofs.left.Goals as goal

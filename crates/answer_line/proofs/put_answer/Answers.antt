@@ -1,5 +1,4 @@
 -- `answer_line::put_answer` meets its contract.
-use borrow.Author.Rules.{rules}
 use Rattle.answer_line.specs.AnswerLine.{decimal_to}
 use Rattle.answer_line.proofs.put_answer.Goals as goal
 

@@ -1,5 +1,4 @@
 -- `answer_line::put_flag` meets its contract.
-use borrow.Author.Rules.{rules}
 use native.Mathlib.Omega.{arith}
 use Rattle.answer_line.proofs.put_flag.Goals as goal
 

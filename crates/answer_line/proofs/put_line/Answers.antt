@@ -1,5 +1,4 @@
 -- `answer_line::put_line` meets its contract.
-use borrow.Author.Rules.{rules}
 use Rattle.answer_line.proofs.PutLaws.{put_then}
 use Rattle.answer_line.proofs.put_line.Goals as goal
 

@@ -1,5 +1,4 @@
 -- `answer_line::put_success` meets its contract.
-use borrow.Author.Rules.{rules}
 use Rattle.answer_line.proofs.PutLaws.{success_line}
 use Rattle.answer_line.proofs.put_success.Goals as goal
 

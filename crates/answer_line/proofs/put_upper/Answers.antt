@@ -1,5 +1,4 @@
 -- `answer_line::put_upper` meets its contract.
-use borrow.Author.Rules.{rules}
 use native.Mathlib.Omega.{arith}
 use Rattle.answer_line.proofs.put_upper.Goals as goal
 

@@ -1,5 +1,4 @@
 -- `answer_line::write` meets its contract.
-use borrow.Author.Rules.{rules}
 use Rattle.interpreter.specs.Numbers.{numbers}
 use Rattle.answer_line.specs.AnswerLine.{line_bytes, written_count, written_after}
 use Rattle.answer_line.proofs.PutLaws.{written_none, written_whole}

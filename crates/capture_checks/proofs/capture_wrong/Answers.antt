@@ -1,5 +1,4 @@
 -- `capture_checks::capture_wrong` meets its contract.
-use borrow.Author.Rules.{rules}
 use native.Mathlib.Omega.{arith}
 use Rattle.capture_checks.proofs.CaptureLaws.{no_rule, no_tokens, turned, falls, last_end, no_end}
 use Rattle.capture_checks.proofs.capture_wrong.Goals as goal

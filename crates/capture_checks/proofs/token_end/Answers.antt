@@ -1,5 +1,4 @@
 -- `capture_checks::token_end` meets its contract.
-use borrow.Author.Rules.{rules}
 use Prim.Native.Nat.{◌+◌}
 use mathlib.Core.Path.{ap₂}
 use Rattle.capture_checks.proofs.token_end.Goals as goal

@@ -1,5 +1,4 @@
 -- `capture_checks::token_offset` meets its contract.
-use borrow.Author.Rules.{rules}
 use Rattle.capture_checks.proofs.token_offset.Goals as goal
 
 pub returns : goal.returns

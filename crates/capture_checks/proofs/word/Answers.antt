@@ -1,5 +1,4 @@
 -- `capture_checks::word` meets its contract.
-use borrow.Author.Rules.{rules}
 use mathlib.Core.Path.{sym}
 use lib.ListN.{get_or-eq_default}
 use Rattle.capture_checks.proofs.word.Goals as goal

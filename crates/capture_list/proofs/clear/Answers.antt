@@ -1,9 +1,6 @@
 -- `capture_list::clear` meets its contract.
-use Prim.Native.Nat.{◌-◌, ◌≤◌}
-use lib.ListN.{length}
 use native.Mathlib.Omega.{arith}
-use borrow.Author.Rules.{rules}
-use Rattle.capture_list.proofs.ClearLaws.{Cleared, clear_none, clear_next, cleared_is}
+use Rattle.capture_list.proofs.ClearLaws.{clear_none, clear_next, cleared_is}
 use Rattle.capture_list.proofs.clear.Goals as goal
 
 pub loop-i-init : goal.loop-i-init

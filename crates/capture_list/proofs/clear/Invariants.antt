@@ -1,9 +1,7 @@
 -- `capture_list::clear` meets its contract.
 use Prim.Native.Nat.{◌-◌, ◌≤◌}
 use lib.ListN.{length}
-use native.Mathlib.Omega.{arith}
-use borrow.Author.Rules.{rules}
-use Rattle.capture_list.proofs.ClearLaws.{Cleared, clear_none, clear_next, cleared_is}
+use Rattle.capture_list.proofs.ClearLaws.{Cleared}
 use Rattle.capture_list.proofs.clear.Given as goal
 
 abbrev pub invariant-loop-i : goal.invariant-loop-i

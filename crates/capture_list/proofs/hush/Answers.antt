@@ -1,5 +1,4 @@
 -- `capture_list::hush` meets its contract.
-use borrow.Author.Rules.{rules}
 use Rattle.capture_list.proofs.QuietLaws.{hushed_not, not_hushed}
 use Rattle.capture_list.proofs.hush.Goals as goal
 

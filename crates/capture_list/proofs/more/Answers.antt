@@ -1,5 +1,4 @@
 -- `capture_list::more` meets its contract.
-use borrow.Author.Rules.{rules}
 use native.Mathlib.Omega.{arith}
 use Rattle.capture_list.proofs.more.Goals as goal
 

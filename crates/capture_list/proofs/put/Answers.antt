@@ -1,7 +1,4 @@
 -- `capture_list::put` meets its contract.
-use borrow.Author.Rules.{rules}
-use native.Mathlib.Omega.{arith}
-use lib.ListN.{length-set}
 use Rattle.capture_list.proofs.ListLaws.{put_there, put_nowhere}
 use Rattle.capture_list.proofs.put.Goals as goal
 

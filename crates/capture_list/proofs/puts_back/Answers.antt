@@ -1,5 +1,4 @@
 -- `capture_list::puts_back` meets its contract.
-use borrow.Author.Rules.{rules}
 use mathlib.Core.Path.{sym, ap}
 use Rattle.capture_list.specs.Put.{puts_back}
 use Rattle.capture_list.proofs.puts_back.Goals as goal

@@ -1,5 +1,4 @@
 -- `entries::print_blanks` ends: what is left falls.
-use borrow.Author.Rules.{rules}
 use Rattle.entries.proofs.print_blanks.Given as goal
 
 abbrev pub invariant-loop-left : goal.invariant-loop-left

@@ -1,7 +1,6 @@
 -- `file_fields::length_at` meets its contract.
 use native.Mathlib.Omega.{arith}
 use Prim.Native.Nat.{◌+◌}
-use mathlib.Core.Path.{refl}
 use Rattle.file_fields.proofs.length_at.Goals as goal
 
 pub overflow_cast-high : goal.overflow_cast-high

@@ -1,7 +1,6 @@
 -- `file_fields::offset_of` meets its contract.
 use native.Mathlib.Omega.{arith}
 use mathlib.Core.Path.{◌≡◌, refl, ap, ◌∙◌}
-use Prim.Native.Nat.{◌≤◌, ◌-◌}
 use native.Mathlib.Numerals.{add-one}
 use Rattle.file_fields.specs.Offsets.{next_at, offset_of}
 use Rattle.file_fields.proofs.offset_of.Goals as goal

@@ -1,9 +1,7 @@
 -- `file_fields::offset_of` meets its contract.
-use native.Mathlib.Omega.{arith}
-use mathlib.Core.Path.{◌≡◌, refl, ap, ◌∙◌}
+use mathlib.Core.Path.{◌≡◌}
 use Prim.Native.Nat.{◌≤◌, ◌-◌}
-use native.Mathlib.Numerals.{add-one}
-use Rattle.file_fields.specs.Offsets.{next_at, offset_of}
+use Rattle.file_fields.specs.Offsets.{offset_of}
 use Rattle.file_fields.proofs.offset_of.Given as goal
 
 abbrev pub invariant-loop-i : goal.invariant-loop-i

@@ -1,16 +1,11 @@
 -- `file_shape::inspect` meets its contract.
-use borrow.Author.Rules.{rules}
 use borrow.Author.Tests.{not-true, not-false, le-ltb, lt-ltb}
-use Prim.Native.Nat.{ℕ}
-use mathlib.Core.Path.{◌≡◌, refl, sym, ap, ◌∙◌}
+use mathlib.Core.Path.{refl, sym, ap, ◌∙◌}
 use mathlib.Core.Bool.{true, false}
-use mathlib.Core.List.{List}
-use Rattle.table.specs.Answer.{given}
 use Rattle.table.specs.Checks.{numbers as checked_numbers}
-use Rattle.file_shape.specs.Contents.{fields_of, fails2, file_answer}
+use Rattle.file_shape.specs.Contents.{file_answer}
 use Rattle.file_shape.specs.Shape.{Parts}
-use Rattle.file_shape.specs.declared.Shape.{Shape}
-use Rattle.file_shape.proofs.PartLaws.{table_at, by_names, by_table, by_start, start_test, mode_test}
+use Rattle.file_shape.proofs.PartLaws.{by_names, by_table, by_start, start_test, mode_test}
 use Rattle.file_shape.proofs.inspect.Goals as goal
 
 pub returns-then-not-s : goal.returns-then-not-s

@@ -1,5 +1,4 @@
 -- `file_shape::names_wrong` meets its contract.
-use borrow.Author.Rules.{rules}
 use borrow.Author.Tests.{not-true, not-false}
 use mathlib.Core.Path.{refl, sym, ◌∙◌}
 use Rattle.file_shape.proofs.PartLaws.{names_by}

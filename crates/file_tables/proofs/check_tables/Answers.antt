@@ -1,5 +1,4 @@
 -- `file_tables::check_tables` meets its contract.
-use borrow.Author.Rules.{rules}
 use mathlib.Core.Path.{sym, ap, ap₂, ◌∙◌}
 use mathlib.Core.List.{map}
 use lib.ListN.{length}

@@ -1,11 +1,8 @@
 -- `file_tables::write_nodes` meets its contract.
 use native.Mathlib.Omega.{arith}
-use Prim.Native.Nat.{ℕ, ◌-◌, ◌*◌, ◌≤◌}
 use mathlib.Core.Path.{◌≡◌, refl, ap, ◌∙◌}
-use mathlib.Core.List.{◌++◌}
-use lib.ListN.{length, drop, length-set}
+use lib.ListN.{length-set}
 use Rattle.table.specs.Words.{each_words}
-use Rattle.file_tables.specs.Tables.{words_of}
 use Rattle.file_fields.specs.Offsets.{value_at, offset_of, fields_from}
 use Rattle.file_tables.proofs.TableLaws.{node_next, four_same, offset_stepped}
 use Rattle.file_tables.proofs.write_nodes.Goals as goal

@@ -1,13 +1,10 @@
 -- `file_tables::write_nodes` meets its contract.
-use native.Mathlib.Omega.{arith}
-use Prim.Native.Nat.{ℕ, ◌-◌, ◌*◌, ◌≤◌}
-use mathlib.Core.Path.{◌≡◌, refl, ap, ◌∙◌}
+use Prim.Native.Nat.{◌-◌, ◌*◌, ◌≤◌}
+use mathlib.Core.Path.{◌≡◌}
 use mathlib.Core.List.{◌++◌}
-use lib.ListN.{length, drop, length-set}
-use Rattle.table.specs.Words.{each_words}
+use lib.ListN.{length, drop}
 use Rattle.file_tables.specs.Tables.{words_of}
-use Rattle.file_fields.specs.Offsets.{value_at, offset_of, fields_from}
-use Rattle.file_tables.proofs.TableLaws.{node_next, four_same, offset_stepped}
+use Rattle.file_fields.specs.Offsets.{offset_of, fields_from}
 use Rattle.file_tables.proofs.write_nodes.Given as goal
 
 abbrev pub invariant-loop-i : goal.invariant-loop-i

@@ -1,10 +1,9 @@
 -- `file_tables::write_rules` meets its contract.
 use native.Mathlib.Omega.{arith}
-use Prim.Native.Nat.{ℕ, ◌-◌, ◌≤◌}
+use Prim.Native.Nat.{ℕ}
 use mathlib.Core.Path.{◌≡◌, refl, ap, ◌∙◌}
-use mathlib.Core.List.{List, ◌++◌, map}
-use lib.ListN.{length, drop, get_or, length-set}
-use Rattle.file_tables.specs.Tables.{rule_node}
+use mathlib.Core.List.{List}
+use lib.ListN.{get_or, length-set}
 use Rattle.file_fields.specs.Offsets.{offset_of, fields_from, value_at}
 use Rattle.file_fields.specs.Fields.{two_bytes}
 use Rattle.file_tables.proofs.TableLaws.{rule_next, offset_stepped}

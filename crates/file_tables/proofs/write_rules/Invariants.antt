@@ -1,13 +1,10 @@
 -- `file_tables::write_rules` meets its contract.
-use native.Mathlib.Omega.{arith}
-use Prim.Native.Nat.{ℕ, ◌-◌, ◌≤◌}
-use mathlib.Core.Path.{◌≡◌, refl, ap, ◌∙◌}
-use mathlib.Core.List.{List, ◌++◌, map}
-use lib.ListN.{length, drop, get_or, length-set}
+use Prim.Native.Nat.{◌-◌, ◌≤◌}
+use mathlib.Core.Path.{◌≡◌}
+use mathlib.Core.List.{◌++◌, map}
+use lib.ListN.{length, drop}
 use Rattle.file_tables.specs.Tables.{rule_node}
-use Rattle.file_fields.specs.Offsets.{offset_of, fields_from, value_at}
-use Rattle.file_fields.specs.Fields.{two_bytes}
-use Rattle.file_tables.proofs.TableLaws.{rule_next, offset_stepped}
+use Rattle.file_fields.specs.Offsets.{offset_of, fields_from}
 use Rattle.file_tables.proofs.write_rules.Given as goal
 
 abbrev pub invariant-loop-i : goal.invariant-loop-i

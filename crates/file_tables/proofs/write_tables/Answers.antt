@@ -1,7 +1,5 @@
 -- `file_tables::write_tables` meets its contract.
-use borrow.Author.Rules.{rules}
 use mathlib.Core.Path.{refl}
-use native.Mathlib.Omega.{arith}
 use lib.ListN.{length}
 use Rattle.file_tables.proofs.TableLaws.{short_nodes, short_rules, enough, nodes_written_lem, rules_written_lem}
 use Rattle.file_tables.proofs.write_tables.Goals as goal

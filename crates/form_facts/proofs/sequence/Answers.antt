@@ -1,5 +1,4 @@
 -- `form_facts::sequence` meets its contract.
-use borrow.Author.Rules.{rules}
 use mathlib.Core.Path.{refl, ◌∙◌}
 use Rattle.form_facts.specs.Rules.{gives}
 use Rattle.form_facts.proofs.FactLaws.{by_fact}

@@ -1,5 +1,4 @@
 -- `form_facts::well_by_form` meets its contract.
-use borrow.Author.Rules.{rules}
 use mathlib.Core.Path.{refl}
 use Rattle.form_facts.specs.Rules.{passes}
 use Rattle.table.proofs.NodeKinds.{over_nine}

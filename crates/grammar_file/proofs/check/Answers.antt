@@ -1,5 +1,4 @@
 -- `grammar_file::check` meets its contract.
-use borrow.Author.Rules.{rules}
 use mathlib.Core.Path.{◌∙◌}
 use Rattle.grammar_file.proofs.ReadLaws.{refuses, parts, passes}
 use Rattle.grammar_file.proofs.check.Goals as goal

@@ -1,5 +1,4 @@
 -- `grammar_file::counts` meets its contract.
-use borrow.Author.Rules.{rules}
 use Rattle.grammar_file.proofs.CountLaws.{counted, keywords_stand}
 use Rattle.grammar_file.proofs.counts.Goals as goal
 

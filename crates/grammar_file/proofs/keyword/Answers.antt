@@ -1,5 +1,4 @@
 -- `grammar_file::keyword` meets its contract.
-use borrow.Author.Rules.{rules}
 use mathlib.Core.Path.{ap, ◌∙◌}
 use Rattle.file_fields.specs.Offsets.{value_at}
 use Rattle.grammar_file.proofs.ReadLaws.{no_keyword, keyword_at, keyword_past}

@@ -1,5 +1,4 @@
 -- `grammar_file::read` meets its contract.
-use borrow.Author.Rules.{rules}
 use mathlib.Core.Path.{refl, ◌∙◌}
 use lib.ListN.{length}
 use Rattle.grammar_file.proofs.ReadLaws.{read_refuses, parts, short, enough, nodes_after, rules_after}

@@ -1,7 +1,6 @@
 -- `grammar_file_cases::nodes_written` meets its contract.
 use Prim.Native.Nat.{◌*◌}
 use mathlib.Core.Path.{sym, ap, ◌∙◌}
-use borrow.Author.Rules.{rules}
 use Rattle.grammar_file_cases.specs.Written.{nodes_written}
 use Rattle.grammar_file_cases.proofs.nodes_written.Goals as goal
 

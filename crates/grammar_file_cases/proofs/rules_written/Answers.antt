@@ -1,6 +1,5 @@
 -- `grammar_file_cases::rules_written` meets its contract.
 use mathlib.Core.Path.{sym, ap}
-use borrow.Author.Rules.{rules}
 use Rattle.grammar_file_cases.specs.Written.{rules_written}
 use Rattle.grammar_file_cases.proofs.rules_written.Goals as goal
 

@@ -1,9 +1,7 @@
 -- `grammar_writer::check_started` meets its contract.
-use borrow.Author.Rules.{rules}
-use mathlib.Core.Path.{◌≡◌, refl, sym, ap, ◌∙◌}
+use mathlib.Core.Path.{refl, sym, ap, ◌∙◌}
 use borrow.Author.Tests.{le-ltb, lt-ltb}
-use Rattle.table.specs.Answer.{given}
-use Rattle.table.specs.Checks.{numbers, table_answer}
+use Rattle.table.specs.Checks.{numbers}
 use Rattle.grammar_writer.proofs.LendLaws.{table_refuses, start_decides}
 use Rattle.grammar_writer.proofs.check_started.Goals as goal
 

@@ -1,5 +1,4 @@
 -- `grammar_writer::put_field` meets its contract.
-use borrow.Author.Rules.{rules}
 use native.Mathlib.Omega.{arith}
 use mathlib.Core.Path.{ap, ◌∙◌}
 use Rattle.slices.specs.Copied.{placed}

@@ -1,12 +1,9 @@
 -- `grammar_writer::put_file` meets its contract: each section stands behind those before it.
-use borrow.Author.Rules.{rules}
 use mathlib.Core.Path.{◌∙◌}
-use mathlib.Core.List.{◌++◌}
 use native.Mathlib.Nat.{zero-add}
 use native.Mathlib.Omega.{arith}
-use Rattle.grammar_writer.proofs.PutLaws.{Over}
 use Rattle.grammar_writer.proofs.LendLaws.{byte_words, byte_mode, lends_started, keywords_right, names_right}
-use Rattle.grammar_writer.proofs.FileLaws.{Format, Keywords, Rules, Nodes, format_put, keywords_fit, keywords_put}
+use Rattle.grammar_writer.proofs.FileLaws.{format_put, keywords_fit, keywords_put}
 use Rattle.grammar_writer.proofs.FileLaws.{rules_fit, rules_put, nodes_fit, nodes_put, start_fits, start_put}
 use Rattle.grammar_writer.proofs.put_file.Goals as goal
 

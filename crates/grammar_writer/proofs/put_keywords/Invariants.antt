@@ -1,16 +1,9 @@
 -- `grammar_writer::put_keywords` meets its contract: after k turns the first k keywords stand there.
-use borrow.Author.Rules.{rules}
 use Prim.Native.Nat.{◌-◌, ◌≤◌}
-use mathlib.Core.Path.{◌≡◌, refl, sym, ap, ◌∙◌}
-use mathlib.Core.List.{[]}
-use native.Mathlib.Omega.{arith}
-use lib.ListN.{length}
+use mathlib.Core.Path.{◌≡◌}
 use Rattle.file_fields.specs.Offsets.{offset_of, spellings_from}
-use Rattle.file_fields.proofs.Offsets.{length_spellings}
-use Rattle.file_tables.proofs.TableLaws.{offset_stepped}
-use Rattle.grammar_writer.specs.FieldBytes.{keyword_field}
-use Rattle.grammar_writer.proofs.PutLaws.{Put, put_starts, Next, next_field}
-use Rattle.grammar_writer.proofs.SectionLaws.{spelling_short, spelling_is, keyword_of, keyword_short}
+use Rattle.grammar_writer.proofs.PutLaws.{Put}
+use Rattle.grammar_writer.proofs.SectionLaws.{keyword_of}
 use Rattle.grammar_writer.proofs.put_keywords.Given as goal
 
 abbrev pub invariant-loop-k : goal.invariant-loop-k

@@ -1,13 +1,11 @@
 -- `grammar_writer::put_rules` meets its contract: after r turns the first r rules stand there.
-use borrow.Author.Rules.{rules}
-use Prim.Native.Nat.{◌-◌, ◌≤◌}
 use mathlib.Core.Path.{◌≡◌, refl, ◌∙◌}
 use mathlib.Core.List.{[], ◌∷◌}
 use native.Mathlib.Omega.{arith}
 use lib.ListN.{length}
 use Rattle.file_fields.specs.Offsets.{offset_of, spellings_from}
 use Rattle.file_tables.proofs.TableLaws.{offset_stepped}
-use Rattle.grammar_writer.proofs.PutLaws.{Put, put_starts, Next, next_field}
+use Rattle.grammar_writer.proofs.PutLaws.{put_starts, next_field}
 use Rattle.grammar_writer.proofs.SectionLaws.{spelling_short, spelling_is, rule_of, rule_short, rule_is}
 use Rattle.grammar_writer.proofs.put_rules.Goals as goal
 

@@ -1,5 +1,4 @@
 -- `grammar_writer::write` meets its contract.
-use borrow.Author.Rules.{rules}
 use mathlib.Core.Path.{refl, sym, ap, ◌∙◌}
 use lib.ListN.{length}
 use Rattle.table.specs.Checks.{numbers}

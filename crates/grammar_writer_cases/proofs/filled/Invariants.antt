@@ -1,8 +1,7 @@
 -- `grammar_writer_cases::filled` meets its contract.
 use Prim.Native.Nat.{◌-◌}
 use lib.ListN.{length}
-use borrow.Author.Rules.{rules}
-use Rattle.slices.proofs.FilledLaws.{From, starts, goes_on, stops, ends}
+use Rattle.slices.proofs.FilledLaws.{From}
 use Rattle.grammar_writer_cases.proofs.filled.Given as goal
 
 abbrev pub invariant-loop-i : goal.invariant-loop-i

@@ -1,10 +1,7 @@
 -- `grammar_writer_cases::mark` meets its contract.
-use mathlib.Core.Path.{refl}
-use native.Mathlib.Omega.{arith}
-use borrow.Author.Rules.{rules}
 use Prim.Native.Nat.{◌-◌}
 use lib.ListN.{length}
-use Rattle.stored_cases.proofs.Laws.{Written, written_none, written_more, written_all}
+use Rattle.stored_cases.proofs.Laws.{Written}
 use Rattle.grammar_writer_cases.proofs.mark.Given as goal
 
 abbrev pub invariant-loop-i : goal.invariant-loop-i

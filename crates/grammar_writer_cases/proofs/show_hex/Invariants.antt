@@ -1,7 +1,6 @@
 -- `grammar_writer_cases::show_hex` is safe and ends: what is left of the bytes falls. Assumes nothing.
 use Prim.Native.Nat.{◌≤◌, ◌-◌}
 use lib.ListN.{length}
-use borrow.Author.Rules.{rules}
 use Rattle.grammar_writer_cases.proofs.show_hex.Given as goal
 
 abbrev pub invariant-loop-i : goal.invariant-loop-i

@@ -1,5 +1,4 @@
 -- `interpreter::list` meets its contract.
-use borrow.Author.Rules.{rules}
 use native.Mathlib.Omega.{arith}
 use Rattle.interpreter.proofs.RunLaws.{told_list, run_refused, run_named, shown_list, success_onward}
 use Rattle.interpreter.proofs.RunLaws.{list_refused, list_named, list_13, list_failure, list_success}

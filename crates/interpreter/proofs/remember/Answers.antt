@@ -1,5 +1,4 @@
 -- `interpreter::remember` meets its contract.
-use borrow.Author.Rules.{rules}
 use native.Mathlib.Omega.{arith}
 use Rattle.interpreter.proofs.RunLaws.{told, shown, answer_failure, success_onward, answer_success}
 use Rattle.interpreter.proofs.remember.Goals as goal

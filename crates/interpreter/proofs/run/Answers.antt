@@ -1,5 +1,4 @@
 -- `interpreter::run` meets its contract.
-use borrow.Author.Rules.{rules}
 use Rattle.interpreter.proofs.run.Goals as goal
 
 pub returns : goal.returns

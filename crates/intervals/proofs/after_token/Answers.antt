@@ -1,5 +1,4 @@
 -- `intervals::after_token` meets its contract.
-use borrow.Author.Rules.{rules}
 use mathlib.Core.Path.{refl}
 use Rattle.intervals.proofs.after_token.Goals as goal
 

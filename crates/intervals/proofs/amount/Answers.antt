@@ -1,6 +1,4 @@
 -- `intervals::amount` meets its contract.
-use borrow.Author.Rules.{rules}
-use mathlib.Core.Path.{refl}
 use native.Mathlib.Omega.{arith}
 use Rattle.intervals.proofs.amount.Goals as goal
 

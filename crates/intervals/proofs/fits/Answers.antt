@@ -1,9 +1,8 @@
 -- `intervals::fits` meets its contract.
-use borrow.Author.Rules.{rules}
 use mathlib.Core.Path.{refl, sym}
 use mathlib.Core.Bool.{and-true}
 use lib.Dec.{leb-zero}
-use Rattle.intervals.proofs.IntervalLaws.{over_three, over_lower, fits_by}
+use Rattle.intervals.proofs.IntervalLaws.{over_lower, fits_by}
 use mathlib.Core.Logic.{inl, inr}
 use Rattle.intervals.proofs.fits.Goals as goal
 use Rattle.intervals.proofs.fits.Goals.{then-flag, else-flag}

@@ -1,5 +1,4 @@
 -- `intervals::leave` meets its contract.
-use borrow.Author.Rules.{rules}
 use mathlib.Core.Path.{ap, ◌∙◌}
 use Rattle.columns.specs.Intervals.{meet_ends}
 use Rattle.intervals.proofs.leave.Goals as goal

@@ -1,5 +1,4 @@
 -- `intervals::less` meets its contract.
-use borrow.Author.Rules.{rules}
 use mathlib.Core.Path.{refl, ap}
 use Rattle.columns.specs.declared.Upper.TheVariants.{At}
 use Rattle.intervals.proofs.less.Goals as goal

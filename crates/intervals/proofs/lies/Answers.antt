@@ -1,5 +1,4 @@
 -- `intervals::lies` meets its contract.
-use borrow.Author.Rules.{rules}
 use mathlib.Core.Path.{refl}
 use borrow.Author.Tests.{lt-leb, le-leb}
 use Rattle.intervals.proofs.lies.Goals as goal

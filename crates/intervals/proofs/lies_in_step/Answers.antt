@@ -1,5 +1,4 @@
 -- `intervals::lies_in_step` meets its contract.
-use borrow.Author.Rules.{rules}
 use mathlib.Core.Path.{◌∙◌}
 use Rattle.intervals.proofs.IntervalLaws.{step_lies, step_below}
 use Rattle.intervals.proofs.lies_in_step.Goals as goal

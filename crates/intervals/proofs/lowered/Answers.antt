@@ -1,5 +1,4 @@
 -- `intervals::lowered` meets its contract.
-use mathlib.Core.Path.{refl}
 use native.Mathlib.Omega.{arith}
 use Rattle.intervals.proofs.lowered.Goals as goal
 

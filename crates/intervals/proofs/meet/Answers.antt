@@ -1,5 +1,4 @@
 -- `intervals::meet` meets its contract.
-use borrow.Author.Rules.{rules}
 use Rattle.intervals.proofs.IntervalLaws.{meet_second, meet_first}
 use Rattle.intervals.proofs.meet.Goals as goal
 

@@ -1,5 +1,4 @@
 -- `intervals::outer` meets its contract.
-use borrow.Author.Rules.{rules}
 use mathlib.Core.Path.{refl, ap, ap₂, ◌∙◌}
 use Rattle.columns.specs.Intervals.{to}
 use Rattle.intervals.proofs.IntervalLaws.{over_three, step_outer}

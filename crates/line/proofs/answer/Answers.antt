@@ -1,5 +1,4 @@
 -- `line::answer` meets its contract.
-use borrow.Author.Rules.{rules}
 use mathlib.Core.Path.{refl}
 use native.Mathlib.Omega.{arith}
 use Rattle.line.proofs.PartLaws.{front_length}

@@ -1,5 +1,4 @@
 -- `line::counted` meets its contract.
-use borrow.Author.Rules.{rules}
 use mathlib.Core.Path.{refl}
 use Rattle.line.proofs.counted.Goals as goal
 

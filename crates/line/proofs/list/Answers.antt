@@ -1,5 +1,4 @@
 -- `line::list` meets its contract.
-use borrow.Author.Rules.{rules}
 use mathlib.Core.Path.{sym, ap, subst, ◌∙◌}
 use native.Mathlib.Omega.{arith}
 use Rattle.line.specs.Entries.{end_answer, Placed, capture_count}

@@ -1,5 +1,4 @@
 -- `line::prepare` meets its contract.
-use borrow.Author.Rules.{rules}
 use mathlib.Core.Path.{◌∙◌}
 use native.Mathlib.Omega.{arith}
 use Rattle.grammar_file.specs.File.{numbers as file-numbers}

@@ -1,7 +1,6 @@
 -- `line::write` meets its contract.
 use mathlib.Core.Path.{refl}
 use lib.ListN.{length}
-use borrow.Author.Rules.{rules}
 use borrow.Author.Tests.{lt-ltb}
 use Rattle.answer_line.specs.AnswerLine.{written_count, written_after}
 use Rattle.line.specs.Line.{line_count, line_after}

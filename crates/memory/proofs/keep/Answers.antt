@@ -1,5 +1,4 @@
 -- `memory::keep` meets its contract.
-use borrow.Author.Rules.{rules}
 use Rattle.memory.proofs.SlotLaws.{slot_in, room_left, kept_short, kept_in}
 use Rattle.memory.proofs.keep.Goals as goal
 

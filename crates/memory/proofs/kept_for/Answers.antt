@@ -1,5 +1,4 @@
 -- `memory::kept_for` meets its contract.
-use borrow.Author.Rules.{rules}
 use native.Mathlib.Omega.{arith}
 use mathlib.Core.Path.{refl, sym, ◌∙◌}
 use Rattle.memory.specs.Memory.{kept_for}

@@ -1,5 +1,4 @@
 -- `memory::look` meets its contract.
-use borrow.Author.Rules.{rules}
 use Rattle.memory.proofs.SlotLaws.{slot_in, found_short, found, found_none}
 use Rattle.memory.proofs.look.Goals as goal
 

@@ -1,5 +1,4 @@
 -- `memory::outcome_at` meets its contract.
-use borrow.Author.Rules.{rules}
 use mathlib.Core.Path.{refl}
 use borrow.Author.Tests.{ne_eqb}
 use Rattle.memory.specs.Memory.{outcome_at}

@@ -1,7 +1,4 @@
 -- `memory::put_key` meets its contract.
-use borrow.Author.Rules.{rules}
-use native.Mathlib.Omega.{arith}
-use lib.ListN.{length-set}
 use Rattle.memory.proofs.SlotLaws.{put_key}
 use Rattle.memory.proofs.put_key.Goals as goal
 

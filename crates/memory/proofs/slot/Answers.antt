@@ -1,5 +1,4 @@
 -- `memory::slot` meets its contract.
-use borrow.Author.Rules.{rules}
 use native.Mathlib.Omega.{arith}
 use mathlib.Core.Path.{refl}
 use Rattle.memory.proofs.SlotLaws.{slot_fits}

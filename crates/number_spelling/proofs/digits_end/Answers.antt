@@ -1,6 +1,6 @@
 -- `number_spelling::digits_end` meets its contract. The loop's invariant: what is left behind the digits from
 -- `from` on is what is left behind those from `i` on.
-use Prim.Native.Nat.{ℕ, ◌+◌, ◌-◌, ◌≤◌, ◌<◌}
+use Prim.Native.Nat.{ℕ, ◌+◌, ◌≤◌, ◌<◌}
 use mathlib.Core.Path.{◌≡◌, refl, sym, ◌∙◌}
 use mathlib.Core.Bool.{true, false}
 use mathlib.Core.List.{List}

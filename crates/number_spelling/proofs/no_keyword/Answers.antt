@@ -1,5 +1,4 @@
 -- `number_spelling::no_keyword` meets its contract.
-use borrow.Author.Rules.{rules}
 use mathlib.Core.Path.{refl}
 use Rattle.number_spelling.proofs.no_keyword.Goals as goal
 

@@ -1,5 +1,4 @@
 -- `places::find` meets its contract.
-use borrow.Author.Rules.{rules}
 use native.Mathlib.Omega.{arith}
 use mathlib.Core.Path.{sym, ◌∙◌}
 use Rattle.places.proofs.FindLaws.{past_end, no_room, with_room}

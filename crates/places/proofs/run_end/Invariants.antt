@@ -1,16 +1,11 @@
 -- `places::run_end` meets its contract.
-use native.Mathlib.Omega.{arith}
-use borrow.Author.Tests.{not-true, not-false}
-use Prim.Native.Nat.{ℕ, ◌+◌, ◌-◌, ◌≤◌, ◌<◌}
-use mathlib.Core.Path.{◌≡◌, refl, sym, ap, ◌∙◌}
-use mathlib.Core.Bool.{true, false}
+use Prim.Native.Nat.{ℕ, ◌+◌, ◌-◌}
+use mathlib.Core.Path.{◌≡◌}
 use mathlib.Core.List.{List}
-use lib.ListN.{length, get_or, take, drop, drop_of_length-le}
-use Rattle.places.specs.InternalFind.{Room, RunEnd}
-use Rattle.places.specs.Columns.{column_after, column_over}
-use Rattle.places.specs.Places.{in_run, run_length}
-use Rattle.places.proofs.ClassLaws.{run_found, run_width, width_most}
-use Rattle.places.proofs.FindLaws.{from_one, room_next, run_on, run_none, run_empty}
+use lib.ListN.{length, take, drop}
+use Rattle.places.specs.InternalFind.{Room}
+use Rattle.places.specs.Columns.{column_over}
+use Rattle.places.specs.Places.{run_length}
 use Rattle.places.proofs.run_end.Given as goal
 
 -- The run and its last column, from what is left of it.

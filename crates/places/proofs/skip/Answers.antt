@@ -1,10 +1,9 @@
 -- `places::skip` meets its contract.
 use native.Mathlib.Omega.{arith}
 use borrow.Author.Tests.{not-true, not-false}
-use Prim.Native.Nat.{ℕ, ◌+◌, ◌-◌}
-use mathlib.Core.Path.{◌≡◌, refl, sym, ap, ◌∙◌}
-use lib.ListN.{length, get_or, drop}
-use Rattle.places.specs.InternalFind.{Room}
+use Prim.Native.Nat.{ℕ, ◌+◌}
+use mathlib.Core.Path.{refl, sym, ap, ◌∙◌}
+use lib.ListN.{get_or, drop}
 use Rattle.places.specs.Moves.{position, next_in}
 use Rattle.places.proofs.ClassLaws.{column_found, passed_found}
 use Rattle.places.proofs.FindLaws.{at_byte, over_move, room_next}

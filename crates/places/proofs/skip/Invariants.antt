@@ -1,13 +1,9 @@
 -- `places::skip` meets its contract.
-use native.Mathlib.Omega.{arith}
-use borrow.Author.Tests.{not-true, not-false}
-use Prim.Native.Nat.{ℕ, ◌+◌, ◌-◌}
-use mathlib.Core.Path.{◌≡◌, refl, sym, ap, ◌∙◌}
-use lib.ListN.{length, get_or, drop}
+use Prim.Native.Nat.{◌-◌}
+use mathlib.Core.Path.{◌≡◌}
+use lib.ListN.{length}
 use Rattle.places.specs.InternalFind.{Room}
 use Rattle.places.specs.Moves.{position, next_in}
-use Rattle.places.proofs.ClassLaws.{column_found, passed_found}
-use Rattle.places.proofs.FindLaws.{at_byte, over_move, room_next}
 use Rattle.places.proofs.skip.Given as goal
 
 abbrev pub invariant-loop-at : goal.invariant-loop-at

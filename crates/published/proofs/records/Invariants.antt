@@ -1,5 +1,4 @@
 -- `published::records` is safe and ends: the count of records left falls. Assumes nothing.
-use borrow.Author.Rules.{rules}
 use Rattle.published.proofs.records.Given as goal
 
 abbrev pub invariant-loop-left : goal.invariant-loop-left

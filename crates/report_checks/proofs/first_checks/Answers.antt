@@ -1,5 +1,4 @@
 -- `report_checks::first_checks` meets its contract.
-use borrow.Author.Rules.{rules}
 use Rattle.report_checks.proofs.CheckLaws.{checks_file, checks_8, checks_on}
 use Rattle.report_checks.proofs.first_checks.Goals as goal
 

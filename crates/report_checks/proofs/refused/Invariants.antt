@@ -1,14 +1,11 @@
 -- `report_checks::refused` meets its contract. The loop's invariant: whether none of the bytes before `i` is refused.
 use Prim.Native.Nat.{◌-◌, ◌≤◌}
-use mathlib.Core.Path.{◌≡◌, refl, ap}
+use mathlib.Core.Path.{◌≡◌}
 use mathlib.Core.Bool.{not}
-use native.Mathlib.Omega.{arith}
-use borrow.Author.Tests.{lt-ltb, le-ltb}
 use lib.ListN.{length, get_or}
 use Rattle.table.specs.Every.{every}
-use Rattle.table.proofs.Every.{every_next}
 use Rattle.byte_class.specs.Bytes.{class_of}
-use Rattle.report_checks.specs.Report.{refused_class, fails8}
+use Rattle.report_checks.specs.Report.{refused_class}
 use Rattle.report_checks.proofs.refused.Given as goal
 
 abbrev pub invariant-loop-i : goal.invariant-loop-i

@@ -1,5 +1,4 @@
 -- `reported::report` meets its contract.
-use borrow.Author.Rules.{rules}
 use mathlib.Core.Path.{refl}
 use Rattle.reported.specs.Reported.{of_success}
 use Rattle.reported.proofs.ReportLaws.{number_failed, words_failed, number_refused, words_refused, number_named, words_named}

@@ -1,5 +1,4 @@
 -- `reported::report_check` meets its contract.
-use borrow.Author.Rules.{rules}
 use Rattle.reported.proofs.report_check.Goals as goal
 
 pub returns-in-IllFormed : goal.returns-in-IllFormed

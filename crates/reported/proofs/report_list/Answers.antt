@@ -1,5 +1,4 @@
 -- `reported::report_list` meets its contract.
-use borrow.Author.Rules.{rules}
 use Rattle.reported.proofs.ListLaws.{number_listed, words_listed, number_failed, words_failed}
 use Rattle.reported.proofs.ListLaws.{number_refused, words_refused, number_named, words_named}
 use Rattle.reported.proofs.report_list.Goals as goal

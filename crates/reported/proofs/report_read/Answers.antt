@@ -1,5 +1,4 @@
 -- `reported::report_read` meets its contract.
-use borrow.Author.Rules.{rules}
 use mathlib.Core.Path.{refl}
 use Rattle.reported.proofs.report_read.Goals as goal
 

@@ -1,5 +1,4 @@
 -- `reported::report_shown` meets its contract.
-use borrow.Author.Rules.{rules}
 use mathlib.Core.Path.{refl}
 use Rattle.reported.proofs.report_shown.Goals as goal
 

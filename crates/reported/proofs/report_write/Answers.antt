@@ -1,5 +1,4 @@
 -- `reported::report_write` meets its contract.
-use borrow.Author.Rules.{rules}
 use mathlib.Core.Path.{refl}
 use Rattle.reported.proofs.report_write.Goals as goal
 

@@ -1,5 +1,4 @@
 -- `reported::success_words` meets its contract.
-use borrow.Author.Rules.{rules}
 use mathlib.Core.Path.{refl}
 use Rattle.reported.proofs.ReportLaws.{bytes_bit}
 use Rattle.reported.proofs.success_words.Goals as goal

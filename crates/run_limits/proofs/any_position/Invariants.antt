@@ -1,15 +1,11 @@
 -- `run_limits::any_position` meets its contract.
-use Prim.Native.Nat.{ℕ, ◌-◌, ◌≤◌, ◌/◌}
-use mathlib.Core.Path.{◌≡◌, refl, sym, ap}
+use Prim.Native.Nat.{ℕ, ◌-◌, ◌≤◌}
+use mathlib.Core.Path.{◌≡◌}
 use mathlib.Core.Bool.{Bool, true, not}
 use mathlib.Core.List.{List}
-use lib.ListN.{length}
 use lib.Dec.{eqb}
-use native.Mathlib.Omega.{arith}
-use borrow.Author.Tests.{eq-eqb, ne_eqb}
 use Rattle.table.specs.Every.{every}
 use Rattle.table.specs.Form.{kind_of}
-use Rattle.table.proofs.Every.{every_more, every_fails}
 use Rattle.run_limits.proofs.any_position.Given as goal
 
 -- Whether node n is none.

@@ -1,5 +1,4 @@
 -- `run_limits::ends_wrong` meets its contract.
-use borrow.Author.Rules.{rules}
 use mathlib.Core.Path.{sym}
 use mathlib.Core.Bool.{or-false}
 use Rattle.run_limits.proofs.LimitLaws.{upper_below, upper_above}

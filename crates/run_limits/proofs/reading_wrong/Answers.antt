@@ -1,5 +1,4 @@
 -- `run_limits::reading_wrong` meets its contract.
-use borrow.Author.Rules.{rules}
 use Rattle.run_limits.proofs.LimitLaws.{by_2017, has_position, has_none}
 use Rattle.run_limits.proofs.reading_wrong.Goals as goal
 

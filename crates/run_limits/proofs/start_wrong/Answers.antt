@@ -1,5 +1,4 @@
 -- `run_limits::start_wrong` meets its contract.
-use borrow.Author.Rules.{rules}
 use Rattle.run_limits.proofs.LimitLaws.{wrong_node, wrong_place, wrong_ends, mode_left}
 use Rattle.run_limits.proofs.start_wrong.Goals as goal
 

@@ -1,5 +1,4 @@
 -- `run_limits::token_right` meets its contract.
-use borrow.Author.Rules.{rules}
 use mathlib.Core.Path.{refl}
 use borrow.Author.Tests.{lt-leb, le-leb}
 use Rattle.run_limits.proofs.token_right.Goals as goal

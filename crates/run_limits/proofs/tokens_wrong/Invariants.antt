@@ -1,15 +1,11 @@
 -- `run_limits::tokens_wrong` meets its contract.
-use mathlib.Core.Path.{◌≡◌, refl, sym, ap, ◌∙◌}
-use mathlib.Core.Bool.{Bool, true, not, ◌&&◌}
-use native.Mathlib.Omega.{arith}
-use Prim.Native.Nat.{ℕ, ◌-◌, ◌≤◌, ◌/◌, ◌%◌}
-use lib.ListN.{length}
+use mathlib.Core.Path.{◌≡◌}
+use mathlib.Core.Bool.{Bool, true, ◌&&◌}
+use Prim.Native.Nat.{ℕ, ◌-◌, ◌≤◌}
 use lib.Dec.{leb}
-use borrow.Author.Tests.{not-true, not-false, lt-ltb, le-ltb, eq-eqb, ne_eqb}
 use mathlib.Core.List.{List}
 use Rattle.table.specs.Every.{every}
-use Rattle.table.proofs.Every.{every_more, every_fails}
-use Rattle.clauses.specs.Limits.{tokens_of, fails11}
+use Rattle.clauses.specs.Limits.{tokens_of}
 use Rattle.run_limits.proofs.tokens_wrong.Given as goal
 
 -- Whether the token at place w is within the limits.

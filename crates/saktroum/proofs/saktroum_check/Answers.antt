@@ -1,5 +1,4 @@
 -- `saktroum::saktroum_check` meets its contract.
-use borrow.Author.Rules.{rules}
 use Rattle.saktroum.proofs.saktroum_check.Goals as goal
 
 pub returns : goal.returns

@@ -1,5 +1,4 @@
 -- `saktroum::saktroum_line` meets its contract, which is that of `line::write`.
-use borrow.Author.Rules.{rules}
 use Rattle.saktroum.proofs.saktroum_line.Goals as goal
 
 pub returns : goal.returns

@@ -1,5 +1,4 @@
 -- `saktroum::saktroum_list` meets its contract.
-use borrow.Author.Rules.{rules}
 use Rattle.saktroum.proofs.saktroum_list.Goals as goal
 
 pub returns : goal.returns

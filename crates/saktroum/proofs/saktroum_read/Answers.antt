@@ -1,5 +1,4 @@
 -- `saktroum::saktroum_read` meets its contract.
-use borrow.Author.Rules.{rules}
 use mathlib.Core.Path.{ap, ◌∙◌}
 use Rattle.reported.specs.Reported.{number}
 use Rattle.saktroum.proofs.saktroum_read.Goals as goal

@@ -1,5 +1,4 @@
 -- `saktroum::saktroum_remember` meets its contract.
-use borrow.Author.Rules.{rules}
 use Rattle.saktroum.proofs.saktroum_remember.Goals as goal
 
 pub returns : goal.returns

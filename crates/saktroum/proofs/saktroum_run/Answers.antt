@@ -1,5 +1,4 @@
 -- `saktroum::saktroum_run` meets its contract.
-use borrow.Author.Rules.{rules}
 use Rattle.saktroum.proofs.saktroum_run.Goals as goal
 
 pub returns : goal.returns

@@ -1,5 +1,4 @@
 -- `saktroum::saktroum_scan` meets its contract.
-use borrow.Author.Rules.{rules}
 use Rattle.saktroum.proofs.saktroum_scan.Goals as goal
 
 pub returns : goal.returns

@@ -1,5 +1,4 @@
 -- `saktroum::saktroum_shown` meets its contract.
-use borrow.Author.Rules.{rules}
 use Rattle.saktroum.proofs.saktroum_shown.Goals as goal
 
 pub returns : goal.returns

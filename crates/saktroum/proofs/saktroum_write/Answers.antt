@@ -1,5 +1,4 @@
 -- `saktroum::saktroum_write` meets its contract.
-use borrow.Author.Rules.{rules}
 use Rattle.saktroum.proofs.saktroum_write.Goals as goal
 
 pub returns : goal.returns

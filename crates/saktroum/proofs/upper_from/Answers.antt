@@ -1,5 +1,4 @@
 -- `saktroum::upper_from` meets its contract.
-use borrow.Author.Rules.{rules}
 use mathlib.Core.Path.{refl}
 use Rattle.saktroum.proofs.upper_from.Goals as goal
 

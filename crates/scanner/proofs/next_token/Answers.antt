@@ -1,8 +1,6 @@
 -- `scanner::next_token` meets its contract.
-use borrow.Author.Rules.{rules}
 use mathlib.Core.Path.{sym, ◌∙◌}
-use Rattle.places.specs.Moves.{Position, position}
-use Rattle.report_checks.specs.FirstChecks.{Passed}
+use Rattle.places.specs.Moves.{position}
 use Rattle.report_checks.proofs.CheckLaws.{passed_of}
 use Rattle.scanner.proofs.StepLaws.{step_first, step_offset, step_column, step_9, step_ready, step_on}
 use Rattle.scanner.proofs.next_token.Goals as goal

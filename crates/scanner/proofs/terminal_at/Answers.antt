@@ -1,5 +1,4 @@
 -- `scanner::terminal_at` meets its contract.
-use borrow.Author.Rules.{rules}
 use mathlib.Core.Path.{refl, ◌∙◌}
 use Rattle.scanner.specs.Tokens.{terminal_at}
 use Rattle.scanner.proofs.terminal_at.Goals as goal

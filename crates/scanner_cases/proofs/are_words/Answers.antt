@@ -1,7 +1,6 @@
 -- `scanner_cases::are_words` meets its contract.
 use mathlib.Core.Path.{◌≡◌, refl, sym, ◌∙◌}
 use mathlib.Core.Bool.{Bool, true, false, ◌&&◌}
-use borrow.Author.Rules.{rules}
 use borrow.Author.Tests.{not-true, not-false}
 use Rattle.scanner_cases.proofs.are_words.Goals as goal
 

@@ -1,5 +1,4 @@
 -- `scanner_cases::holds` meets its contract.
-use borrow.Author.Rules.{rules}
 use Rattle.scanner_cases.proofs.holds.Goals as goal
 
 pub returns-in-Token : goal.returns-in-Token

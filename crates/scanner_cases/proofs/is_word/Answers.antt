@@ -1,6 +1,5 @@
 -- `scanner_cases::is_word` meets its contract.
 use mathlib.Core.Path.{refl}
-use borrow.Author.Rules.{rules}
 use borrow.Author.Tests.{lt-ltb, le-ltb}
 use Rattle.scanner_cases.proofs.is_word.Goals as goal
 

@@ -1,7 +1,6 @@
 -- `scanner_cases::sum` is safe and ends: what is left up to `last` falls. Assumes nothing.
 use Prim.Native.Nat.{◌≤◌, ◌-◌}
 use lib.ListN.{length}
-use borrow.Author.Rules.{rules}
 use Rattle.scanner_cases.proofs.sum.Given as goal
 
 abbrev pub invariant-loop-i : goal.invariant-loop-i

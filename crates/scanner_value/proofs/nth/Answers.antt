@@ -3,7 +3,7 @@ use Rattle.std.proofs.Common.{◌≡◌, ℕ, zero, suc, ◌-◌, List, Bor, ref
 use Rattle.std.proofs.Math.Option.{Option}
 use Rattle.table.specs.Answer.{Answer}
 use Rattle.scanner.specs.Tokens.{Token}
-use Rattle.scanner.specs.Steps.{Position, position, numbers, step_answer, standing}
+use Rattle.scanner.specs.Steps.{Position, step_answer, standing}
 use Rattle.scanner_value.specs.Nth.{stepped, nth_answer}
 use Rattle.scanner_value.proofs.nth.Goals as goal
 

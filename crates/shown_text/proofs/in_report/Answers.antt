@@ -1,5 +1,4 @@
 -- `shown_text::in_report` meets its contract.
-use borrow.Author.Rules.{rules}
 use Prim.Native.Nat.{ℕ, ◌-◌}
 use mathlib.Core.Path.{ap₂}
 use Rattle.shown_text.specs.declared.ShownPart.TheVariants.{InReport}

@@ -1,5 +1,4 @@
 -- `shown_text::shown` meets its contract.
-use borrow.Author.Rules.{rules}
 use Rattle.shown_text.proofs.PartLaws.{by_file, by_report, by_tokens, by_capture, few, from_file, reading_rightme, ordered, from_report}
 use Rattle.shown_text.proofs.shown.Goals as goal
 

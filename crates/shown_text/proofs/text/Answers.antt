@@ -1,5 +1,4 @@
 -- `shown_text::text` meets its contract.
-use borrow.Author.Rules.{rules}
 use native.Mathlib.Omega.{arith}
 use Rattle.shown_text.proofs.PartLaws.{report_inside, report_cut, file_inside, file_cut, nothing_cut}
 use Rattle.shown_text.proofs.text.Goals as goal

@@ -1,7 +1,6 @@
 -- `shown_text_cases::show_quoted` is safe and ends: what is left of the text falls. Assumes nothing.
 use Prim.Native.Nat.{◌≤◌, ◌-◌}
 use lib.ListN.{length}
-use borrow.Author.Rules.{rules}
 use Rattle.shown_text_cases.proofs.show_quoted.Given as goal
 
 abbrev pub invariant-loop-i : goal.invariant-loop-i

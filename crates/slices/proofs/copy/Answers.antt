@@ -1,5 +1,4 @@
 -- `slices::copy` meets its contract.
-use borrow.Author.Rules.{rules}
 use mathlib.Core.Path.{refl, ◌∙◌}
 use Rattle.slices.proofs.CopyLaws.{copy_front}
 use Rattle.slices.proofs.copy.Goals as goal

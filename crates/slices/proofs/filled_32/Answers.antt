@@ -1,8 +1,6 @@
 -- `slices::filled_32` meets its contract.
-use Prim.Native.Nat.{◌-◌}
-use lib.ListN.{length}
 use borrow.Author.Rules.{rules}
-use Rattle.slices.proofs.FilledLaws.{From, starts, goes_on, stops, ends}
+use Rattle.slices.proofs.FilledLaws.{starts, goes_on, stops, ends}
 use Rattle.slices.proofs.filled_32.Goals as goal
 
 pub loop-i-init : goal.loop-i-init

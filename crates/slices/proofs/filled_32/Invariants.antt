@@ -1,8 +1,7 @@
 -- `slices::filled_32` meets its contract.
 use Prim.Native.Nat.{◌-◌}
 use lib.ListN.{length}
-use borrow.Author.Rules.{rules}
-use Rattle.slices.proofs.FilledLaws.{From, starts, goes_on, stops, ends}
+use Rattle.slices.proofs.FilledLaws.{From}
 use Rattle.slices.proofs.filled_32.Given as goal
 
 abbrev pub invariant-loop-i : goal.invariant-loop-i

@@ -1,9 +1,8 @@
 -- `slices::put` meets its contract: the bytes passed stand from the index on, and around them what was there.
-use Prim.Native.Nat.{ℕ, ◌+◌, ◌-◌, ◌≤◌}
-use mathlib.Core.Path.{◌≡◌, refl, ap, ◌∙◌}
+use mathlib.Core.Path.{◌≡◌, refl, ◌∙◌}
 use native.Mathlib.Omega.{arith}
 use lib.ListN.{length, length-set}
-use lib.Seq.{paste, paste-zero}
+use lib.Seq.{paste-zero}
 use Rattle.slices.proofs.CopyLaws.{put_next, put_whole, put_none}
 use Rattle.slices.proofs.put.Goals as goal
 

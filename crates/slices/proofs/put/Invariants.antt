@@ -1,10 +1,8 @@
 -- `slices::put` meets its contract: the bytes passed stand from the index on, and around them what was there.
-use Prim.Native.Nat.{ℕ, ◌+◌, ◌-◌, ◌≤◌}
-use mathlib.Core.Path.{◌≡◌, refl, ap, ◌∙◌}
-use native.Mathlib.Omega.{arith}
-use lib.ListN.{length, length-set}
-use lib.Seq.{paste, paste-zero}
-use Rattle.slices.proofs.CopyLaws.{put_next, put_whole, put_none}
+use Prim.Native.Nat.{◌+◌, ◌-◌, ◌≤◌}
+use mathlib.Core.Path.{◌≡◌}
+use lib.ListN.{length}
+use lib.Seq.{paste}
 use Rattle.slices.proofs.put.Given as goal
 
 abbrev pub invariant-loop-i : goal.invariant-loop-i

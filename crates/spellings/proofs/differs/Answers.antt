@@ -1,5 +1,4 @@
 -- `spellings::differs` meets its contract.
-use borrow.Author.Rules.{rules}
 use mathlib.Core.Path.{sym}
 use Rattle.spellings.proofs.differs.Goals as goal
 

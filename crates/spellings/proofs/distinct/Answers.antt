@@ -1,19 +1,17 @@
 -- `spellings::distinct` meets its contract. The loop's invariant: `at` is the offset of field `j`, the
 -- spellings before it are distinct, and their keys are marked.
-use Prim.Native.Nat.{ℕ, ◌-◌, ◌<◌}
+use Prim.Native.Nat.{ℕ, ◌<◌}
 use mathlib.Core.Path.{◌≡◌, sym, ap, ◌∙◌}
-use mathlib.Core.List.{List, []}
-use mathlib.Core.Bool.{Bool, not}
+use mathlib.Core.List.{List}
+use mathlib.Core.Bool.{not}
 use native.Mathlib.Omega.{arith}
 use borrow.Author.Tests.{not-true, not-false}
-use lib.ListN.{get_or}
-use Rattle.table.specs.Every.{every}
 use Rattle.table.proofs.Every.{every_same}
 use Rattle.file_fields.specs.Offsets.{spellings_from}
 use Rattle.spellings.specs.Spellings.{same_bytes, distinct}
 use Rattle.file_fields.proofs.Offsets.{length_spellings, spelling_from}
-use Rattle.spellings.proofs.SpellingLaws.{Passed, passed_none, passed_more, passed_fails, passed_all, here}
-use Rattle.spellings.proofs.KeyLaws.{Met, met_none, met_more, none_same}
+use Rattle.spellings.proofs.SpellingLaws.{passed_none, passed_more, passed_fails, passed_all, here}
+use Rattle.spellings.proofs.KeyLaws.{met_none, met_more, none_same}
 use Rattle.spellings.proofs.distinct.Invariants.{differs}
 use Rattle.spellings.proofs.distinct.Goals as goal
 

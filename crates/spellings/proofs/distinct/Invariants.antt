@@ -1,19 +1,14 @@
 -- `spellings::distinct` meets its contract. The loop's invariant: `at` is the offset of field `j`, the
 -- spellings before it are distinct, and their keys are marked.
-use Prim.Native.Nat.{ℕ, ◌-◌, ◌<◌}
-use mathlib.Core.Path.{◌≡◌, sym, ap, ◌∙◌}
+use Prim.Native.Nat.{ℕ, ◌-◌}
 use mathlib.Core.List.{List, []}
 use mathlib.Core.Bool.{Bool, not}
-use native.Mathlib.Omega.{arith}
-use borrow.Author.Tests.{not-true, not-false}
 use lib.ListN.{get_or}
 use Rattle.table.specs.Every.{every}
-use Rattle.table.proofs.Every.{every_same}
 use Rattle.file_fields.specs.Offsets.{spellings_from}
-use Rattle.spellings.specs.Spellings.{same_bytes, distinct}
-use Rattle.file_fields.proofs.Offsets.{length_spellings, spelling_from}
-use Rattle.spellings.proofs.SpellingLaws.{Passed, passed_none, passed_more, passed_fails, passed_all, here}
-use Rattle.spellings.proofs.KeyLaws.{Met, met_none, met_more, none_same}
+use Rattle.spellings.specs.Spellings.{same_bytes}
+use Rattle.spellings.proofs.SpellingLaws.{Passed}
+use Rattle.spellings.proofs.KeyLaws.{Met}
 use Rattle.spellings.proofs.distinct.Given as goal
 
 -- Whether a spelling differs from the first j names.

@@ -1,11 +1,6 @@
 -- `spellings::key` meets its contract. The loop's invariant: the sum over the bytes before `i`.
-use Prim.Native.Nat.{ℕ, ◌-◌, ◌%◌}
-use mathlib.Core.Path.{ap}
-use native.Mathlib.Omega.{arith}
-use native.Mathlib.Nat.{mod-lt}
-use borrow.Author.Rules.{rules}
-use Rattle.spellings.specs.Keys.{key_of}
-use Rattle.spellings.proofs.KeyLaws.{Summed, summed_none, weights_small, part_small, summed_more, summed_all}
+use Prim.Native.Nat.{◌-◌}
+use Rattle.spellings.proofs.KeyLaws.{Summed}
 use Rattle.spellings.proofs.key.Given as goal
 
 abbrev pub invariant-loop-i : goal.invariant-loop-i

@@ -1,6 +1,5 @@
 -- `spellings::right_spellings` meets its contract.
 use mathlib.Core.Path.{sym, ◌∙◌}
-use borrow.Author.Rules.{rules}
 use Rattle.spellings.specs.Spellings.{right_spellings}
 use Rattle.spellings.proofs.right_spellings.Goals as goal
 

@@ -1,14 +1,12 @@
 -- `spellings::same` meets its contract. The loop's invariant: whether the bytes before `i` are the same in both.
-use Prim.Native.Nat.{◌-◌, ◌≤◌}
 use mathlib.Core.Path.{◌≡◌, refl, sym, ◌∙◌}
 use native.Mathlib.Omega.{arith}
-use borrow.Author.Rules.{rules}
 use borrow.Author.Tests.{eq-eqb, ne_eqb}
 use lib.ListN.{length}
 use Rattle.table.specs.Every.{every}
 use Rattle.table.proofs.Every.{every_next}
 use Rattle.spellings.specs.Spellings.{same_bytes}
-use Rattle.spellings.proofs.SpellingLaws.{agree, bytes_apart}
+use Rattle.spellings.proofs.SpellingLaws.{bytes_apart}
 use Rattle.spellings.proofs.same.Goals as goal
 
 pub returns-then-n-t : goal.returns-then-n-t

@@ -1,15 +1,11 @@
 -- `spellings::single_alone` meets its contract. The loop's invariant: whether none of the bytes before `i` is a
 -- single byte.
 use Prim.Native.Nat.{◌-◌, ◌≤◌}
-use mathlib.Core.Path.{◌≡◌, refl, sym, ap, ◌∙◌}
-use mathlib.Core.Bool.{not, or-true, or-false}
-use native.Mathlib.Omega.{arith}
-use borrow.Author.Tests.{eq-eqb, ne_eqb}
+use mathlib.Core.Path.{◌≡◌}
+use mathlib.Core.Bool.{not}
 use lib.ListN.{length, get_or}
 use Rattle.table.specs.Every.{every}
-use Rattle.table.proofs.Every.{every_next}
 use Rattle.byte_class.specs.Bytes.{is_single}
-use Rattle.spellings.specs.Spellings.{single_alone}
 use Rattle.spellings.proofs.single_alone.Given as goal
 
 abbrev pub invariant-loop-i : goal.invariant-loop-i

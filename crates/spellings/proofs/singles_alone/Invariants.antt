@@ -1,12 +1,8 @@
 -- `spellings::singles_alone` meets its contract. The loop's invariant: `at` is the offset of field `i`,
 -- and the keywords before it hold no single byte or are one byte.
 use Prim.Native.Nat.{◌-◌}
-use mathlib.Core.Path.{sym, ◌∙◌}
-use native.Mathlib.Omega.{arith}
-use borrow.Author.Tests.{not-true, not-false}
 use Rattle.spellings.specs.Spellings.{single_alone}
-use Rattle.file_fields.proofs.Offsets.{length_spellings}
-use Rattle.spellings.proofs.SpellingLaws.{Passed, passed_none, passed_more, passed_fails, passed_all}
+use Rattle.spellings.proofs.SpellingLaws.{Passed}
 use Rattle.spellings.proofs.singles_alone.Given as goal
 
 abbrev pub invariant-loop-i : goal.invariant-loop-i

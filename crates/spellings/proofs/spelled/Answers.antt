@@ -1,12 +1,11 @@
 -- `spellings::spelled` meets its contract. The loop's invariant: whether the bytes before `i` are visible.
-use Prim.Native.Nat.{◌-◌, ◌≤◌}
 use mathlib.Core.Path.{◌≡◌, refl}
 use native.Mathlib.Omega.{arith}
 use borrow.Author.Tests.{le-leb, lt-leb}
-use lib.ListN.{length, get_or}
+use lib.ListN.{length}
 use Rattle.table.specs.Every.{every}
 use Rattle.table.proofs.Every.{every_next}
-use Rattle.spellings.specs.Spellings.{visible, spelled}
+use Rattle.spellings.specs.Spellings.{spelled}
 use Rattle.spellings.proofs.spelled.Goals as goal
 
 pub returns-then-s-lt1 : goal.returns-then-s-lt1

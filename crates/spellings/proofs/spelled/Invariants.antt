@@ -1,12 +1,9 @@
 -- `spellings::spelled` meets its contract. The loop's invariant: whether the bytes before `i` are visible.
 use Prim.Native.Nat.{◌-◌, ◌≤◌}
-use mathlib.Core.Path.{◌≡◌, refl}
-use native.Mathlib.Omega.{arith}
-use borrow.Author.Tests.{le-leb, lt-leb}
+use mathlib.Core.Path.{◌≡◌}
 use lib.ListN.{length, get_or}
 use Rattle.table.specs.Every.{every}
-use Rattle.table.proofs.Every.{every_next}
-use Rattle.spellings.specs.Spellings.{visible, spelled}
+use Rattle.spellings.specs.Spellings.{visible}
 use Rattle.spellings.proofs.spelled.Given as goal
 
 abbrev pub invariant-loop-i : goal.invariant-loop-i

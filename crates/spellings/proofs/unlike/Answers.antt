@@ -1,11 +1,8 @@
 -- `spellings::unlike` meets its contract. The loop's invariant: `at` is the offset of field `i`, and `s`
 -- is none of the spellings before it.
-use Prim.Native.Nat.{◌-◌}
 use mathlib.Core.Path.{sym, ap, ◌∙◌}
 use mathlib.Core.Bool.{not}
-use native.Mathlib.Omega.{arith}
-use Rattle.spellings.specs.Spellings.{same_bytes}
-use Rattle.spellings.proofs.SpellingLaws.{Passed, passed_none, passed_more, passed_fails, passed_all}
+use Rattle.spellings.proofs.SpellingLaws.{passed_none, passed_more, passed_fails, passed_all}
 use Rattle.spellings.proofs.unlike.Goals as goal
 
 pub loop-i-init : goal.loop-i-init

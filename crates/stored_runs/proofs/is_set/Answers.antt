@@ -1,5 +1,4 @@
 -- `stored_runs::is_set` meets its contract.
-use borrow.Author.Rules.{rules}
 use Rattle.stored_runs.proofs.Laws.{flag_set}
 use Rattle.stored_runs.proofs.is_set.Goals as goal
 

@@ -1,5 +1,4 @@
 -- `stored_runs::run` meets its contract.
-use borrow.Author.Rules.{rules}
 use Rattle.stored_cases.proofs.Laws.{lent}
 use Rattle.stored_runs.proofs.Laws.{as_many_pairs}
 use Rattle.stored_runs.proofs.run.Goals as goal

@@ -1,6 +1,5 @@
 -- `stored_runs::run_over` meets its contract.
 use mathlib.Core.Path.{refl}
-use borrow.Author.Rules.{rules}
 use Rattle.stored_runs.proofs.Laws.{carried}
 use Rattle.stored_runs.proofs.run_over.Goals as goal
 

@@ -1,5 +1,4 @@
 -- `stored_runs::start` meets its contract.
-use borrow.Author.Rules.{rules}
 use Rattle.stored_runs.proofs.Laws.{starts}
 use Rattle.stored_runs.proofs.start.Goals as goal
 

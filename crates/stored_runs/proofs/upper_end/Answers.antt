@@ -1,5 +1,4 @@
 -- `stored_runs::upper_end` meets its contract.
-use borrow.Author.Rules.{rules}
 use Rattle.stored_runs.proofs.Laws.{upper_at}
 use Rattle.stored_runs.proofs.upper_end.Goals as goal
 

@@ -1,5 +1,4 @@
 -- `table::check` meets its contract.
-use borrow.Author.Rules.{rules}
 use Rattle.table.specs.Checks.{table_answer}
 use mathlib.Core.Path.{refl, sym, ◌∙◌}
 use Rattle.table.proofs.check.Goals as goal

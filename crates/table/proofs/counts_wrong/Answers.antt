@@ -1,7 +1,6 @@
 -- `table::counts_wrong` meets its contract.
 use borrow.Author.Tests.{ne_eqb, eq-eqb, lt-leb, le-leb}
 use Rattle.table.specs.Checks.{fails3}
-
 use Rattle.table.proofs.counts_wrong.Goals as goal
 
 pub returns-then-nodes-ne0 : goal.returns-then-nodes-ne0

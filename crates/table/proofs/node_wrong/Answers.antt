@@ -1,13 +1,13 @@
 -- `table::node_wrong` meets its contract.
 use borrow.Author.Tests.{not-true, not-false}
-use Prim.Native.Nat.{◌-◌, ◌≤◌, ◌/◌}
+use Prim.Native.Nat.{◌/◌}
 use mathlib.Core.Path.{◌≡◌, refl, sym, ◌∙◌, ap}
-use mathlib.Core.Bool.{true, not}
+use mathlib.Core.Bool.{not}
 use native.Mathlib.Omega.{arith}
 use lib.ListN.{length}
 use Rattle.table.specs.Every.{every}
 use Rattle.table.proofs.Every.{every_more, every_fails}
-use Rattle.table.specs.Checks.{right_node, fails4}
+use Rattle.table.specs.Checks.{fails4}
 use Rattle.table.proofs.node_wrong.Goals as goal
 
 pub loop-n-init : goal.loop-n-init

@@ -1,5 +1,4 @@
 -- `table::words_right` meets its contract.
-use borrow.Author.Rules.{rules}
 use mathlib.Core.Path.{refl}
 use Rattle.table.specs.Checks.{right_words}
 use Rattle.table.proofs.NodeKinds.{over_nine}

@@ -1,12 +1,8 @@
 -- `token_words::indexed` meets its contract. The loop's invariant: the keywords from `k` on decide, and keyword
 -- `k` has the key of the spelling.
 use Prim.Native.Nat.{◌-◌}
-use mathlib.Core.Path.{sym, ◌∙◌}
-use native.Mathlib.Omega.{arith}
-use borrow.Author.Rules.{rules}
 use Rattle.file_fields.specs.Offsets.{keywords_from}
-use Rattle.scanner.proofs.KeywordLaws.{length_keywords, ended}
-use Rattle.token_words.proofs.IndexLaws.{Reached, search_start, search_here, search_onward, search_next}
+use Rattle.token_words.proofs.IndexLaws.{Reached}
 use Rattle.token_words.proofs.indexed.Given as goal
 
 abbrev pub invariant-loop-k : goal.invariant-loop-k

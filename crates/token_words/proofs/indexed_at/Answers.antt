@@ -1,5 +1,4 @@
 -- `token_words::indexed_at` meets its contract.
-use borrow.Author.Rules.{rules}
 use mathlib.Core.Path.{refl, ◌∙◌}
 use Rattle.scanner.specs.Tokens.{terminal_at}
 use Rattle.token_words.proofs.indexed_at.Goals as goal

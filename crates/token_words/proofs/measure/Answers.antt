@@ -2,8 +2,7 @@
 use native.Mathlib.Omega.{arith}
 use borrow.Author.Tests.{not-true, not-false}
 use Rattle.places.specs.Moves.{position}
-use Rattle.token_words.proofs.LoopLaws.{Counting, counting_start, counting_ends, counting_less, counting_next}
-use Rattle.token_words.proofs.PlaceLaws.{left}
+use Rattle.token_words.proofs.LoopLaws.{counting_start, counting_ends, counting_less, counting_next}
 use Rattle.token_words.proofs.measure.Goals as goal
 
 pub loop-f-init : goal.loop-f-init

@@ -1,8 +1,6 @@
 -- `token_words::measure` meets its contract.
-use native.Mathlib.Omega.{arith}
-use borrow.Author.Tests.{not-true, not-false}
 use Rattle.places.specs.Moves.{position}
-use Rattle.token_words.proofs.LoopLaws.{Counting, counting_start, counting_ends, counting_less, counting_next}
+use Rattle.token_words.proofs.LoopLaws.{Counting}
 use Rattle.token_words.proofs.PlaceLaws.{left}
 use Rattle.token_words.proofs.measure.Given as goal
 

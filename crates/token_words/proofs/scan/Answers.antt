@@ -1,9 +1,7 @@
 -- `token_words::scan` meets its contract.
-use borrow.Author.Rules.{rules}
 use native.Mathlib.Omega.{arith}
 use mathlib.Core.Path.{refl}
 use Rattle.file_fields.specs.Offsets.{keywords_from}
-use Rattle.report_checks.specs.FirstChecks.{Passed}
 use Rattle.report_checks.proofs.CheckLaws.{passed_of}
 use Rattle.token_words.proofs.ScanLaws.{scan_first, scan_9, scan_many, scan_short, scan_on, words_after}
 use Rattle.token_words.proofs.scan.Goals as goal

@@ -1,5 +1,4 @@
 -- `token_words::wider` meets its contract.
-use borrow.Author.Rules.{rules}
 use Rattle.token_words.proofs.wider.Goals as goal
 
 pub returns-else-over : goal.returns-else-over

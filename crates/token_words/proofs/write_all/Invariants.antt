@@ -1,11 +1,7 @@
 -- `token_words::write_all` meets its contract.
-use Prim.Native.Nat.{◌+◌, ◌*◌, ◌^◌, ◌≤◌, ◌<◌}
-use native.Mathlib.Omega.{arith}
-use borrow.Author.Tests.{not-true, not-false}
-use lib.ListN.{length, length-set}
 use Rattle.file_fields.specs.Offsets.{keywords_from}
 use Rattle.places.specs.Moves.{position}
-use Rattle.token_words.proofs.LoopLaws.{Writing, writing_start, writing_ends, writing_room, writing_next, out_length, lies_inside, less_left}
+use Rattle.token_words.proofs.LoopLaws.{Writing}
 use Rattle.token_words.proofs.PlaceLaws.{left}
 use Rattle.token_words.proofs.write_all.Given as goal
 

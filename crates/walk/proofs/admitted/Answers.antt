@@ -1,5 +1,4 @@
 -- `walk::admitted` meets its contract.
-use borrow.Author.Rules.{rules}
 use mathlib.Core.Path.{sym, ap, ◌∙◌}
 use Rattle.well_formed.specs.Check.{numbers as verdict-numbers}
 use Rattle.walk.proofs.RunLaws.{check_refuses, check_names, refused_11, refused_12, refused_16}

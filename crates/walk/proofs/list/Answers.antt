@@ -1,5 +1,4 @@
 -- `walk::list` meets its contract.
-use borrow.Author.Rules.{rules}
 use native.Mathlib.Omega.{arith}
 use mathlib.Core.Path.{subst, ◌∙◌}
 use Rattle.walk.specs.InternalRun.{Admits}

@@ -1,5 +1,4 @@
 -- `walk::walk_once` meets its contract.
-use borrow.Author.Rules.{rules}
 use mathlib.Core.Path.{sym}
 use native.Mathlib.Omega.{arith}
 use Rattle.walk.proofs.RunLaws.{begin_ready, begin_room, whole_failed, whole_read, remembers_by}

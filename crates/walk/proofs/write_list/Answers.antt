@@ -1,5 +1,4 @@
 -- `walk::write_list` meets its contract.
-use borrow.Author.Rules.{rules}
 use native.Mathlib.Omega.{arith}
 use Rattle.walk.proofs.RunLaws.{no_room, zeros, listed_there}
 use Rattle.walk.proofs.write_list.Goals as goal

@@ -1,5 +1,4 @@
 -- `well_formed::check` meets its contract.
-use borrow.Author.Rules.{rules}
 use mathlib.Core.Path.{refl, sym, ap, ◌∙◌}
 use Rattle.table.specs.Checks.{numbers as table-numbers}
 use Rattle.well_formed.proofs.VerdictLaws.{answer_refused, answer_judged}

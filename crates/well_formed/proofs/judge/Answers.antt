@@ -1,5 +1,4 @@
 -- `well_formed::judge` meets its contract.
-use borrow.Author.Rules.{rules}
 use mathlib.Core.Path.{◌∙◌}
 use Rattle.table.proofs.Inside.{counts_inside}
 use Rattle.well_formed.proofs.JudgeLaws.{facts_start, well_start, judged}

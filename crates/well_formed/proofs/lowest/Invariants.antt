@@ -1,13 +1,10 @@
 -- `well_formed::lowest` meets its contract.
-use mathlib.Core.Path.{◌≡◌, refl, sym, ◌∙◌}
+use mathlib.Core.Path.{◌≡◌}
 use mathlib.Core.Bool.{false}
-use native.Mathlib.Omega.{arith}
 use Prim.Native.Nat.{◌-◌, ◌≤◌}
 use lib.ListN.{get_or}
-use borrow.Author.Tests.{not-true, not-false}
 use Rattle.table.specs.Form.{node_count}
 use Rattle.well_formed.specs.Check.{verdict_from}
-use Rattle.well_formed.proofs.VerdictLaws.{verdict_next, verdict_bad}
 use Rattle.well_formed.proofs.lowest.Given as goal
 
 abbrev pub invariant-loop-left : goal.invariant-loop-left

@@ -1,6 +1,5 @@
 -- `well_formed_cases::answer` meets its contract.
 use mathlib.Core.Path.{◌∙◌}
-use borrow.Author.Rules.{rules}
 use Rattle.stored_cases.proofs.Laws.{lent}
 use Rattle.well_formed_cases.proofs.Laws.{as_many}
 use Rattle.well_formed_cases.proofs.answer.Goals as goal

@@ -1,6 +1,5 @@
 -- `well_formed_cases::check` meets its contract.
 use mathlib.Core.Path.{◌∙◌}
-use borrow.Author.Rules.{rules}
 use Rattle.well_formed_cases.proofs.Laws.{same_answer}
 use Rattle.well_formed_cases.proofs.check.Goals as goal
 

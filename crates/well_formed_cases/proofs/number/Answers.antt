@@ -1,6 +1,5 @@
 -- `well_formed_cases::number` meets its contract.
 use mathlib.Core.Path.{refl}
-use borrow.Author.Rules.{rules}
 use Rattle.well_formed_cases.proofs.number.Goals as goal
 
 pub returns-in-Refused : goal.returns-in-Refused

@@ -1,7 +1,6 @@
 -- `well_formed_cases::records` is safe and ends: the lengths stay, and the count of records left falls. Assumes nothing.
 use mathlib.Core.Path.{◌≡◌}
 use lib.ListN.{length}
-use borrow.Author.Rules.{rules}
 use Rattle.well_formed_cases.proofs.records.Given as goal
 
 abbrev pub invariant-loop-left : goal.invariant-loop-left

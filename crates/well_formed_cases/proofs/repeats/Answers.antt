@@ -1,14 +1,13 @@
 -- `well_formed_cases::repeats` meets its contract. The loop's invariant: no call was made yet, or the number is the one
 -- expected.
-use Prim.Native.Nat.{ℕ, zero, suc, ◌-◌, ◌<◌, ◌≤◌}
+use Prim.Native.Nat.{ℕ, ◌<◌, ◌≤◌}
 use mathlib.Core.Path.{◌≡◌, refl, sym, ap, ◌∙◌}
 use mathlib.Core.Bool.{Bool, true, false, ◌||◌}
 use mathlib.Core.Logic.{◌⊎◌, inl, inr}
 use lib.Dec.{eqb}
 use native.Mathlib.Omega.{arith}
-use borrow.Author.Rules.{rules}
 use borrow.Author.Tests.{eq-eqb, ne_eqb}
-use Rattle.well_formed_cases.specs.Repeats.{number_of, stored_number}
+use Rattle.well_formed_cases.specs.Repeats.{number_of}
 use Rattle.well_formed_cases.proofs.repeats.Goals as goal
 
 differs : (again i n expected : ℕ) → i < again → (n ≡ expected → ⊥) → false ≡ (eqb again 0 || eqb n expected)

@@ -1,5 +1,4 @@
 -- `answer_line::entry::column_at` meets its contract.
-use borrow.Author.Rules.{rules}
 use mathlib.Core.Path.{sym}
 use lib.ListN.{get_or-eq_default}
 use Rattle.answer_line.proofs.entry.column_at.Goals as goal

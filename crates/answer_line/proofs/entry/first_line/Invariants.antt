@@ -1,10 +1,7 @@
 -- `answer_line::entry::first_line` meets its contract: no byte passed is a break.
 use Prim.Native.Nat.{◌-◌, ◌≤◌}
 use lib.ListN.{length}
-use lib.Seq.{length-take-le}
-use mathlib.Core.Path.{sym}
-use native.Mathlib.Omega.{arith}
-use Rattle.answer_line.proofs.EntryLaws.{Unbroken, unbroken_none, unbroken_next, broken, unbroken_whole}
+use Rattle.answer_line.proofs.EntryLaws.{Unbroken}
 use Rattle.answer_line.proofs.entry.first_line.Given as goal
 
 abbrev pub invariant-loop-i : goal.invariant-loop-i

@@ -1,8 +1,6 @@
 -- `answer_line::entry::line_at` meets its contract: the line of each byte passed is counted.
 use Prim.Native.Nat.{◌-◌, ◌≤◌}
-use mathlib.Core.Logic.{⊎_elim}
-use native.Mathlib.Omega.{arith}
-use Rattle.answer_line.proofs.EntryLaws.{Counted, count_none, count_break, count_other, counted_at}
+use Rattle.answer_line.proofs.EntryLaws.{Counted}
 use Rattle.answer_line.proofs.entry.line_at.Given as goal
 
 abbrev pub invariant-loop-i : goal.invariant-loop-i

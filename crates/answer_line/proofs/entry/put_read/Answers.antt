@@ -1,5 +1,4 @@
 -- `answer_line::entry::put_read` meets its contract.
-use borrow.Author.Rules.{rules}
 use Rattle.answer_line.proofs.EntryLaws.{read_line}
 use Rattle.answer_line.proofs.entry.put_read.Goals as goal
 

@@ -1,5 +1,4 @@
 -- `answer_line::entry::put_unread` meets its contract.
-use borrow.Author.Rules.{rules}
 use Rattle.answer_line.proofs.EntryLaws.{unread_line}
 use Rattle.answer_line.proofs.entry.put_unread.Goals as goal
 

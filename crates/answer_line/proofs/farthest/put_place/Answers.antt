@@ -1,5 +1,4 @@
 -- `answer_line::farthest::put_place` meets its contract.
-use borrow.Author.Rules.{rules}
 use native.Mathlib.Omega.{arith}
 use Rattle.answer_line.proofs.EntryCases.{column_most}
 use Rattle.answer_line.proofs.FarthestLaws.{line_within, place_end, place_there}

@@ -1,5 +1,4 @@
 -- `answer_line::farthest::put_said` meets its contract.
-use borrow.Author.Rules.{rules}
 use Rattle.answer_line.proofs.FarthestLaws.{said_left, said_none, said_failed, said_refused, said_ill_formed}
 use Rattle.answer_line.proofs.farthest.put_said.Goals as goal
 

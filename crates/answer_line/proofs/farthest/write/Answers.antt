@@ -1,5 +1,4 @@
 -- `answer_line::farthest::write` meets its contract.
-use borrow.Author.Rules.{rules}
 use mathlib.Core.Path.{sym, ◌∙◌}
 use Rattle.interpreter.specs.Numbers.{numbers}
 use Rattle.answer_line.proofs.EntryCases.{report_most}

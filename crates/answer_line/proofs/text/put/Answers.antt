@@ -1,6 +1,4 @@
 -- `answer_line::text::put` meets its contract.
-use borrow.Author.Rules.{rules}
-use native.Mathlib.Omega.{arith}
 use Rattle.answer_line.proofs.PutLaws.{put_one}
 use Rattle.answer_line.proofs.text.put.Goals as goal
 

@@ -1,5 +1,4 @@
 -- `answer_line::text::put_number` meets its contract.
-use borrow.Author.Rules.{rules}
 use native.Mathlib.Omega.{arith}
 use Rattle.answer_line.proofs.PutLaws.{put_then}
 use Rattle.answer_line.proofs.text.put_number.Goals as goal

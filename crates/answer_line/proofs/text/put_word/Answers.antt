@@ -1,9 +1,6 @@
 -- `answer_line::text::put_word` meets its contract: the bytes passed stand from the place on.
-use Prim.Native.Nat.{◌-◌, ◌+◌, ◌≤◌}
-use mathlib.Core.Path.{◌≡◌, refl}
+use mathlib.Core.Path.{refl}
 use native.Mathlib.Omega.{arith}
-use lib.ListN.{length, take}
-use Rattle.answer_line.specs.InternalPut.{Puts}
 use Rattle.answer_line.proofs.PutLaws.{put_none, word_next, word_whole}
 use Rattle.answer_line.proofs.text.put_word.Goals as goal
 

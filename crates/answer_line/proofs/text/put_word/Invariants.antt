@@ -1,10 +1,8 @@
 -- `answer_line::text::put_word` meets its contract: the bytes passed stand from the place on.
 use Prim.Native.Nat.{◌-◌, ◌+◌, ◌≤◌}
-use mathlib.Core.Path.{◌≡◌, refl}
-use native.Mathlib.Omega.{arith}
+use mathlib.Core.Path.{◌≡◌}
 use lib.ListN.{length, take}
 use Rattle.answer_line.specs.InternalPut.{Puts}
-use Rattle.answer_line.proofs.PutLaws.{put_none, word_next, word_whole}
 use Rattle.answer_line.proofs.text.put_word.Given as goal
 
 abbrev pub invariant-loop-i : goal.invariant-loop-i

@@ -1,14 +1,9 @@
 -- `file_shape::runs::run_of` meets its contract.
-use native.Mathlib.Omega.{arith}
-use Prim.Native.Nat.{ℕ, ◌+◌, ◌-◌, ◌≤◌, ◌<◌}
-use mathlib.Core.Path.{◌≡◌, refl, sym, ◌∙◌}
-use mathlib.Core.List.{List}
+use Prim.Native.Nat.{ℕ, ◌-◌, ◌≤◌, ◌<◌}
+use mathlib.Core.Path.{◌≡◌}
 use mathlib.Core.Bool.{true}
-use native.Mathlib.Numerals.{add-one}
 use lib.ListN.{length}
-use borrow.Author.Count.{below_more}
-use Rattle.file_fields.specs.Offsets.{next_at, offset_of, right_at}
-use Rattle.file_shape.proofs.OrderLaws.{whole}
+use Rattle.file_fields.specs.Offsets.{offset_of, right_at}
 use Rattle.file_shape.proofs.runs.run_of.Given as goal
 
 abbrev pub invariant-loop-end : goal.invariant-loop-end

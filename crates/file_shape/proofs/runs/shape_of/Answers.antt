@@ -1,5 +1,4 @@
 -- `file_shape::runs::shape_of` meets its contract.
-use borrow.Author.Rules.{rules}
 use mathlib.Core.Path.{sym, ◌∙◌}
 use Rattle.file_shape.proofs.ShapeLaws.{shaped_framed, shaped_unframed}
 use Rattle.file_shape.proofs.runs.shape_of.Goals as goal

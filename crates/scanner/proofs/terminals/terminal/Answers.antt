@@ -1,12 +1,9 @@
 -- `scanner::terminals::terminal` meets its contract. The loop's invariant: `at` is the offset of keyword `k`, and
 -- the keywords from it on decide.
-use Prim.Native.Nat.{◌-◌, ◌≤◌}
-use mathlib.Core.Path.{◌≡◌, refl, sym, ◌∙◌}
+use mathlib.Core.Path.{refl, sym, ◌∙◌}
 use native.Mathlib.Omega.{arith}
-use lib.ListN.{drop}
 use Rattle.file_fields.specs.Offsets.{offset_of, keywords_from}
 use Rattle.file_fields.proofs.Offsets.{offset_next}
-use Rattle.scanner.specs.Tokens.{terminal_from}
 use Rattle.scanner.proofs.KeywordLaws.{length_keywords, ended, step}
 use Rattle.scanner.proofs.terminals.terminal.Goals as goal
 

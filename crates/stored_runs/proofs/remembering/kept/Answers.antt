@@ -1,9 +1,6 @@
 -- `stored_runs::remembering::kept` meets its contract.
-use Prim.Native.Nat.{◌-◌}
-use lib.ListN.{length}
 use borrow.Author.Rules.{rules}
-use Rattle.stored_runs.specs.Remembered.{lent_word}
-use Rattle.stored_runs.proofs.RememberedLaws.{Still, starts, goes_on, stops, ends}
+use Rattle.stored_runs.proofs.RememberedLaws.{starts, goes_on, stops, ends}
 use Rattle.stored_runs.proofs.remembering.kept.Goals as goal
 
 pub loop-i-init : goal.loop-i-init

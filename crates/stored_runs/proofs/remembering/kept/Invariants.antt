@@ -1,9 +1,8 @@
 -- `stored_runs::remembering::kept` meets its contract.
 use Prim.Native.Nat.{◌-◌}
 use lib.ListN.{length}
-use borrow.Author.Rules.{rules}
 use Rattle.stored_runs.specs.Remembered.{lent_word}
-use Rattle.stored_runs.proofs.RememberedLaws.{Still, starts, goes_on, stops, ends}
+use Rattle.stored_runs.proofs.RememberedLaws.{Still}
 use Rattle.stored_runs.proofs.remembering.kept.Given as goal
 
 abbrev pub invariant-loop-i : goal.invariant-loop-i

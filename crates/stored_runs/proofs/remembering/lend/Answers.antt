@@ -1,10 +1,6 @@
 -- `stored_runs::remembering::lend` meets its contract.
-use Prim.Native.Nat.{◌-◌}
-use lib.ListN.{length}
 use native.Mathlib.Omega.{arith}
-use borrow.Author.Rules.{rules}
-use Rattle.stored_cases.proofs.Laws.{Written, written_none, written_more, written_all}
-use Rattle.stored_runs.specs.Remembered.{lent_word}
+use Rattle.stored_cases.proofs.Laws.{written_none, written_more, written_all}
 use Rattle.stored_runs.proofs.remembering.lend.Goals as goal
 
 pub loop-i-init : goal.loop-i-init

@@ -1,9 +1,7 @@
 -- `stored_runs::remembering::lend` meets its contract.
 use Prim.Native.Nat.{◌-◌}
 use lib.ListN.{length}
-use native.Mathlib.Omega.{arith}
-use borrow.Author.Rules.{rules}
-use Rattle.stored_cases.proofs.Laws.{Written, written_none, written_more, written_all}
+use Rattle.stored_cases.proofs.Laws.{Written}
 use Rattle.stored_runs.specs.Remembered.{lent_word}
 use Rattle.stored_runs.proofs.remembering.lend.Given as goal
 

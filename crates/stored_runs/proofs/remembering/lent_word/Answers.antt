@@ -1,6 +1,5 @@
 -- `stored_runs::remembering::lent_word` meets its contract.
 use mathlib.Core.Path.{refl, ◌∙◌}
-use borrow.Author.Rules.{rules}
 use Rattle.stored_runs.specs.Remembered.{lent_word}
 use Rattle.stored_runs.proofs.RememberedLaws.{successes}
 use Rattle.stored_runs.proofs.remembering.lent_word.Goals as goal

@@ -1,5 +1,4 @@
 -- `stored_runs::remembering::remember_in` meets its contract.
-use borrow.Author.Rules.{rules}
 use Rattle.stored_runs.proofs.RememberedLaws.{remembers_carried}
 use Rattle.stored_runs.proofs.remembering.remember_in.Goals as goal
 

@@ -1,5 +1,4 @@
 -- `stored_runs::remembering::remember_stored` meets its contract.
-use borrow.Author.Rules.{rules}
 use Rattle.stored_cases.proofs.Laws.{lent}
 use Rattle.stored_runs.proofs.RememberedLaws.{remembers_as_many}
 use Rattle.stored_runs.proofs.remembering.remember_stored.Goals as goal

@@ -1,6 +1,5 @@
 -- `stored_runs::remembering::slot_word` meets its contract.
 use mathlib.Core.Path.{refl}
-use borrow.Author.Rules.{rules}
 use Rattle.stored_runs.specs.Remembered.{slot_word}
 use Rattle.stored_runs.proofs.remembering.slot_word.Goals as goal
 

@@ -1,8 +1,7 @@
 -- `token_words::index::link` meets its contract. The loop's invariant: the keywords from `k` on are linked.
-use Prim.Native.Nat.{ℕ, ◌-◌, ◌≤◌}
-use mathlib.Core.Path.{◌≡◌, refl, sym, ap, subst, ◌∙◌}
+use Prim.Native.Nat.{ℕ}
+use mathlib.Core.Path.{refl, sym, ap, subst, ◌∙◌}
 use native.Mathlib.Omega.{arith}
-use borrow.Author.Rules.{rules}
 use lib.ListN.{length, length-set, length-replicate}
 use Rattle.file_fields.specs.Offsets.{keywords_from}
 use Rattle.token_words.specs.InternalIndex.{Linked}

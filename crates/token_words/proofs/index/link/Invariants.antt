@@ -1,13 +1,9 @@
 -- `token_words::index::link` meets its contract. The loop's invariant: the keywords from `k` on are linked.
-use Prim.Native.Nat.{ℕ, ◌-◌, ◌≤◌}
-use mathlib.Core.Path.{◌≡◌, refl, sym, ap, subst, ◌∙◌}
-use native.Mathlib.Omega.{arith}
-use borrow.Author.Rules.{rules}
-use lib.ListN.{length, length-set, length-replicate}
+use Prim.Native.Nat.{◌≤◌}
+use mathlib.Core.Path.{◌≡◌}
+use lib.ListN.{length}
 use Rattle.file_fields.specs.Offsets.{keywords_from}
 use Rattle.token_words.specs.InternalIndex.{Linked}
-use Rattle.token_words.proofs.IndexLaws.{linked_none, link_next}
-use Rattle.scanner.proofs.KeywordLaws.{length_keywords}
 use Rattle.token_words.proofs.index.link.Given as goal
 
 abbrev pub invariant-loop-k : goal.invariant-loop-k

@@ -1,14 +1,10 @@
 -- `token_words::index::starts` meets its contract. The loop's invariant: `at` is the offset of keyword `k`, and those before
 -- it are written.
-use Prim.Native.Nat.{ℕ, ◌-◌, ◌≤◌}
-use mathlib.Core.Path.{◌≡◌, refl, subst}
-use native.Mathlib.Omega.{arith}
-use borrow.Author.Rules.{rules}
-use lib.ListN.{length, length-set}
+use Prim.Native.Nat.{◌-◌, ◌≤◌}
+use mathlib.Core.Path.{◌≡◌}
+use lib.ListN.{length}
 use Rattle.file_fields.specs.Offsets.{offset_of}
-use Rattle.file_fields.proofs.Offsets.{offset_next}
 use Rattle.token_words.specs.InternalIndex.{Starts}
-use Rattle.token_words.proofs.IndexLaws.{starts_more}
 use Rattle.token_words.proofs.index.starts.Given as goal
 
 abbrev pub invariant-loop-k : goal.invariant-loop-k

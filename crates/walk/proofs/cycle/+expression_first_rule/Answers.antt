@@ -1,12 +1,8 @@
 -- `walk::cycle::expression`, `walk::cycle::first` and `walk::cycle::rule`, which call each other, meet their contracts.
-use Prim.Native.Nat.{ℕ, ◌<◌, ◌*◌, ◌+◌}
-use mathlib.Core.Path.{◌≡◌, refl, sym, ap, subst, ◌∙◌}
-use mathlib.Core.Logic.{⊎_elim}
+use mathlib.Core.Path.{refl, sym, ap, subst, ◌∙◌}
 use lib.ListN.{length}
-use borrow.Author.Rules.{rules}
 use native.Mathlib.Omega.{arith}
-use Rattle.readings.specs.Readings.{reading_of}
-use Rattle.walk.specs.InternalRemembering.{Remembering, Recalls}
+use Rattle.walk.specs.InternalRemembering.{Remembering}
 use Rattle.capture_list.proofs.ListLaws.{room_inside}
 use Rattle.walk.proofs.WalkLaws.{kept_on, out_recalled, remembers_walked}
 use Rattle.walk.proofs.WalkLaws.{start, for_node, out_empty, rule_less, rule_ready, rule_room, out_rule}

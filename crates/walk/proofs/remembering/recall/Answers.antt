@@ -1,5 +1,4 @@
 -- `walk::remembering::recall` meets its contract.
-use borrow.Author.Rules.{rules}
 use mathlib.Core.Path.{sym, ap, ◌∙◌}
 use Rattle.memory.specs.declared.Known.TheVariants.{Is}
 use Rattle.walk.proofs.remembering.recall.Goals as goal

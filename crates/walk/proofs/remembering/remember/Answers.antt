@@ -1,5 +1,4 @@
 -- `walk::remembering::remember` meets its contract.
-use borrow.Author.Rules.{rules}
 use mathlib.Core.Path.{refl}
 use mathlib.Core.Logic.{inl, inr}
 use Rattle.walk.proofs.remembering.remember.Goals as goal

@@ -1,5 +1,4 @@
 -- `walk::states::anew` meets its contract.
-use borrow.Author.Rules.{rules}
 use Rattle.walk.proofs.LeafLaws.{same_state}
 use Rattle.walk.proofs.states.anew.Goals as goal
 

@@ -1,5 +1,4 @@
 -- `walk::states::at_column` meets its contract.
-use borrow.Author.Rules.{rules}
 use mathlib.Core.Path.{refl}
 use Rattle.walk.proofs.states.at_column.Goals as goal
 

@@ -1,5 +1,4 @@
 -- `walk::states::entered` meets its contract.
-use borrow.Author.Rules.{rules}
 use mathlib.Core.Path.{sym, subst}
 use Prim.Native.Nat.{ℕ, ◌+◌, ◌<◌, ◌^◌}
 use Rattle.columns.specs.InternalHighest.{highest, rise}

@@ -1,5 +1,4 @@
 -- `walk::states::inner` meets its contract.
-use borrow.Author.Rules.{rules}
 use mathlib.Core.Path.{refl, ap₂, ◌∙◌}
 use native.Mathlib.Omega.{arith}
 use Rattle.columns.specs.Intervals.{to}

@@ -1,5 +1,4 @@
 -- `walk::states::joined` meets its contract.
-use borrow.Author.Rules.{rules}
 use Rattle.walk.proofs.LeafLaws.{joined_failure, joined_success}
 use Rattle.walk.proofs.states.joined.Goals as goal
 

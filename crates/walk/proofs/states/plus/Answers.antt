@@ -1,5 +1,4 @@
 -- `walk::states::plus` meets its contract.
-use borrow.Author.Rules.{rules}
 use mathlib.Core.Path.{refl, ap}
 use Rattle.columns.specs.declared.Upper.TheVariants.{At}
 use Rattle.walk.proofs.LeafLaws.{room_at}

@@ -1,5 +1,4 @@
 -- `walk::states::token` meets its contract.
-use borrow.Author.Rules.{rules}
 use mathlib.Core.Path.{◌∙◌}
 use Rattle.walk.proofs.LeafLaws.{token_none, token_other, token_there}
 use Rattle.walk.proofs.states.token.Goals as goal

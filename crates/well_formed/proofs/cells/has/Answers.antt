@@ -1,6 +1,5 @@
 -- `well_formed::cells::has` meets its contract.
-use borrow.Author.Rules.{rules}
-use mathlib.Core.Path.{refl, sym}
+use mathlib.Core.Path.{sym}
 use mathlib.Core.Bool.{false}
 use lib.ListN.{get_or-eq_default}
 use Rattle.well_formed.proofs.cells.has.Goals as goal

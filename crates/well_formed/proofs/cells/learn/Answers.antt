@@ -1,5 +1,4 @@
 -- `well_formed::cells::learn` meets its contract.
-use borrow.Author.Rules.{rules}
 use mathlib.Core.Path.{refl}
 use borrow.Author.Tests.{not-true, not-false}
 use Rattle.well_formed.specs.InternalPasses.{learnt}

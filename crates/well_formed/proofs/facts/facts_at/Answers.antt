@@ -1,5 +1,4 @@
 -- `well_formed::facts::facts_at` meets its contract.
-use borrow.Author.Rules.{rules}
 use Rattle.form_facts.proofs.FactLaws.{by_fact}
 use Rattle.well_formed.proofs.facts.facts_at.Goals as goal
 

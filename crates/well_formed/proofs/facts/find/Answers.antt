@@ -1,11 +1,8 @@
 -- `well_formed::facts::find` meets its contract.
-use mathlib.Core.Path.{◌≡◌, refl}
+use mathlib.Core.Path.{refl}
 use native.Mathlib.Omega.{arith}
-use lib.ListN.{length}
 use borrow.Author.Tests.{not-true, not-false}
 use Rattle.table.specs.Form.{node_count}
-use Rattle.well_formed.specs.InternalPasses.{three, known_cells, FactsReady}
-use Rattle.well_formed.proofs.FixpointLaws.{missing}
 use Rattle.well_formed.proofs.DecidedLaws.{cells_below, cell_at}
 use Rattle.well_formed.proofs.PassLaws.{last_pass, fewer}
 use Rattle.well_formed.proofs.facts.find.Goals as goal

@@ -1,12 +1,8 @@
 -- `well_formed::facts::pass` meets its contract.
-use mathlib.Core.Path.{◌≡◌, refl, ap, ◌∙◌}
-use native.Mathlib.Omega.{arith}
+use mathlib.Core.Path.{◌≡◌}
 use Prim.Native.Nat.{◌-◌, ◌≤◌}
 use lib.ListN.{length}
 use Rattle.well_formed.specs.InternalPasses.{three, FactsPass}
-use Rattle.well_formed.proofs.PassLaws.{started, looked_also}
-use Rattle.well_formed.proofs.CellLaws.{length_learnt}
-use Rattle.well_formed.proofs.StepLaws.{facts_turn}
 use Rattle.well_formed.proofs.facts.pass.Given as goal
 
 abbrev pub invariant-loop-n : goal.invariant-loop-n

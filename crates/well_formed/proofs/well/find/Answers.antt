@@ -1,11 +1,8 @@
 -- `well_formed::well::find` meets its contract.
-use mathlib.Core.Path.{◌≡◌, refl}
+use mathlib.Core.Path.{refl}
 use native.Mathlib.Omega.{arith}
-use lib.ListN.{length}
 use borrow.Author.Tests.{not-true, not-false}
 use Rattle.table.specs.Form.{node_count}
-use Rattle.well_formed.specs.InternalPasses.{well_cells, WellReady}
-use Rattle.well_formed.proofs.FixpointLaws.{missing}
 use Rattle.well_formed.proofs.DecidedLaws.{nodes_below, node_at}
 use Rattle.well_formed.proofs.PassLaws.{last_pass, fewer}
 use Rattle.well_formed.proofs.well.find.Goals as goal

@@ -1,9 +1,7 @@
 -- `well_formed::well::pass` meets its contract.
-use mathlib.Core.Path.{◌≡◌, refl, ap, ◌∙◌}
+use mathlib.Core.Path.{refl, ap, ◌∙◌}
 use native.Mathlib.Omega.{arith}
-use Prim.Native.Nat.{◌-◌, ◌≤◌}
 use lib.ListN.{length}
-use Rattle.well_formed.specs.InternalPasses.{WellPass}
 use Rattle.well_formed.proofs.PassLaws.{started, looked_also}
 use Rattle.well_formed.proofs.CellLaws.{length_learnt}
 use Rattle.well_formed.proofs.StepLaws.{well_turn}
