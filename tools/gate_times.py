@@ -1,54 +1,63 @@
 #!/usr/bin/env python3
-"""Where the time of a gate run went, by crate and by edit.
+"""Where the time of a gate run goes, by crate.
 
-    bash .ci/run | tee LOG; python3 tools/gate_times.py LOG
+    bash .ci/run | python3 tools/gate_times.py
 
-For each crate the seconds of its check, its must-fail edits, their seconds and the longest of them. Several checks run at
-a time (`RT_JOBS`), so each takes longer than alone, and the whole run takes less than their sum. With `--edits` a line for
-each crate's edits too.
+It hands on each line as it comes and then prints, for each crate, at which second of the run it was proved, and at which its
+must-fail edits were begun, with their number; then when the last edit was done, and the whole. `rt ci` works at several crates
+side by side and tells no times itself: the seconds are those at which its lines came, so what a crate took by itself is not
+told, nor what an edit took. What an earlier run on the same machine proved is kept, and takes next to nothing.
 """
 
-import collections
 import re
 import sys
+import time
 
-CHECK = re.compile(r"rt: (\w+) proved \((\d+) s\)")
-EDIT = re.compile(r"rt: must-fail (\w+)/(\w+): refused.*?(\d+) s\)")
-
-
-def read(path):
-    """The seconds of each crate's check, and of each crate's edits."""
-    checks, edits = {}, collections.defaultdict(dict)
-    with open(path, encoding="utf-8", errors="replace") as log:
-        for line in log:
-            if found := CHECK.match(line):
-                checks[found[1]] = int(found[2])
-            elif found := EDIT.match(line):
-                edits[found[1]][found[2]] = int(found[3])
-    return checks, edits
+PROVED = re.compile(r"rt: (\w+) proved$")
+KEPT = re.compile(r"rt: (\w+) is kept: ")
+BEGUN = re.compile(r"rt: (\w+): trying its must-fail edits \((\d+)\)$")
+EDIT = re.compile(r"rt: must-fail \w+/")
 
 
-def table(checks, edits):
-    """The rows of the table, the dearest crate first."""
-    rows = [(c, checks[c], len(edits[c]), sum(edits[c].values()), max(edits[c].values(), default=0)) for c in checks]
-    rows.sort(key=lambda row: -(row[1] + row[3]))
-    rows.append(("all", *(sum(row[i] for row in rows) for i in (1, 2, 3)), max(row[4] for row in rows)))
-    yield "| crate | check, s | edits | their seconds | the longest | together |"
-    yield "|---|---|---|---|---|---|"
-    for name, check, count, seconds, longest in rows:
-        yield f"| {name if name == 'all' else f'`{name}`'} | {check} | {count} | {seconds} | {longest} | {check + seconds} |"
+class Times:
+    """The seconds at which the lines of a run came."""
+
+    def __init__(self):
+        self.proved, self.kept, self.begun = {}, set(), {}
+        self.edits = self.whole = 0
+
+    def take(self, line, second):
+        """Takes what a line tells, and the second at which it came."""
+        self.whole = second
+        if found := KEPT.match(line) or PROVED.match(line):
+            self.proved[found[1]] = second
+            if " is kept: " in line:
+                self.kept.add(found[1])
+        elif found := BEGUN.match(line):
+            self.begun[found[1]] = (second, int(found[2]))
+        elif EDIT.match(line):
+            self.edits = self.edits or second
+
+    def table(self):
+        """The rows of the table, in the order in which the crates were proved."""
+        yield "| crate | proved at, s | its edits begun at, s | edits tried |"
+        yield "|---|---|---|---|"
+        for name, second in self.proved.items():
+            begun, count = self.begun.get(name, ("-", 0))
+            yield f"| `{name}` | {'kept' if name in self.kept else second} | {begun} | {count} |"
+        yield f"\nThe last edit was done by second {self.edits}, and the whole run took {self.whole} s."
 
 
 def main():
-    words = [word for word in sys.argv[1:] if word != "--edits"]
-    if len(words) != 1:
+    if len(sys.argv) != 1 or sys.stdin.isatty():
         sys.exit(__doc__)
-    checks, edits = read(words[0])
-    print("\n".join(table(checks, edits)))
-    if "--edits" in sys.argv:
-        print("\nEach edit, in seconds:\n")
-        for crate in filter(edits.get, list(edits)):
-            print(f"- `{crate}`: " + ", ".join(f"{name} {seconds}" for name, seconds in edits[crate].items()))
+    sys.stdin.reconfigure(errors="replace")
+    times, begin = Times(), time.monotonic()
+    for line in sys.stdin:
+        print(line, end="", flush=True)
+        times.take(line.rstrip("\n"), round(time.monotonic() - begin))
+    print()
+    print("\n".join(times.table()))
 
 
 if __name__ == "__main__":

@@ -1,10 +1,11 @@
 #!/usr/bin/env python3
 """Measures how much stack the interpreter needs for deep nesting.
 
-Run it at the top of the repository after `rt check depth reader`. For each grammar below it finds,
-by halving, the least stack with which target/bin/depth ends with the right answer, and prints it with
-the nested calls, the bytes of one of them and the time of a run. Then it does the same with
-target/bin/reader, for the list and for a chain of indents, on a report of one line with 4,095 words.
+Run it at the top of the repository after `rt ci`, or after `rt run < /dev/null` in crates/depth and in
+crates/reader. For each grammar below it finds, by halving, the least stack with which the program depth
+ends with the right answer, and prints it with the nested calls, the bytes of one of them and the time of
+a run. Then it does the same with the program reader, for the list and for a chain of indents, on a
+report of one line with 4,095 words.
 The exit status is 1 if a grammar needs more than its limit.
 
 A nested call is one of the expression walk, at the deepest point of a run; a rule's call is counted
@@ -29,8 +30,8 @@ import grammar_fields  # noqa: E402
 from depth import LIST, TOKENS  # noqa: E402
 from table_nodes import ANY, AT_LEAST, EMPTY, EQUAL, step  # noqa: E402
 
-PROGRAM = ROOT / "target" / "bin" / "depth"
-READER = ROOT / "target" / "bin" / "reader"
+PROGRAM = ROOT / "crates" / "depth" / "out" / "depth"
+READER = ROOT / "crates" / "reader" / "out" / "reader"
 
 KIB, MIB = 1024, 1024 * 1024
 NODES, RULES = 512, 128
@@ -187,7 +188,7 @@ def measure_reader(name, nodes, limit, folder):
 
 def main():
     if not (PROGRAM.exists() and READER.exists()):
-        sys.exit("a program is not there: run rt check depth reader first")
+        sys.exit("a program is not there: run `rt run < /dev/null` in crates/depth and in crates/reader first")
     print(f"{'grammar':26} {'nested calls':>12} {'MiB':>8} {'bytes a call':>12} {'seconds':>8}")
     with tempfile.TemporaryDirectory() as folder:
         kept = [measure(shape, pathlib.Path(folder)) for shape in shapes()]

@@ -2,7 +2,7 @@
 """Tries the worked file of docs/FORMAT.md: its bytes are what the builder builds from its grammar, and the program prints
 the answer that is written below them.
 
-    python3 trials/check_format.py target/bin/reader
+    python3 trials/check_format.py crates/reader/out/reader
 """
 
 import pathlib

@@ -2,7 +2,7 @@
 """Tries the first page of README.md: its report and its rules are those of examples/, the builder builds the grammar file
 that stands there, and the program `entries` prints what the page says of both reports, last what `reader` does.
 
-    python3 trials/check_readme.py target/bin/reader target/bin/entries
+    python3 trials/check_readme.py crates/reader/out/reader crates/entries/out/entries
 """
 
 import pathlib
@@ -14,7 +14,9 @@ import tempfile
 ROOT = pathlib.Path(__file__).resolve().parent.parent
 EXAMPLES = ROOT / "examples"
 # What is run here, with the program that is there already.
-COMMAND = "rt check reader entries && (cd examples && ../target/bin/entries < report.txt)\n"
+COMMAND = """\
+(cd crates/entries && rt run < /dev/null > /dev/null) && (cd examples && ../crates/entries/out/entries < report.txt)
+"""
 
 
 def blocks(text):

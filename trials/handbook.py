@@ -38,7 +38,7 @@ CASE = re.compile(r"\((?P<number>\d+)\) (?:(?P<start>.+?) )?-> (?P<answer>.+)")
 ENTRY = " " * 5  # before each line of a list
 ANSWER = re.compile(r"failure \d+|refused 16|success \d+ \d+ (\d+|inf) (clear|set) \d+")
 BUILDS = re.compile(r"python3 tools/build\.py (?P<grammar>[^-\s]\S*) (?P<file>\S+)")
-READS = re.compile(r"\.\./target/bin/(?P<program>reader|entries) < (?P<report>\S+)")
+READS = re.compile(r"\.\./crates/(?P<program>reader|entries)/out/(?P=program) < (?P<report>\S+)")
 WRITES = re.compile(r"target/write_grammar (?P<lending>\S+) (?P<table>\S+) \S+")
 
 

@@ -15,18 +15,16 @@ HEAD = """\
 -- tools/build.py numbers them, tokens as the scanner gives them, the answers as the handbook has them, where they follow from
 -- 01, "Columns and states", 02, notes 1, 2, 5 and 7, 001, section 2.1, and 000, figure 6, by hand; the words of captures as the
 -- reader lists them, for the entries that the handbook has. `HandbookHold`, in proofs, computes them all.
-use Prim.Native.Nat.{ℕ}
-use mathlib.Core.Bool.{Bool, true, false}
-use mathlib.Core.List.{List, [], _∷_, _++_}
-use Rattle·table.specs.Answer.{given, refused, refusedAt}
-use Rattle·table.specs.Form.{Form, empty, terminal, rule, sequence, choice, not, repeat, indent, position, align}
-use Rattle·columns.specs.Relations.{equal, greater, atLeast, any, step}
-use Rattle·columns.specs.Intervals.{to}
-use Rattle·columns.specs.declared.Upper.the-variants.{At, Endless}
-use Rattle·columns.specs.declared.Interval.{Interval}
-use Rattle·columns.specs.declared.Start.{Start}
-use Rattle·clauses·specs.specs.Cases.{TokenAt, _at_, reads, fails, Case, run, runBy2014, check, from}
-use Rattle·clauses·specs.specs.CaptureCases.{CaptureCase, lists, listsBy2014, counting, nines, capture}
+use Rattle.std.specs.Prelude.{ℕ, Bool, true, false, List, [], ◌∷◌, ◌++◌}
+use Rattle.table.specs.Answer.{given, refused, refused_at}
+use Rattle.table.specs.Form.{Form, empty, terminal, rule, sequence, choice, not, repeat, indent, position, align}
+use Rattle.columns.specs.Relations.{equal, greater, at_least, any, step}
+use Rattle.columns.specs.Intervals.{to}
+use Rattle.columns.specs.declared.Upper.TheVariants.{At, Endless}
+use Rattle.columns.specs.declared.Interval.{Interval}
+use Rattle.columns.specs.declared.Start.{Start}
+use Rattle.clauses.specs.Cases.{TokenAt, ◌at◌, reads, fails, Case, run, run_by2014, check, from}
+use Rattle.clauses.specs.CaptureCases.{CaptureCase, lists, lists_by2014, counting, nines, capture}
 
 -- A start at the first token: node, mode, interval, flag.
 abbrev pub within : ℕ → ℕ → Interval → Bool → Start
@@ -36,7 +34,7 @@ within node mode interval flag = record { node = node; place = 0; interval = int
 -- lines, a grammar's nodes below the rule that first has them.
 """
 
-NAMED = ("equal", "greater", "atLeast", "any")
+NAMED = ("equal", "greater", "at_least", "any")
 
 
 def wrapped(items, first, sign="∷"):
@@ -92,8 +90,8 @@ def grammar_part(grammar):
         for name in table.rules
     ]
     numbers = " ∷ ".join(str(node) for node in table.rules.values())
-    nodes = listed(f"{grammar.name}Nodes", "Form", groups)
-    rules = f"abbrev pub {grammar.name}Rules : List ℕ\n{grammar.name}Rules = {numbers} ∷ []\n"
+    nodes = listed(f"{grammar.name}_nodes", "Form", groups)
+    rules = f"abbrev pub {grammar.name}_rules : List ℕ\n{grammar.name}_rules = {numbers} ∷ []\n"
     return f"-- {grammar.name}.grammar. Keywords: {keywords or 'none'}.\n{nodes}\n{rules}"
 
 
@@ -130,7 +128,7 @@ def start(case):
 def call(report, case, names):
     """The arguments of a run: grammar, tokens and start."""
     name = report.grammar.name
-    return f"{name}Nodes {name}Rules {names[tokens_of(report)]} {start(case)}"
+    return f"{name}_nodes {name}_rules {names[tokens_of(report)]} {start(case)}"
 
 
 def titled(report, case):
@@ -153,14 +151,14 @@ def cases_part(grammars, reports, names):
     for report in reports:
         for case in report.cases:
             lines.append(titled(report, case))
-            kind = "runBy2014" if case.by_2014 else "run"
+            kind = "run_by2014" if case.by_2014 else "run"
             lines.append(f"∷ {kind} {call(report, case, names)} {answer(case.answer)}")
     lines.append("-- Each grammar: it passes the check, or the builder tells that it does not.")
     for grammar in grammars:
         refusal = grammar.refusal
-        verdict = f"(refusedAt 7 {refusal.node})" if refusal else "(given tt)"
-        lines.append(f"∷ check {grammar.name}Nodes {grammar.name}Rules {verdict}")
-    return case_list("handbookCases", "Case", lines)
+        verdict = f"(refused_at 7 {refusal.node})" if refusal else "(given tt)"
+        lines.append(f"∷ check {grammar.name}_nodes {grammar.name}_rules {verdict}")
+    return case_list("handbook_cases", "Case", lines)
 
 
 def capture_words(captures):
@@ -180,10 +178,10 @@ def lists_part(reports, names):
                 continue
             count = len(case.captures)
             lines.append(titled(report, case))
-            kind, expected = "listsBy2014" if case.by_2014 else "lists", f"(counting {count} {answer(case.answer)})"
+            kind, expected = "lists_by2014" if case.by_2014 else "lists", f"(counting {count} {answer(case.answer)})"
             lines.append(f"∷ {kind} {call(report, case, names)} (nines {4 * count}) {expected}")
             lines += capture_words(case.captures)
-    return case_list("handbookLists", "CaptureCase", lines)
+    return case_list("handbook_lists", "CaptureCase", lines)
 
 
 def tokens_of(report):

@@ -5,7 +5,7 @@
 
 BEFORE and AFTER are folders of this repository, in each of which these have been run:
 
-    rt check scanner_cases && rt staticlib saktroum
+    (cd crates/scanner_cases && rt run < /dev/null) && (cd crates/saktroum && rt lib)
 
 The keywords have 32 bytes and differ in the last, in the one in the middle or in the first; or they are short, `ch1` to
 `ch200`. A scan is of a report with these keywords, eight a line, of 64,000 bytes or 455 lines, through the C interface.
@@ -30,8 +30,8 @@ sys.path.insert(0, str(ROOT / "cases"))
 from grammar_fields import alike, with_keywords  # noqa: E402
 from records import Pairs, wide  # noqa: E402
 
-COMMAND = "rt check scanner_cases && rt staticlib saktroum"
-BUILT = ("bin/scanner_cases", "staticlib/libsaktroum.a")
+COMMAND = "(cd crates/scanner_cases && rt run < /dev/null) && (cd crates/saktroum && rt lib)"
+BUILT = ("scanner_cases/out/scanner_cases", "saktroum/out/libsaktroum.a")
 LINE = 8
 LISTS = [(said, alike(place)) for said, place in (("last byte", 31), ("middle byte", 16), ("first byte", 0))]
 LISTS.append(("short", [b"ch%d" % number for number in range(1, 201)]))
@@ -65,7 +65,7 @@ class Build:
     """One build of the reader."""
 
     def __init__(self, folder, work):
-        self.program, archive = ((folder / "target" / built).resolve() for built in BUILT)
+        self.program, archive = ((folder / "crates" / built).resolve() for built in BUILT)
         for path in (self.program, archive):
             if not path.exists():
                 sys.exit(f"{path} is not there: run `{COMMAND}` in {folder}")

@@ -2,8 +2,8 @@
 
 The library is the archive as a shared one:
 
-    rt staticlib saktroum
-    gcc -shared -o target/libsaktroum.so -Wl,--whole-archive target/staticlib/libsaktroum.a -Wl,--no-whole-archive
+    cd crates/saktroum && rt lib
+    gcc -shared -o out/libsaktroum.so -Wl,--whole-archive out/libsaktroum.a -Wl,--no-whole-archive
 """
 
 import ctypes

@@ -214,9 +214,9 @@ class Told(unittest.TestCase):
         listed = handbook.printed(READER, "entries", handbook.ROOT / "examples" / "report.txt")
         self.assertEqual(listed[:2], ["heading 1:1 Fusion splicer, arc table 4", "splice 2:1 splice 1"])
         self.assertEqual(listed[-2:], ["  cleave 10:5 cleave: 0.5, 0.3", "success 58 0 0 clear 58"])
-        right = ["../target/bin/reader < report.txt", "# success 58 0 0 clear 58"]
-        right += ["../target/bin/entries < misplaced.txt", "# failure 52", "# farthest 10:3"]
-        right += ["", "../target/bin/entries < report.txt", *(f"# {line}" for line in listed)]
+        right = ["../crates/reader/out/reader < report.txt", "# success 58 0 0 clear 58"]
+        right += ["../crates/entries/out/entries < misplaced.txt", "# failure 52", "# farthest 10:3"]
+        right += ["", "../crates/entries/out/entries < report.txt", *(f"# {line}" for line in listed)]
         handbook.read_commands(READER, handbook.Block("sh", 1, right))
         for missing, told in ((1, 1), (3, 3), (4, 3), (7, 7), (len(right) - 1, 7)):
             with self.assertRaises(handbook.Wrong) as wrong:
@@ -247,42 +247,42 @@ loss
 """
 
 READING_CASES = """\
-unfoldable pub handbookCases : List Case
-handbookCases =
+unfoldable pub handbook_cases : List Case
+handbook_cases =
     -- 1. marked.grammar on |loss|
-    run markedNodes markedRules report1 (from 6 equal) (fails 0)
+    run marked_nodes marked_rules report1 (from 6 equal) (fails 0)
     -- 2. marked.grammar, by 2014, entries, on |loss|
-    ∷ runBy2014 markedNodes markedRules report1 (from 6 equal) (reads 1 0 (At 0) false 0)
+    ∷ run_by2014 marked_nodes marked_rules report1 (from 6 equal) (reads 1 0 (At 0) false 0)
     -- 3. marked.grammar, by 2014, mode greater, on |loss|
-    ∷ runBy2014 markedNodes markedRules report1 (from 6 greater) (refused 16)
+    ∷ run_by2014 marked_nodes marked_rules report1 (from 6 greater) (refused 16)
     -- Each grammar: it passes the check, or the builder tells that it does not.
-    ∷ check markedNodes markedRules (given tt)
+    ∷ check marked_nodes marked_rules (given tt)
     ∷ []
 
-unfoldable pub handbookLists : List CaptureCase
-handbookLists =
+unfoldable pub handbook_lists : List CaptureCase
+handbook_lists =
     -- 2. marked.grammar, by 2014, entries, on |loss|
-    listsBy2014 markedNodes markedRules report1 (from 6 equal) (nines 4) (counting 1 (reads 1 0 (At 0) false 0))
+    lists_by2014 marked_nodes marked_rules report1 (from 6 equal) (nines 4) (counting 1 (reads 1 0 (At 0) false 0))
     (capture 1 0 1 0)
     ∷ []
 """
 
 CASES = """\
-unfoldable pub handbookCases : List Case
-handbookCases =
+unfoldable pub handbook_cases : List Case
+handbook_cases =
     -- 1. entry.grammar on |  loss: 0.03|
-    run entryNodes entryRules report1 (from 6 greater) (reads 4 0 (At 1) false 3)
+    run entry_nodes entry_rules report1 (from 6 greater) (reads 4 0 (At 1) false 3)
     -- 2. entry.grammar, mode equal, on |  loss: 0.03|
-    ∷ run entryNodes entryRules report1 (from 6 equal) (fails 1)
+    ∷ run entry_nodes entry_rules report1 (from 6 equal) (fails 1)
     -- 3. entry.grammar, rule entry, from 0 to 9, flag set, on |  loss: 0.03|
-    ∷ run entryNodes entryRules report1 (within 6 greater (to 0 (At 9)) true) (reads 4 2 (At 2) false 3)
+    ∷ run entry_nodes entry_rules report1 (within 6 greater (to 0 (At 9)) true) (reads 4 2 (At 2) false 3)
     -- Each grammar: it passes the check, or the builder tells that it does not.
-    ∷ check entryNodes entryRules (given tt)
-    ∷ check leftNodes leftRules (refusedAt 7 0)
+    ∷ check entry_nodes entry_rules (given tt)
+    ∷ check left_nodes left_rules (refused_at 7 0)
     ∷ []
 
-unfoldable pub handbookLists : List CaptureCase
-handbookLists =
+unfoldable pub handbook_lists : List CaptureCase
+handbook_lists =
     []
 """
 
@@ -305,20 +305,20 @@ stepped = word / indent +31 (position +1 word)
 """
 
 STEP_CASES = """\
-unfoldable pub handbookCases : List Case
-handbookCases =
+unfoldable pub handbook_cases : List Case
+handbook_cases =
     -- 1. stepped.grammar on |  far|
-    run steppedNodes steppedRules report1 (from 3 (step 2)) (reads 1 0 (At 0) false 0)
+    run stepped_nodes stepped_rules report1 (from 3 (step 2)) (reads 1 0 (At 0) false 0)
     -- 2. stepped.grammar, mode +3, on |  far|
-    ∷ run steppedNodes steppedRules report1 (from 3 (step 3)) (fails 0)
+    ∷ run stepped_nodes stepped_rules report1 (from 3 (step 3)) (fails 0)
     -- 3. stepped.grammar, mode +1, from 1 to 1, on |  far|
-    ∷ run steppedNodes steppedRules report1 (within 3 (step 1) (to 1 (At 1)) false) (reads 1 1 (At 1) false 0)
+    ∷ run stepped_nodes stepped_rules report1 (within 3 (step 1) (to 1 (At 1)) false) (reads 1 1 (At 1) false 0)
     -- Each grammar: it passes the check, or the builder tells that it does not.
-    ∷ check steppedNodes steppedRules (given tt)
+    ∷ check stepped_nodes stepped_rules (given tt)
     ∷ []
 
-unfoldable pub handbookLists : List CaptureCase
-handbookLists =
+unfoldable pub handbook_lists : List CaptureCase
+handbook_lists =
     []
 """
 
@@ -358,25 +358,25 @@ splice 1
 """
 
 LIST_CASES = """\
-unfoldable pub handbookCases : List Case
-handbookCases =
+unfoldable pub handbook_cases : List Case
+handbook_cases =
     -- 1. listed.grammar, entries, on |splice 1|  * loss: 0.03|  loss: 0.05|
-    run listedNodes listedRules report1 (from 19 greater) (reads 12 0 (At 0) false 12)
+    run listed_nodes listed_rules report1 (from 19 greater) (reads 12 0 (At 0) false 12)
     -- 2. listed.grammar, rule entry, entries, on |splice 1|  * loss: 0.03|  loss: 0.05|
-    ∷ run listedNodes listedRules report1 (from 31 greater) (fails 0)
+    ∷ run listed_nodes listed_rules report1 (from 31 greater) (fails 0)
     -- 3. listed.grammar on |splice 1|  * loss: 0.03|  loss: 0.05|
-    ∷ run listedNodes listedRules report1 (from 19 greater) (reads 12 0 (At 0) false 12)
+    ∷ run listed_nodes listed_rules report1 (from 19 greater) (reads 12 0 (At 0) false 12)
     -- Each grammar: it passes the check, or the builder tells that it does not.
-    ∷ check listedNodes listedRules (given tt)
+    ∷ check listed_nodes listed_rules (given tt)
     ∷ []
 
-unfoldable pub handbookLists : List CaptureCase
-handbookLists =
+unfoldable pub handbook_lists : List CaptureCase
+handbook_lists =
     -- 1. listed.grammar, entries, on |splice 1|  * loss: 0.03|  loss: 0.05|
-    lists listedNodes listedRules report1 (from 19 greater) (nines 20) (counting 5 (reads 12 0 (At 0) false 12))
+    lists listed_nodes listed_rules report1 (from 19 greater) (nines 20) (counting 5 (reads 12 0 (At 0) false 12))
     (capture 1 0 12 0 ++ capture 2 3 8 1 ++ capture 3 3 4 2 ++ capture 2 8 12 1 ++ capture 3 8 8 2)
     -- 2. listed.grammar, rule entry, entries, on |splice 1|  * loss: 0.03|  loss: 0.05|
-    ∷ lists listedNodes listedRules report1 (from 31 greater) (nines 0) (counting 0 (fails 0))
+    ∷ lists listed_nodes listed_rules report1 (from 31 greater) (nines 0) (counting 0 (fails 0))
     []
     ∷ []
 """
