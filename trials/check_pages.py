@@ -6,7 +6,7 @@
 
 Looked at are the pages' words between backticks: a path; `crate: File.name`, where a file of `specs/` or `proofs/` has that name;
 `File.name` of any crate; `crate/edit`, a must-fail edit; and each other name, which must stand somewhere in the repository. The
-table of must-fail edits has all that there are, and each file of definitions in docs/TRUST.md has as many lines as it says.
+table of must-fail edits has all that there are, and docs/TRUST.md has each file of definitions, with as many lines as it has.
 """
 
 import pathlib
@@ -59,18 +59,19 @@ class Repository:
         """What is not there of the words between two backticks, or None."""
         place, in_file, edit = PLACE.fullmatch(said), IN_FILE.fullmatch(said), EDIT.fullmatch(said)
         if PATH.fullmatch(said):
-            return None if "NAME" in said or (ROOT / said).exists() else "no such file"
+            return None if "NAME" in said or "/out/" in said or (ROOT / said).exists() else "no such file"
         if place and place[1] in self.crates:
             names = self.files.get(place[2], {}).get(place[1])
             if names is None:
                 return f"{place[1]} has no such file"
             return next((f"the file has no {name}" for name in place[3].split(".")[1:] if name not in names), None)
-        if in_file and in_file[1] in self.files:
+        if in_file and in_file[1] in self.files and in_file[2] != "antt":
             return None if any(in_file[2] in names for names in self.files[in_file[1]].values()) else "no such file has that name"
         if edit and edit[1] in self.crates:
             return None if edit[2] in self.edits[edit[1]] or (ROOT / "crates" / said).exists() else "no such edit"
-        whole = NAME.fullmatch(said)
-        missing = [name for name in NAME.findall(said) if (whole or "_" in name.strip("_")) and name not in self.names]
+        whole = len(said) > 1 and NAME.fullmatch(said)
+        names = [name for name in NAME.findall(said) if not name.endswith("_") and (whole or "_" in name)]
+        missing = [name for name in names if name not in self.names]
         return f"there is no {missing[0]}" if missing else None
 
     def lines(self, crate, file):
@@ -107,6 +108,15 @@ def edits_left(repository):
         yield f"docs/CORRESPONDENCE.md: the table of must-fail edits has {crate}/{edit}, which is not there"
 
 
+def definitions_left(text):
+    """The files of definitions that docs/TRUST.md lacks."""
+    listed = {found[:2] for found in ROW.findall(text) + COUNT.findall(text)}
+    for path in sorted((ROOT / "crates").glob("*/specs/*.antt")):
+        crate, file = path.parent.parent.name, path.stem
+        if file != "Lib" and (crate, file) not in listed and f"`{crate}: {file}`" not in text:
+            yield f"docs/TRUST.md: no word of `{crate}: {file}`"
+
+
 def counted(repository, text):
     """The text of docs/TRUST.md with the counts that are right."""
     text = ROW.sub(lambda row: f"| `{row[1]}: {row[2]}` | {repository.lines(row[1], row[2])} |", text)
@@ -123,7 +133,7 @@ def main():
     if sys.argv[1:]:
         TRUST.write_text(right, encoding="utf-8")
         text = right
-    wrong = [*told(repository), *edits_left(repository)]
+    wrong = [*told(repository), *edits_left(repository), *definitions_left(text)]
     if text != right:
         wrong.append("docs/TRUST.md: a count of lines is another; --counts writes it")
     if wrong:
