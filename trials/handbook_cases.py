@@ -1,6 +1,7 @@
 """The file of cases that trials/handbook.py makes of the handbook's blocks, in the layout of `rt fmt`."""
 
 import pathlib
+import re
 import sys
 
 ROOT = pathlib.Path(__file__).resolve().parent.parent
@@ -189,6 +190,17 @@ def tokens_of(report):
     return tuple(token[:2] for token in report.tokens)
 
 
+def with_names_used(text):
+    """The text with its `use` lines cut to the names that stand below them."""
+    below = "\n".join(line for line in text.split("\n") if not line.lstrip().startswith(("use ", "--")))
+
+    def cut(match):
+        names = [name for name in match.group(2).split(", ") if "◌" in name or re.search(rf"(?<![\w.]){name}(?![\w])", below)]
+        return f"{match.group(1)}{{{', '.join(names)}}}"
+
+    return re.sub(r"(?m)^(use \S+\.)\{([^}]*)\}", cut, text)
+
+
 def file_of(grammars, reports):
     """The whole file. A grammar that is no table has no part in it, nor has one refused by another number than 7."""
     tables = [grammar for grammar in grammars if grammar.table and (not grammar.refusal or grammar.refusal.number == 7)]
@@ -199,4 +211,4 @@ def file_of(grammars, reports):
             if tokens_of(report) not in names:
                 names[tokens_of(report)] = f"report{len(names) + 1}"
                 parts.append(report_part(names[tokens_of(report)], report))
-    return "\n".join([HEAD, *parts, cases_part(tables, reports, names), lists_part(reports, names)])
+    return with_names_used("\n".join([HEAD, *parts, cases_part(tables, reports, names), lists_part(reports, names)]))

@@ -22,7 +22,7 @@ use columns::{Capture, Interval, Start, Upper};
 use readings::reading;
 
 // Reads a grammar file. The answer is 0, with the counts of nodes, rules and keywords, the start node and its mode in
-// `result`, or the number that refused the call.
+// `res`, or the number that refused the call.
 #[unsafe(no_mangle)]
 pub extern "C" fn saktroum_read(
     file: &[u8],
@@ -47,7 +47,7 @@ pub extern "C" fn saktroum_read(
 }
 
 // Writes the grammar file of a table, its rules and a start, with the keywords and rule names of a lending file. The answer
-// is 0, with the number of bytes in `result`, or the number that refused the call.
+// is 0, with the number of bytes in `res`, or the number that refused the call.
 #[unsafe(no_mangle)]
 pub extern "C" fn saktroum_write(
     lending: &[u8],
@@ -73,7 +73,7 @@ pub extern "C" fn saktroum_write(
     reported::report_write(x, res)
 }
 
-// Scans a report by the keywords of a grammar file. The answer is 0, with the number of tokens in `result`, or the
+// Scans a report by the keywords of a grammar file. The answer is 0, with the number of tokens in `res`, or the
 // number that refused the call.
 #[unsafe(no_mangle)]
 pub extern "C" fn saktroum_scan(
@@ -104,7 +104,7 @@ pub extern "C" fn saktroum_check(nodes: &[u16], rules: &[u16]) -> u32
 }
 
 // Runs a grammar on tokens from a start, by the reading of 2014 or of 2017. The answer is 0, with success or failure and the
-// farthest place in `result`, or the number that refused the call, for 7 with the node.
+// farthest place in `res`, or the number that refused the call, for 7 with the node.
 #[unsafe(no_mangle)]
 pub extern "C" fn saktroum_run(
     nodes: &[u16],
@@ -167,7 +167,7 @@ pub extern "C" fn saktroum_remember(
 }
 
 // Runs a grammar in the same way and lists its captures, four words each, with zeros behind them. A success has their
-// number in `result` besides.
+// number in `res` besides.
 #[unsafe(no_mangle)]
 pub extern "C" fn saktroum_list(
     nodes: &[u16],
@@ -201,7 +201,7 @@ pub extern "C" fn saktroum_list(
 }
 
 // Says where the text shown for a capture lies. The answer is 0, with its offset, its length and the slice that it lies
-// in, 0 for the report and 1 for the file, in `result`, or the number that refused the call.
+// in, 0 for the report and 1 for the file, in `res`, or the number that refused the call.
 #[unsafe(no_mangle)]
 pub extern "C" fn saktroum_shown(
     file: &[u8],
