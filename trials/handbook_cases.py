@@ -195,7 +195,7 @@ def with_names_used(text):
     below = "\n".join(line for line in text.split("\n") if not line.lstrip().startswith(("use ", "--")))
 
     def cut(match):
-        names = [name for name in match.group(2).split(", ") if "◌" in name or re.search(rf"(?<![\w.]){name}(?![\w])", below)]
+        names = [name for name in match.group(2).split(", ") if "◌" in name or re.search(rf"(?<![\w.]){re.escape(name)}(?!\w)", below)]
         return f"{match.group(1)}{{{', '.join(names)}}}"
 
     return re.sub(r"(?m)^(use \S+\.)\{([^}]*)\}", cut, text)
