@@ -25,8 +25,10 @@ use Rattle.clauses.specs.Cases as cases
 use Rattle.both_readings.specs.BothReadings.{ReadAlike, begins, align_child, not_child, sequence_first}
 use Rattle.both_readings.specs.AlikeCases.{start_at, fibre_nodes, fibre_rules, fibre_report, aligned_indent, aligned_in_not}
 use Rattle.both_readings.specs.AlikeCases.{aligned_empty, answer_at}
-use Rattle.both_readings.proofs.HeldForms.{Closed, alike_held}
-use Rattle.both_readings.proofs.SameAnswers.{same_answer, same_listing, same_words}
+use Rattle.both_readings.proofs.ClosedForms.{Closed}
+use Rattle.both_readings.proofs.HeldForms.{alike_held}
+use Rattle.both_readings.proofs.SameAnswers.{same_answer}
+use Rattle.both_readings.proofs.SameListings.{same_listing, same_words}
 
 -- The forms of the splicer's grammar that a report enters, with their flags.
 data FibreHeld : Form → Bool → Type 0 where

@@ -85,33 +85,33 @@ module _ (file : List ℕ) (first k : ℕ) where
   count_nodes = omega (arith, length_nodes file first k)
 
 -- Slices that are too short for the nodes, for the rules, and long enough for both.
-module _ (file : List ℕ) (nodes_at node_count_lem rules_at rule_count nodes_lent_lem rules_lent_lem : ℕ) where
+module _ (file : List ℕ) (nodes_at node_count rules_at rule_count nodes_lent rules_lent : ℕ) where
   abbrev nodes : List ℕ
-  nodes = words_of (fields_from file nodes_at node_count_lem)
+  nodes = words_of (fields_from file nodes_at node_count)
 
   abbrev rules : List ℕ
   rules = map rule_node (fields_from file rules_at rule_count)
 
-  pub short_nodes : nodes_lent_lem / 4 < node_count_lem → true ≡ too_short nodes rules nodes_lent_lem rules_lent_lem
+  pub short_nodes : nodes_lent / 4 < node_count → true ≡ too_short nodes rules nodes_lent rules_lent
   unfolding too_short
-  short_nodes h = rw (lt-ltb nodes_lent_lem (length nodes) (omega (arith, length_nodes file nodes_at node_count_lem))) refl
+  short_nodes h = rw (lt-ltb nodes_lent (length nodes) (omega (arith, length_nodes file nodes_at node_count))) refl
 
-  pub short_rules : rules_lent_lem < rule_count → true ≡ too_short nodes rules nodes_lent_lem rules_lent_lem
+  pub short_rules : rules_lent < rule_count → true ≡ too_short nodes rules nodes_lent rules_lent
   unfolding too_short
   short_rules h =
-      rw (lt-ltb rules_lent_lem (length rules) (omega (arith, length_rules file rules_at rule_count)))
-      (sym (or-true (ltb nodes_lent_lem (length nodes))))
+      rw (lt-ltb rules_lent (length rules) (omega (arith, length_rules file rules_at rule_count)))
+      (sym (or-true (ltb nodes_lent (length nodes))))
 
-  pub enough : node_count_lem ≤ nodes_lent_lem / 4 → rule_count ≤ rules_lent_lem → false ≡ too_short nodes rules nodes_lent_lem rules_lent_lem
+  pub enough : node_count ≤ nodes_lent / 4 → rule_count ≤ rules_lent → false ≡ too_short nodes rules nodes_lent rules_lent
   unfolding too_short
   enough h k =
       rw (
-        le-ltb nodes_lent_lem (length nodes) (omega (arith, length_nodes file nodes_at node_count_lem)),
-        le-ltb rules_lent_lem (length rules) (omega (arith, length_rules file rules_at rule_count)),
+        le-ltb nodes_lent (length nodes) (omega (arith, length_nodes file nodes_at node_count)),
+        le-ltb rules_lent (length rules) (omega (arith, length_rules file rules_at rule_count)),
       ) refl
 
-  pub nodes_written_lem : (old : List ℕ) {out : List ℕ} → out ≡ nodes ++ drop (node_count_lem * 4) old → out ≡ nodes ++ drop (length nodes) old
-  nodes_written_lem old q = q ∙ ap (λ (k : ℕ). nodes ++ drop k old) (sym (length_nodes file nodes_at node_count_lem))
+  pub nodes_written_lem : (old : List ℕ) {out : List ℕ} → out ≡ nodes ++ drop (node_count * 4) old → out ≡ nodes ++ drop (length nodes) old
+  nodes_written_lem old q = q ∙ ap (λ (k : ℕ). nodes ++ drop k old) (sym (length_nodes file nodes_at node_count))
 
   pub rules_written_lem : (old : List ℕ) {out : List ℕ} → out ≡ rules ++ drop rule_count old → out ≡ rules ++ drop (length rules) old
   rules_written_lem old q = q ∙ ap (λ (k : ℕ). rules ++ drop k old) (sym (length_rules file rules_at rule_count))

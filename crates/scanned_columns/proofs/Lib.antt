@@ -1,3 +1,5 @@
 pub mod AsciiScans
+pub mod AsciiLaws
 pub mod NeverFarther
 pub mod Letters
+pub mod LetterColumns

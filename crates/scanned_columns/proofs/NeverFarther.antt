@@ -28,8 +28,9 @@ use Rattle.scanner.specs.Steps.{last_step_column, step_fails8, standing}
 use Rattle.token_words.specs.Places.{mid_run, had_token, line_end, place_by, place_at, places_at, places}
 use Rattle.token_words.proofs.PlaceLaws.{onward}
 use Rattle.token_words.specs.Scan.{over_column, fails9, fails10, scan_answer}
-use Rattle.scanned_columns.proofs.AsciiScans.{old_column_after, old_column_at, old_place_at, old_places_at, old_places, old_scan_answer, column_rule}
-use Rattle.scanned_columns.proofs.AsciiScans.{had_same, refused_same, begun_same}
+use Rattle.scanned_columns.proofs.AsciiScans.{old_column_after, old_column_at, old_place_at, old_places_at, old_places, old_scan_answer}
+use Rattle.scanned_columns.proofs.AsciiLaws.{column_rule}
+use Rattle.scanned_columns.proofs.AsciiLaws.{had_same, refused_same, begun_same}
 
 -- The old rule from a column on, and what a byte from 128 to 191 did.
 old_more : (b c d : ℕ) → c ≤ d → old_column_after b c ≤ old_column_after b d

@@ -108,10 +108,20 @@ module _ (lending nodes rules : List ℕ) (node mode lent n : ℕ) (w : write_an
       counts.1
       counts.2
 
+  short : length file ≤ 65535
+  unfolding written_file
+  short =
+      let s = both_spelled (fields_of lending) had.lends.framed.names in
+      omega (
+        arith,
+        longest words names nodes rules node mode (spelling_short words s.0) (spelling_short names s.1)
+            had.lends.framed.few counts.1 counts.2,
+      )
+
   right : Right file
   right =
       record {
-        short = omega (arith, never_long);
+        short = short;
         whole = whole ∙ ap some (sym fields_are);
         framed =
             record {
