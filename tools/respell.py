@@ -118,9 +118,15 @@ def pieces(path, text):
 
 
 def main():
+    if sys.argv[1:] not in ([], ["--list"]):
+        print(__doc__)
+        return 2
     root = os.getcwd()
     crates = own_crates(root)
     texts = {path: open(path, encoding="utf-8").read() for path in files(root)}
+    if any(path.endswith("/Answers.antt") for path in texts):
+        print("the proofs here have today's form already: nothing was changed", file=sys.stderr)
+        return 1
     was = dict(texts)
     for path in texts:
         if path.endswith(".antt"):
