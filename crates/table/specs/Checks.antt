@@ -1,11 +1,11 @@
 -- Numbers 3, 4 and 5 of a table and its rules (01, "The grammar table" and "Turned-down calls").
-use Rattle.std.specs.Prelude.{ℕ, zero, suc, ◌%◌, Bool, false, not, ◌&&◌, ◌||◌, List, length, leb, ltb, eqb}
-use Rattle.table.specs.Answer.{Answer, given, refused, refuse_if}
+use Rattle.std.specs.Prelude.{ℕ, zero, suc, ◌%◌, Result, Bool, false, not, ◌&&◌, ◌||◌, List, length, leb, ltb, eqb}
+use Rattle.table.specs.Answer.{Answer, given, refuse_if}
+use Rattle.table.specs.Refusals.{answer_by}
+use Rattle.table.specs.declared.refusals.Refusal.{Refusal}
 use Rattle.table.specs.Every.{every}
 use Rattle.table.specs.Limits.{most_nodes, most_rules, last_terminal, relation_count}
 use Rattle.table.specs.Form.{kind_of, a_of, b_of, relation_of, node_count, stands_for}
-use Rattle.table.specs.declared.Checked.{Checked}
-use Rattle.table.specs.declared.Checked.TheVariants.{Passes, Refused}
 
 -- 3: "node words no multiple of 4, node or rule count outside the limits"
 unfoldable pub fails3 : List ℕ → List ℕ → Bool
@@ -60,7 +60,6 @@ table_answer nodes rules =
     (refuse_if (fails5 nodes rules) 5
     (given tt)))
 
--- 01's number for each case of `Checked`.
-abbrev pub numbers : Checked → Answer Unit
-numbers Passes = given tt
-numbers (Refused n) = refused n
+-- The answer of a check that gives nothing.
+abbrev pub numbers : Result Unit Refusal → Answer Unit
+numbers = answer_by (λ x. x)

@@ -1,4 +1,6 @@
 pub mod Answer
+pub mod Refusals
+pub mod Kinds
 pub mod Every
 pub mod Words
 pub mod Limits

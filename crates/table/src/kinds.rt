@@ -1,20 +1,42 @@
 // The kinds of nodes (01, "The grammar table").
-pub const EMPTY: u16 = 0;
+ghost use Rattle.table.specs.Kinds.{KindOf};
 
-pub const TERMINAL: u16 = 1;
+#[derive(Clone, Copy, Debug, PartialEq, Eq)]
+pub enum Kind {
+    Empty,
+    Terminal,
+    Rule,
+    Sequence,
+    Choice,
+    Not,
+    Repeat,
+    Indent,
+    Position,
+    Align,
+}
 
-pub const RULE: u16 = 2;
+// A word that stands for no kind.
+#[derive(Clone, Copy, Debug, PartialEq, Eq)]
+pub struct NoKind;
 
-pub const SEQUENCE: u16 = 3;
+impl TryFrom<u16> for Kind {
+    type Error = NoKind;
 
-pub const CHOICE: u16 = 4;
+    ghost try_from_gives = { KindOf };
 
-pub const NOT: u16 = 5;
-
-pub const REPEAT: u16 = 6;
-
-pub const INDENT: u16 = 7;
-
-pub const POSITION: u16 = 8;
-
-pub const ALIGN: u16 = 9;
+    fn try_from(word: u16) -> Result<Kind, NoKind> {
+        match word {
+            0 => Ok(Kind::Empty),
+            1 => Ok(Kind::Terminal),
+            2 => Ok(Kind::Rule),
+            3 => Ok(Kind::Sequence),
+            4 => Ok(Kind::Choice),
+            5 => Ok(Kind::Not),
+            6 => Ok(Kind::Repeat),
+            7 => Ok(Kind::Indent),
+            8 => Ok(Kind::Position),
+            9 => Ok(Kind::Align),
+            _ => Err(NoKind),
+        }
+    }
+}

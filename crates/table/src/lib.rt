@@ -2,13 +2,16 @@
 // (numbers 3, 4 and 5).
 #![tactic(auto)]
 
-ghost use Rattle.std.specs.Prelude.{◌≡◌, ◌&&◌};
+ghost use Rattle.std.specs.Prelude.{◌≡◌};
 ghost use Rattle.table.specs.Checks.{numbers, table_answer, right_words, fails3, fails4, fails5};
 
 pub mod kinds;
 pub mod refusals;
 pub mod relations;
 pub mod terminals;
+
+pub use kinds::Kind;
+pub use refusals::Refusal;
 
 // The most nodes and rules of a table.
 pub const NODES: usize = 512;
@@ -26,53 +29,38 @@ pub const TOKENS: usize = 4096;
 
 pub const LAST_COLUMN: u32 = 65535;
 
-// Whether a table and its rules pass 3, 4 and 5, or the number of the first that fails.
-#[derive(Clone, Copy)]
-pub enum Checked {
-    Passes,
-    Refused(u8),
-}
-
-// The first of 3, 4 and 5 that fails for node words and rules, or none.
-pub fn check(nodes: &[u16], rules: &[u16]) -> Checked
+#[tactic(auto, unfolding(crate::specs::Checks::table_answer))]
+// Whether node words and rules are a table, or the first of 3, 4 and 5 that fails.
+pub fn check(nodes: &[u16], rules: &[u16]) -> Result<(), Refusal>
     ensures { numbers result ≡ table_answer nodes.now rules.now }
 {
     if counts_wrong(nodes, rules) {
-        return Checked::Refused(refusals::COUNTS);
+        return Err(Refusal::Counts);
     }
     if node_wrong(nodes, rules) {
-        return Checked::Refused(refusals::NODE);
+        return Err(Refusal::Node);
     }
     if rule_wrong(nodes, rules) {
-        return Checked::Refused(refusals::RULE);
+        return Err(Refusal::Rule);
     }
-    Checked::Passes
+    Ok(())
 }
 
+#[tactic(auto, unfolding(crate::specs::Checks::fails3))]
 // Number 3: node words no multiple of 4, or a count outside the limits.
 fn counts_wrong(nodes: &[u16], rules: &[u16]) -> bool
     ensures { result ≡ fails3 nodes.now rules.now }
 {
     let count = nodes.len() / 4;
-    if nodes.len() % 4 != 0 {
-        return true;
-    }
-    if count < 1 {
-        return true;
-    }
-    if count > NODES {
-        return true;
-    }
-    rules.len() > RULES
+    nodes.len() % 4 != 0 || count < 1 || count > NODES || rules.len() > RULES
 }
 
+#[tactic(auto, using(crate::proofs::Every::every_more, crate::proofs::Every::every_fails), unfolding(crate::specs::Checks::fails4, crate::specs::Every::every))]
 // Number 4: some node's words are not right.
 fn node_wrong(nodes: &[u16], rules: &[u16]) -> bool
     ensures { result ≡ fails4 nodes.now rules.now }
 {
-    let count = nodes.len() / 4;
-    let mut n = 0;
-    while n < count {
+    for n in 0..nodes.len() / 4 {
         let at = n * 4;
         if !words_right(
             rules.len(),
@@ -84,51 +72,42 @@ fn node_wrong(nodes: &[u16], rules: &[u16]) -> bool
         ) {
             return true;
         }
-        n += 1;
     }
     false
 }
 
+#[tactic(auto, unfolding(crate::specs::Checks::right_words))]
 // Number 4, for node n: a kind's own words are in range, and the others are 0.
 fn words_right(rules: usize, n: usize, kind: u16, a: u16, b: u16, relation: u16) -> bool
     ensures { result ≡ right_words rules n kind a b relation }
 {
-    match kind {
-        kinds::EMPTY => all(a == 0, b == 0, relation == 0),
-        kinds::TERMINAL => all(a <= LAST_TERMINAL, b == 0, relation == 0),
-        kinds::RULE => all((a as usize) < rules, b == 0, relation == 0),
-        kinds::SEQUENCE => all((a as usize) < n, (b as usize) < n, relation == 0),
-        kinds::CHOICE => all((a as usize) < n, (b as usize) < n, relation == 0),
-        kinds::NOT => all((a as usize) < n, b == 0, relation == 0),
-        kinds::REPEAT => all((a as usize) < n, b == 0, relation == 0),
-        kinds::INDENT => all((a as usize) < n, b == 0, relation < RELATIONS),
-        kinds::POSITION => all((a as usize) < n, b == 0, relation < RELATIONS),
-        kinds::ALIGN => all((a as usize) < n, b == 0, relation == 0),
-        _ => false,
+    let first = (a as usize) < n;
+    let second = (b as usize) < n;
+    match Kind::try_from(kind) {
+        Ok(Kind::Empty) => a == 0 && b == 0 && relation == 0,
+        Ok(Kind::Terminal) => a <= LAST_TERMINAL && b == 0 && relation == 0,
+        Ok(Kind::Rule) => (a as usize) < rules && b == 0 && relation == 0,
+        Ok(Kind::Sequence) => first && second && relation == 0,
+        Ok(Kind::Choice) => first && second && relation == 0,
+        Ok(Kind::Not) => first && b == 0 && relation == 0,
+        Ok(Kind::Repeat) => first && b == 0 && relation == 0,
+        Ok(Kind::Indent) => first && b == 0 && relation < RELATIONS,
+        Ok(Kind::Position) => first && b == 0 && relation < RELATIONS,
+        Ok(Kind::Align) => first && b == 0 && relation == 0,
+        Err(_) => false,
     }
 }
 
-fn all(first: bool, second: bool, third: bool) -> bool
-    ensures { result ≡ (first && second && third) }
-{
-    if first {
-        if second { third } else { false }
-    } else {
-        false
-    }
-}
-
+#[tactic(auto, using(crate::proofs::Every::every_more, crate::proofs::Every::every_fails), unfolding(crate::specs::Checks::fails5, crate::specs::Every::every))]
 // Number 5: some rule's node is not in the table.
 fn rule_wrong(nodes: &[u16], rules: &[u16]) -> bool
     ensures { result ≡ fails5 nodes.now rules.now }
 {
     let count = nodes.len() / 4;
-    let mut k = 0;
-    while k < rules.len() {
-        if rules[k] as usize >= count {
+    for node in rules {
+        if *node as usize >= count {
             return true;
         }
-        k += 1;
     }
     false
 }
