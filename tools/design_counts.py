@@ -32,25 +32,35 @@ def heads(lines):
 
 
 def fitting(pattern):
-    return lambda lines: [(n, line.strip()) for n, line in enumerate(lines, 1) if re.search(pattern, line)]
+    return lambda path, lines: [(n, line.strip()) for n, line in enumerate(lines, 1) if re.search(pattern, line)]
+
+
+def constants(modules):
+    """A constant of one of these modules, where it is declared and where it is used."""
+
+    def places(path, lines):
+        pattern = r"^pub const \w+: u\d+ =" if re.search(rf"/({modules})\.rt$", path) else rf"\b({modules})::[A-Z]"
+        return fitting(pattern)(path, lines)
+
+    return places
 
 
 def with_parameters(*names):
-    def places(lines):
+    def places(path, lines):
         return [(n, name) for n, name, parameters in heads(lines) if all(re.search(rf"\b{one}:", parameters) for one in names)]
 
     return places
 
 
 def named(pattern):
-    return lambda lines: [(n, name) for n, name, _ in heads(lines) if re.fullmatch(pattern, name)]
+    return lambda path, lines: [(n, name) for n, name, _ in heads(lines) if re.fullmatch(pattern, name)]
 
 
 POINTS = [
     (1, "a case of an own enum for a refusal or for nothing", fitting(r"^    (Refused\(u8\)|IllFormed\(u16\)|Nothing|Passes),")),
-    (1, "a number for a refusal: its constant or a use", fitting(r"refusals::[A-Z]|^pub const [A-Z_]+: u8 = \d+;")),
-    (1, "a number for a kind of node", fitting(r"kinds::[A-Z]|^pub const (EMPTY|TERMINAL|RULE|SEQUENCE|CHOICE|NOT|REPEAT|INDENT|POSITION|ALIGN): u16")),
-    (1, "a number for a relation, a terminal or a tag", fitting(r"\b(relations|terminals|tags)::[A-Z]|^pub const \w+: u(16|32) = [0-3];")),
+    (1, "a number for a refusal: its constant or a use", constants("refusals")),
+    (1, "a number for a kind of node", constants("kinds")),
+    (1, "a number for a relation, a terminal or a tag", constants("relations|terminals|tags")),
     (1, "a flag for a reading, or with a value beside it", fitting(r"\b(by_2014|any|right|over): bool\b")),
     (2, "functions by the width of a word, or by the room they make", named(r"\w+_(8|16|32)|room_for_\w+")),
     (2, "functions that report an answer word for word alike", named(r"report_\w+|read_grammar|read_word\w*")),
@@ -72,7 +82,7 @@ def main():
     commit = next((word for word in sys.argv[1:] if not word.startswith("--")), None)
     files = sources(commit)
     for point, what, places in POINTS:
-        found = [(name, n, text) for name, lines in files for n, text in places(lines)]
+        found = [(name, n, text) for name, lines in files for n, text in places(name, lines)]
         print(f"{point}  {len(found):4}  {what}")
         if "--list" in sys.argv:
             for name, n, text in found:

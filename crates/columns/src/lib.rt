@@ -3,14 +3,14 @@
 #![tactic(auto)]
 
 // An upper end.
-#[derive(Clone, Copy)]
+#[derive(Clone, Copy, Debug, PartialEq, Eq)]
 pub enum Upper {
     At(u32),
     Endless,
 }
 
 // The columns from a lower column to an upper end.
-#[derive(Clone, Copy)]
+#[derive(Clone, Copy, Debug, PartialEq, Eq)]
 pub struct Interval {
     pub lower: u32,
     pub upper: Upper,
@@ -18,7 +18,7 @@ pub struct Interval {
 
 // The place in the token list, the farthest place that a terminal was tried at so far, the start's if none was (02, Note 7),
 // the interval and the alignment flag.
-#[derive(Clone, Copy)]
+#[derive(Clone, Copy, Debug, PartialEq, Eq)]
 pub struct State {
     pub place: u32,
     pub farthest: u32,
@@ -27,14 +27,14 @@ pub struct State {
 }
 
 // What a run ends in: a failure with the farthest place alone.
-#[derive(Clone, Copy)]
+#[derive(Clone, Copy, Debug, PartialEq, Eq)]
 pub enum Outcome {
     Success(State),
     Failure(u32),
 }
 
 // Where a run begins: a node, a token place, an interval, a flag and a mode.
-#[derive(Clone, Copy)]
+#[derive(Clone, Copy, Debug, PartialEq, Eq)]
 pub struct Start {
     pub node: u16,
     pub place: u32,
@@ -44,14 +44,14 @@ pub struct Start {
 }
 
 // Which paper a run is read by (02, Note 5): 001, of 2017, or 000, of 2014.
-#[derive(Clone, Copy)]
+#[derive(Clone, Copy, Debug, PartialEq, Eq)]
 pub enum Reading {
     By2017,
     By2014,
 }
 
 // What a rule read (02, Note 2): the rule, its first token, the token after its last, and the number of captures around it.
-#[derive(Clone, Copy)]
+#[derive(Clone, Copy, Debug, PartialEq, Eq)]
 pub struct Capture {
     pub rule: u32,
     pub first: u32,
