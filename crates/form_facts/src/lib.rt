@@ -1,108 +1,94 @@
 // Ford's rules for one form: its facts, and whether it is well formed, from what is known of its children.
 #![tactic(auto)]
 
-ghost use Rattle.std.specs.Prelude.{◌≡◌, ◌&&◌, ◌||◌, [], ◌∷◌, ℕ};
+ghost use Rattle.std.specs.Prelude.{◌≡◌, [], ◌∷◌, ℕ};
 ghost use Rattle.table.specs.Form.{decode, sequence as sequence-form, choice as choice-form};
 ghost use Rattle.form_facts.specs.Rules.{Fact, gives, passes};
 ghost use Rattle.form_facts.specs.OneForm.{two, fact_of};
 
-use table::kinds;
+use table::Kind;
 
 // What an expression may do: succeed reading nothing, succeed reading something, fail.
-#[derive(Clone, Copy)]
+#[derive(Clone, Copy, Debug, PartialEq, Eq, Default)]
 pub struct Facts {
     pub nothing: bool,
     pub something: bool,
     pub fails: bool,
 }
 
+#[tactic(auto, unfolding(crate::specs::Rules::gives))]
 // A form's facts from those of its children.
 pub fn facts_by_form(kind: u16, a: Facts, b: Facts) -> Facts
     ensures { (x : Fact)
         → fact_of result x ≡ gives (0 ∷ []) (λ (y : Fact). two (fact_of a y) (fact_of b y)) (decode kind 0 1 0) x }
 {
-    match kind {
-        kinds::EMPTY => facts_of(true, false, false),
-        kinds::TERMINAL => facts_of(false, true, true),
-        kinds::RULE => a,
-        kinds::SEQUENCE => sequence(a, b),
-        kinds::CHOICE => choice(a, b),
-        kinds::NOT => facts_of(a.fails, false, either(a.nothing, a.something)),
-        kinds::REPEAT => facts_of(a.fails, a.something, false),
-        kinds::INDENT => a,
-        kinds::POSITION => a,
-        kinds::ALIGN => a,
-        _ => facts_of(false, false, false),
+    match Kind::try_from(kind) {
+        Ok(Kind::Empty) => Facts {
+            nothing: true,
+            something: false,
+            fails: false,
+        },
+        Ok(Kind::Terminal) => Facts {
+            nothing: false,
+            something: true,
+            fails: true,
+        },
+        Ok(Kind::Rule | Kind::Indent | Kind::Position | Kind::Align) => a,
+        Ok(Kind::Sequence) => sequence(a, b),
+        Ok(Kind::Choice) => choice(a, b),
+        Ok(Kind::Not) => Facts {
+            nothing: a.fails,
+            something: false,
+            fails: a.nothing || a.something,
+        },
+        Ok(Kind::Repeat) => Facts {
+            nothing: a.fails,
+            something: a.something,
+            fails: false,
+        },
+        Err(_) => Facts::default(),
     }
 }
 
+#[tactic(auto, unfolding(crate::specs::Rules::passes))]
 // Whether a form is well formed: from whether a is, whether it may succeed reading nothing, and whether b is.
 pub fn well_by_form(kind: u16, a: bool, nothing: bool, b: bool) -> bool
     ensures { result ≡ passes (0 ∷ []) (λ (n : ℕ). nothing) (two a b) (decode kind 0 1 0) }
 {
-    match kind {
-        kinds::EMPTY => true,
-        kinds::TERMINAL => true,
-        kinds::RULE => a,
-        kinds::SEQUENCE => both(a, either(!nothing, b)),
-        kinds::CHOICE => both(a, b),
-        kinds::NOT => a,
-        kinds::REPEAT => both(a, !nothing),
-        kinds::INDENT => a,
-        kinds::POSITION => a,
-        kinds::ALIGN => a,
-        _ => false,
+    match Kind::try_from(kind) {
+        Ok(Kind::Empty | Kind::Terminal) => true,
+        Ok(Kind::Rule | Kind::Not | Kind::Indent | Kind::Position | Kind::Align) => a,
+        Ok(Kind::Sequence) => a && (!nothing || b),
+        Ok(Kind::Choice) => a && b,
+        Ok(Kind::Repeat) => a && !nothing,
+        Err(_) => false,
     }
 }
 
-fn facts_of(nothing: bool, something: bool, fails: bool) -> Facts
-    ensures nothing_value { result.nothing ≡ nothing }
-    ensures something_value { result.something ≡ something }
-    ensures fails_value { result.fails ≡ fails }
-{
-    Facts {
-        nothing,
-        something,
-        fails,
-    }
-}
-
+#[tactic(auto, unfolding(crate::specs::Rules::gives))]
 // The facts of a sequence.
 fn sequence(a: Facts, b: Facts) -> Facts
     ensures { (x : Fact)
         → fact_of result x ≡ gives (0 ∷ []) (λ (y : Fact). two (fact_of a y) (fact_of b y)) (sequence-form 0 1) x }
 {
-    let first = either(a.nothing, a.something);
-    let second = either(b.nothing, b.something);
-    facts_of(
-        both(a.nothing, b.nothing),
-        either(both(a.something, second), both(first, b.something)),
-        either(a.fails, both(first, b.fails)),
-    )
+    let first = a.nothing || a.something;
+    let second = b.nothing || b.something;
+    Facts {
+        nothing: a.nothing && b.nothing,
+        something: a.something && second || first && b.something,
+        fails: a.fails || first && b.fails,
+    }
 }
 
+#[tactic(auto, unfolding(crate::specs::Rules::gives))]
 // The facts of an ordered choice.
 fn choice(a: Facts, b: Facts) -> Facts
     ensures { (x : Fact)
         → fact_of result x ≡ gives (0 ∷ []) (λ (y : Fact). two (fact_of a y) (fact_of b y)) (choice-form 0 1) x }
 {
-    facts_of(
-        either(a.nothing, both(a.fails, b.nothing)),
-        either(a.something, both(a.fails, b.something)),
-        both(a.fails, b.fails),
-    )
-}
-
-// Whether two tests both hold.
-fn both(a: bool, b: bool) -> bool
-    ensures { result ≡ (a && b) }
-{
-    if a { b } else { false }
-}
-
-// Whether one of two tests holds.
-pub fn either(a: bool, b: bool) -> bool
-    ensures { result ≡ (a || b) }
-{
-    if a { true } else { b }
+    Facts {
+        nothing: a.nothing || a.fails && b.nothing,
+        something: a.something || a.fails && b.something,
+        fails: a.fails && b.fails,
+    }
 }
