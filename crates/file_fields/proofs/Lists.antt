@@ -1,19 +1,11 @@
 -- Facts about parts of lists.
-use Prim.Native.Nat.{ℕ, suc, ◌+◌, ◌-◌, ◌≤◌, ◌<◌}
+use Prim.Native.Nat.{ℕ, suc, ◌+◌, ◌≤◌, ◌<◌}
 use mathlib.Core.Path.{◌≡◌, refl, sym, ap, ◌∙◌}
 use mathlib.Core.List.{List, [], ◌∷◌, ◌++◌, append_assoc}
 use native.Mathlib.Omega.{arith}
 use native.Mathlib.Numerals.{add-one}
-use lib.ListN.{length, get_or, take, drop, set, length-append, length-drop, drop_of_length-le}
-use lib.Seq.{take_all, take-nil, drop-cons, set_at, append_snoc}
-
--- As many elements as are left, or more, are all that is left.
-pub take_rest : {A : Type 0} (n m : ℕ) (l : List A) → length l - m ≤ n → take n (drop m l) ≡ drop m l
-take_rest n m l h = take_all n (drop m l) (rw length-drop h)
-
--- Past the end nothing is left.
-pub take_past : {A : Type 0} (n m : ℕ) (l : List A) → length l ≤ m → take n (drop m l) ≡ []
-take_past n m l h = ap (take n) (drop_of_length-le l h) ∙ take-nil n
+use lib.ListN.{length, get_or, drop, set, length-append, length-drop}
+use lib.Seq.{drop-cons, set_at, append_snoc}
 
 -- A list whose first n elements were written over has its old length.
 pub length_written : {A : Type 0} (p old : List A) (n : ℕ) → length p ≡ n → n ≤ length old → length (p ++ drop n old) ≡ length old

@@ -1,4 +1,4 @@
-// The tags of fields (01, "The grammar file").
+// The tags of fields (01, "The grammar file"). They stay numbers: a field's tag may be any byte, and `right_at` takes any.
 pub const FORMAT: u8 = 1;
 
 pub const KEYWORD: u8 = 2;
