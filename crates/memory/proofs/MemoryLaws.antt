@@ -3,6 +3,7 @@ use Prim.Native.Nat.{ℕ, suc, ◌+◌, ◌*◌, ◌≤◌, ◌<◌}
 use mathlib.Core.Path.{◌≡◌, refl, sym, ap, ap₂, ◌∙◌}
 use mathlib.Core.Bool.{Bool, true, false, cond, ◌&&◌}
 use mathlib.Core.List.{List, [], ◌∷◌, ◌++◌}
+use Rattle.std.proofs.Common.{Option, Some, None}
 use lib.ListN.{length, get_or, replicate, get_or-replicate, get_or-append, get_or-eq_default, length-replicate}
 use lib.Seq.{get_or-append-add}
 use lib.Dec.{eqb, ltb}
@@ -14,8 +15,6 @@ use Rattle.columns.specs.declared.Interval.{Interval}
 use Rattle.columns.specs.declared.Outcome.{Outcome}
 use Rattle.columns.specs.declared.Outcome.TheVariants.{Success, Failure}
 use Rattle.columns.specs.Intervals.{to}
-use Rattle.memory.specs.declared.Known.{Known}
-use Rattle.memory.specs.declared.Known.TheVariants.{Is, Nothing}
 use Rattle.memory.specs.Memory.{slot_length, slot_of, end_word, marks, key_words, outcome_words, put_words, has_words}
 use Rattle.memory.specs.Memory.{kept_for, upper_from, flag_from, outcome_at, recalled, kept}
 use Rattle.memory.specs.InternalRemembers.{Remembers}
@@ -38,7 +37,7 @@ flag_back false Endless = refl
 outcome_back :
     (m : List ℕ) (i : ℕ) (x : Outcome)
     → ((k : ℕ) → k < length (outcome_words x) → get_or m (i + (6 + k)) 0 ≡ get_or (outcome_words x) k 0)
-    → outcome_at m i ≡ Is x
+    → outcome_at m i ≡ Some x
 unfolding outcome_at
 outcome_back m i (Failure f) h = rw (h 0 (omega arith), h 1 (omega arith)) refl
 outcome_back m i (Success u) h =
@@ -84,7 +83,7 @@ outcome_same l m i h =
 apart : (p q k : ℕ) → (p * 12 ≡ q * 12 → ⊥) → q * 12 ≤ k → k < q * 12 + 12 → p * 12 ≤ k → p * 12 + 12 ≤ k
 apart p q k f a b c = omega arith
 
-is_found : (short there : Bool) (o : Known) {x : Outcome} → cond short Nothing (cond there o Nothing) ≡ Is x → (there ≡ true) × (o ≡ Is x)
+is_found : (short there : Bool) (o : Option Outcome) {x : Outcome} → cond short None (cond there o None) ≡ Some x → (there ≡ true) × (o ≡ Some x)
 is_found true there o e = absurd (let z : ◌≡◌ {A = ℕ} 0 1 = cc in omega arith)
 is_found false true o e = (refl, e)
 is_found false false o e = absurd (let z : ◌≡◌ {A = ℕ} 0 1 = cc in omega arith)
@@ -105,7 +104,7 @@ module _ (n τ w : ℕ) (I : Interval) (b : Bool) where
   unfolding slot_of
   slot_same l m e = rw e refl
 
-  recalled_is : (m : List ℕ) {x : Outcome} → recalled m n τ w I b ≡ Is x → (kept_for m (at m) n τ w I b ≡ true) × (outcome_at m (at m) ≡ Is x)
+  recalled_is : (m : List ℕ) {x : Outcome} → recalled m n τ w I b ≡ Some x → (kept_for m (at m) n τ w I b ≡ true) × (outcome_at m (at m) ≡ Some x)
   unfolding recalled
   recalled_is m e = is_found (ltb (length m) 12) (kept_for m (at m) n τ w I b) (outcome_at m (at m)) e
 
@@ -131,14 +130,14 @@ zeros k i = by_length (ltb i k) refl
         let f = ltb-false i k e in
         get_or-eq_default (replicate k 0) 0 (omega arith)
 
-no_outcome : (k i : ℕ) → outcome_at (replicate k 0) i ≡ Nothing
+no_outcome : (k i : ℕ) → outcome_at (replicate k 0) i ≡ None
 unfolding outcome_at
 no_outcome k i = rw (zeros k (i + 6)) refl
 
 pub nothing_kept : (P : ℕ → ℕ → ℕ → Interval → Bool → Outcome → Type 0) (k : ℕ) → Remembers P (replicate k 0)
 nothing_kept P k = record { each = λ n τ w I b x e. absurd (none n τ w I b x e) }
   where
-    none : (n τ w : ℕ) (I : Interval) (b : Bool) (x : Outcome) → recalled (replicate k 0) n τ w I b ≡ Is x → ⊥
+    none : (n τ w : ℕ) (I : Interval) (b : Bool) (x : Outcome) → recalled (replicate k 0) n τ w I b ≡ Some x → ⊥
     none n τ w I b x e =
         let p = (recalled_is n τ w I b (replicate k 0) e).1 in
         let q = no_outcome k (slot_of (replicate k 0) n τ w I b) in
@@ -178,7 +177,7 @@ module _ (m : List ℕ) (n τ w : ℕ) (I : Interval) (b : Bool) (x : Outcome) w
         let r = slot_in n τ w I b m h in
         put_there m i all k (i + k) refl (omega arith) f
 
-    outcome_here : outcome_at put i ≡ Is x
+    outcome_here : outcome_at put i ≡ Some x
     outcome_here = outcome_back put i x (λ k f. here (6 + k) (omega arith) ∙ get_or-append-add (key_words n τ w I b) (outcome_words x) k 0)
 
     elsewhere : (k : ℕ) → (i ≤ k → i + slot_length ≤ k) → get_or put k 0 ≡ get_or m k 0
@@ -196,18 +195,18 @@ module _ (m : List ℕ) (n τ w : ℕ) (I : Interval) (b : Bool) (x : Outcome) w
         alike put i (key_words n τ w I b)
         (λ k j e f. rw e (here k (omega arith) ∙ get_or-append (key_words n τ w I b) (outcome_words x) 0 k f))
 
-    pub recalled_kept : recalled (kept m n τ w I b x) n τ w I b ≡ Is x
+    pub recalled_kept : recalled (kept m n τ w I b x) n τ w I b ≡ Some x
     unfolding recalled kept_for
     recalled_kept =
         let l = length_put m i all in
         rw (kept_put h, l, le-ltb (length m) 12 h, slot_same n τ w I b put m l, key_here) outcome_here
 
-    module _ (n' τ' w' : ℕ) (I' : Interval) (b' : Bool) (y : Outcome) (e : recalled put n' τ' w' I' b' ≡ Is y) where
+    module _ (n' τ' w' : ℕ) (I' : Interval) (b' : Bool) (y : Outcome) (e : recalled put n' τ' w' I' b' ≡ Some y) where
       abbrev j : ℕ
       j = slot_of m n' τ' w' I' b'
 
       -- Another slot: it was found there before.
-      before : (i ≡ j → ⊥) → recalled m n' τ' w' I' b' ≡ Is y
+      before : (i ≡ j → ⊥) → recalled m n' τ' w' I' b' ≡ Some y
       unfolding slot_of
       before f =
           sym
@@ -227,7 +226,7 @@ module _ (m : List ℕ) (n τ w : ℕ) (I : Interval) (b : Bool) (x : Outcome) w
 
         outcome_is : x ≡ y
         outcome_is =
-            let q : outcome_at put i ≡ Is y = rw slot_put at (recalled_is n' τ' w' I' b' put e).1 in
+            let q : outcome_at put i ≡ Some y = rw slot_put at (recalled_is n' τ' w' I' b' put e).1 in
             let r = outcome_here in
             cc
 
@@ -264,7 +263,7 @@ remembers_kept {P} {m} r n τ w I b x p = by_room (ltb (length m) 12) refl
       where
         by_slot :
             (h : slot_length ≤ length m) (n' τ' w' : ℕ) (I' : Interval) (b' : Bool) (y : Outcome)
-            → recalled (put m n τ w I b x) n' τ' w' I' b' ≡ Is y
+            → recalled (put m n τ w I b x) n' τ' w' I' b' ≡ Some y
             → P n' τ' w' I' b' y
         by_slot h n' τ' w' I' b' y f = by_equal (eqb (slot_of m n τ w I b) (slot_of m n' τ' w' I' b')) refl
           where

@@ -1,13 +1,11 @@
 -- Outcomes remembered in a lent slice (02, Note 8): the words of a slot, where it stands, what is found there and what is kept.
 -- The layout is a choice of ours; docs/BENCHMARKS.md has the figures.
-use Rattle.std.specs.Prelude.{ℕ, suc, ◌+◌, ◌*◌, ◌/◌, ◌%◌, Bool, true, cond, ◌&&◌, List, [], ◌∷◌, ◌++◌, length, get_or, set, eqb, ltb}
+use Rattle.std.specs.Prelude.{ℕ, suc, ◌+◌, ◌*◌, ◌/◌, ◌%◌, Bool, true, cond, ◌&&◌, Option, Some, None, List, [], ◌∷◌, ◌++◌, length, get_or, set, eqb, ltb}
 use Rattle.columns.specs.declared.Upper.{Upper}
 use Rattle.columns.specs.declared.Upper.TheVariants.{At, Endless}
 use Rattle.columns.specs.declared.Interval.{Interval}
 use Rattle.columns.specs.declared.Outcome.{Outcome}
 use Rattle.columns.specs.declared.Outcome.TheVariants.{Success, Failure}
-use Rattle.memory.specs.declared.Known.{Known}
-use Rattle.memory.specs.declared.Known.TheVariants.{Is, Nothing}
 
 -- The words of a slot: six for what an outcome hangs on, six for the outcome.
 abbrev pub slot_length : ℕ
@@ -60,11 +58,11 @@ abbrev pub flag_from : ℕ → Bool
 flag_from k = eqb (k % 2) 1
 
 -- The outcome in the slot at i; in a slot of zeros there is none.
-unfoldable pub outcome_at : List ℕ → ℕ → Known
+unfoldable pub outcome_at : List ℕ → ℕ → Option Outcome
 outcome_at memory i =
-    cond (eqb (get_or memory (i + 6) 0) 0) Nothing
-    (cond (eqb (get_or memory (i + 6) 0) 1) (Is (Failure (get_or memory (i + 7) 0)))
-    (Is
+    cond (eqb (get_or memory (i + 6) 0) 0) None
+    (cond (eqb (get_or memory (i + 6) 0) 1) (Some (Failure (get_or memory (i + 7) 0)))
+    (Some
     (Success
     (record {
       place = get_or memory (i + 8) 0;
@@ -78,10 +76,10 @@ outcome_at memory i =
     }))))
 
 -- What is found for a node n in mode τ at place w, with interval I and flag b.
-unfoldable pub recalled : List ℕ → ℕ → ℕ → ℕ → Interval → Bool → Known
+unfoldable pub recalled : List ℕ → ℕ → ℕ → ℕ → Interval → Bool → Option Outcome
 recalled memory n τ w I b =
-    cond (ltb (length memory) slot_length) Nothing
-    (cond (kept_for memory (slot_of memory n τ w I b) n τ w I b) (outcome_at memory (slot_of memory n τ w I b)) Nothing)
+    cond (ltb (length memory) slot_length) None
+    (cond (kept_for memory (slot_of memory n τ w I b) n τ w I b) (outcome_at memory (slot_of memory n τ w I b)) None)
 
 -- The slice once an outcome is kept.
 unfoldable pub kept : List ℕ → ℕ → ℕ → ℕ → Interval → Bool → Outcome → List ℕ

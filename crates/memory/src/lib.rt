@@ -11,28 +11,24 @@ use columns::{Interval, Outcome, State, Upper};
 // The words of a slot.
 pub const SLOT: usize = 12;
 
-// What is found: an outcome, or nothing.
-#[derive(Clone, Copy)]
-pub enum Known {
-    Is(Outcome),
-    Nothing,
-}
-
+#[tactic(auto, unfolding(crate::specs::Memory::recalled))]
 // The outcome that is kept for a node in a mode from a state, whatever the state's farthest place. Its own farthest place is
 // that of what was tried inside.
-pub fn look(memory: &[u32], node: u16, mode: u16, s: State) -> Known
+pub fn look(memory: &[u32], node: u16, mode: u16, s: State) -> Option<Outcome>
     ensures { result ≡ recalled memory.now node mode s.place s.interval s.flag }
 {
     if memory.len() < SLOT {
-        return Known::Nothing;
+        return None;
     }
     let i = slot(memory, node, mode, s);
     if kept_for(memory, i, node, mode, s) {
-        return outcome_at(memory, i);
+        outcome_at(memory, i)
+    } else {
+        None
     }
-    Known::Nothing
 }
 
+#[tactic(auto, using(crate::proofs::SlotLaws::length_put, crate::proofs::SlotLaws::kept_in), unfolding(crate::specs::Memory::kept))]
 // Keeps an outcome of a node in a mode from a state.
 pub fn keep(memory: &mut [u32], node: u16, mode: u16, s: State, x: Outcome)
     ensures { memory.new ≡ kept memory.old node mode s.place s.interval s.flag x }
@@ -45,10 +41,12 @@ pub fn keep(memory: &mut [u32], node: u16, mode: u16, s: State, x: Outcome)
     put_outcome(memory, i, x);
 }
 
+#[tactic(auto, using(crate::proofs::SlotLaws::slot_fits, crate::proofs::SlotLaws::in_list), unfolding(crate::specs::Memory::slot_of))]
 // Where the slot for a node in a mode from a state begins.
 fn slot(memory: &[u32], node: u16, mode: u16, s: State) -> usize
     requires { slot_length ≤ length memory.now }
-    ensures { result ≡ slot_of memory.now node mode s.place s.interval s.flag }
+    ensures slot { result ≡ slot_of memory.now node mode s.place s.interval s.flag }
+    ensures room { result + slot_length ≤ length memory.now }
 {
     let c = s.interval;
     let h = c.upper;
@@ -77,11 +75,12 @@ fn marks_of(flag: bool, h: Upper) -> u32
     ensures { result ≡ marks flag h }
 {
     match h {
-        Upper::At(_) => if flag { 1 } else { 0 },
-        Upper::Endless => if flag { 3 } else { 2 },
+        Upper::At(_) => flag as u32,
+        Upper::Endless => flag as u32 + 2,
     }
 }
 
+#[tactic(auto, unfolding(crate::specs::Memory::kept_for, crate::specs::Memory::has_words))]
 // Whether a slot is kept for a node in a mode from a state.
 fn kept_for(memory: &[u32], i: usize, node: u16, mode: u16, s: State) -> bool
     requires { i + slot_length ≤ length memory.now }
@@ -89,39 +88,30 @@ fn kept_for(memory: &[u32], i: usize, node: u16, mode: u16, s: State) -> bool
 {
     let c = s.interval;
     let h = c.upper;
-    if memory[i] != node as u32 {
-        return false;
-    }
-    if memory[i + 1] != mode as u32 {
-        return false;
-    }
-    if memory[i + 2] != s.place {
-        return false;
-    }
-    if memory[i + 3] != marks_of(s.flag, h) {
-        return false;
-    }
-    if memory[i + 4] != c.lower {
-        return false;
-    }
-    memory[i + 5] == end_word(h)
+    memory[i] == node as u32
+        && memory[i + 1] == mode as u32
+        && memory[i + 2] == s.place
+        && memory[i + 3] == marks_of(s.flag, h)
+        && memory[i + 4] == c.lower
+        && memory[i + 5] == end_word(h)
 }
 
+#[tactic(auto, unfolding(crate::specs::Memory::outcome_at))]
 // The outcome in a slot: 0 for nothing, 1 for a failure, else a success.
-fn outcome_at(memory: &[u32], i: usize) -> Known
+fn outcome_at(memory: &[u32], i: usize) -> Option<Outcome>
     requires { i + slot_length ≤ length memory.now }
     ensures { result ≡ outcome_at memory.now i }
 {
     let farthest = memory[i + 7];
     match memory[i + 6] {
-        0 => Known::Nothing,
-        1 => Known::Is(Outcome::Failure(farthest)),
+        0 => None,
+        1 => Some(Outcome::Failure(farthest)),
         _ => {
             let interval = Interval {
                 lower: memory[i + 10],
                 upper: upper_from(memory[i + 9], memory[i + 11]),
             };
-            Known::Is(Outcome::Success(State {
+            Some(Outcome::Success(State {
                 place: memory[i + 8],
                 farthest,
                 interval,
@@ -142,6 +132,7 @@ fn upper_from(marks: u32, word: u32) -> Upper
     }
 }
 
+#[tactic(auto, unfolding(crate::specs::Memory::put_words))]
 // Writes what an outcome hangs on.
 fn put_key(memory: &mut [u32], i: usize, node: u16, mode: u16, s: State)
     requires { i + slot_length ≤ length memory.old }
@@ -157,6 +148,7 @@ fn put_key(memory: &mut [u32], i: usize, node: u16, mode: u16, s: State)
     memory[i + 5] = end_word(h);
 }
 
+#[tactic(auto, unfolding(crate::specs::Memory::put_words))]
 // Writes an outcome behind what it hangs on.
 fn put_outcome(memory: &mut [u32], i: usize, x: Outcome)
     requires { i + slot_length ≤ length memory.old }
