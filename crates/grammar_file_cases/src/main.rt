@@ -14,7 +14,7 @@ ghost use Rattle.std.specs.Prelude.{◌≡◌};
 ghost use Rattle.grammar_file_cases.specs.Written.{nodes_written, rules_written};
 
 use grammar_file::FileRead;
-use slices::filled_16;
+use slices::filled;
 use stored_cases::{
     MOST_RECORDS, byte, label, least, load_16, mark_16, pair, part, show, show_16, show_one, triple,
 };
@@ -150,7 +150,7 @@ fn show_lent(nodes: &[u16], rules: &[u16], n: usize, r: usize, words: bool) {
         show_words(b" | nodes", nodes, n);
         show_words(b" | rules", rules, r);
     }
-    let kept = filled_16(nodes, n, MARKER) && filled_16(rules, r, MARKER);
+    let kept = filled(nodes, n, MARKER) && filled(rules, r, MARKER);
     stored_cases::show_either(kept, b" | kept | check ", b" | changed | check ");
 }
 

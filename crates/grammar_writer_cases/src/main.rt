@@ -11,12 +11,9 @@
 //   a  read the lending file and write what was read, with itself lending
 #![tactic(auto)]
 
-ghost use Rattle.std.specs.Prelude.{◌≡◌, length, drop};
-ghost use Rattle.table.specs.Words.{tabulate};
-ghost use Rattle.slices.specs.Filled.{filled as all_are};
-
 use grammar_file::FileRead;
 use grammar_writer::FileWritten;
+use slices::filled;
 use stored_cases::{
     MOST_RECORDS, byte, label, least, load_16, pair, part, show_either, show_one, stored, triple,
 };
@@ -72,7 +69,7 @@ fn record(cases: &[u8], at: usize, file: &mut [u8], words: &mut [u8], out: &mut 
 
 // Makes the call that a header tells of, with these bytes lent, and prints its answer.
 fn call(header: &[u8], lending: &[u8], words: &[u8], out: &mut [u8]) {
-    mark(out, MARKER);
+    out.fill(MARKER);
     match byte(header, 0) {
         WRITE => lend(header, lending, words, out, false),
         WRITE_BYTES => lend(header, lending, words, out, true),
@@ -187,31 +184,6 @@ fn write_again(file: &[u8], nodes: &[u16], rules: &[u16], start: u16, mode: u16,
         }
         FileWritten::Refused(number) => show_refused(number, out),
     }
-}
-
-// Sets every byte to a value.
-fn mark(bytes: &mut [u8], value: u8)
-    ensures { bytes.new ≡ tabulate (length bytes.old) (λ _. value) }
-{
-    let mut i = 0;
-    while i < bytes.len() {
-        bytes[i] = value;
-        i += 1;
-    }
-}
-
-// Whether every byte from an index on is a value.
-fn filled(bytes: &[u8], from: usize, value: u8) -> bool
-    ensures { result ≡ all_are value (drop from bytes.now) }
-{
-    let mut i = from;
-    while i < bytes.len() {
-        if bytes[i] != value {
-            return false;
-        }
-        i += 1;
-    }
-    true
 }
 
 // A sum of bytes that tells their order too.

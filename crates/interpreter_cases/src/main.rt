@@ -16,7 +16,7 @@
 
 use columns::{Reading, Start, State, Upper};
 use interpreter::{Listed, Ran};
-use slices::filled_32;
+use slices::filled;
 use stored_cases::{
     MOST_RECORDS, byte, fill, label, least, load_16, load_32, mark_32, pair, part, show_32,
     show_either, show_one, stored, triple,
@@ -200,7 +200,7 @@ fn left(ran: Ran, memory: &[u32], contents: usize, node: u32) -> bool {
     if is_refused(ran) {
         return kept(memory, contents, node);
     }
-    filled_32(memory, 0, 0)
+    filled(memory, 0, 0)
 }
 
 // Whether two runs ended alike.
@@ -350,11 +350,11 @@ fn show_listed(words: &[u32], n: usize) {
     let end = least(least(n, MOST_SHOWN) * 4, words.len());
     show_32(&words[0..end]);
     show_one(b" |", (words.len() - end) as u64);
-    show_either(filled_32(words, end, 0), b" zeros", b" changed");
+    show_either(filled(words, end, 0), b" zeros", b" changed");
 }
 
 // Prints how many words there are, and whether they are still marked.
 fn show_kept(words: &[u32]) {
     show_one(b" |", words.len() as u64);
-    show_either(filled_32(words, 0, MARKER), b" kept", b" changed");
+    show_either(filled(words, 0, MARKER), b" kept", b" changed");
 }

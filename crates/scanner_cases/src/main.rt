@@ -16,7 +16,7 @@ ghost use Rattle.std.specs.Prelude.{◌≡◌, false, ◌&&◌, ◌⊎◌, ◌�
 ghost use Rattle.scanner_cases.specs.Handing.{is_token, is_word, are_words, holds_at, Walked};
 
 use scanner::{Handed, Step};
-use slices::filled_32;
+use slices::filled;
 use stored_cases::{
     MOST_RECORDS, byte, label, least, mark_32, part, show, show_32, show_either, show_one, stored,
     triple,
@@ -289,7 +289,7 @@ fn show_handed(handed: Handed) {
 fn show_tokens(words: &[u32], n: usize) {
     let end = least(least(n, MOST_HANDED) * 4, words.len());
     show_first(words, n, end);
-    show_either(filled_32(words, end, MARKER), b" | kept", b" | changed");
+    show_either(filled(words, end, MARKER), b" | kept", b" | changed");
 }
 
 // Prints the words of n tokens, those before `end`, where they are few, else those of the last two and a sum of all.

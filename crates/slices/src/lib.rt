@@ -4,27 +4,20 @@
 
 ghost use Rattle.std.specs.Prelude.{◌≡◌, ◌*◌, length, take, drop};
 ghost use Rattle.slices.specs.Copied.{copied, placed};
-ghost use Rattle.slices.specs.Filled.{filled};
+ghost use Rattle.slices.specs.Filled.{filled_by};
 
-// The first n bytes, or all where there are fewer.
-pub fn front(bytes: &[u8], n: usize) -> &[u8]
-    ensures { result.now ≡ take n bytes.now }
+// The first n elements, or all where there are fewer.
+pub fn front<T>(elements: &[T], n: usize) -> &[T]
+    ensures { result.now ≡ take n elements.now }
 {
-    if n > bytes.len() {
-        return bytes;
-    }
-    &bytes[0..n]
+    &elements[..n.min(elements.len())]
 }
 
 // The words of the first n tokens, four each, or all where there are fewer.
 pub fn front_tokens(tokens: &[u32], n: usize) -> &[u32]
     ensures { result.now ≡ take (n * 4) tokens.now }
 {
-    if n > tokens.len() / 4 {
-        return tokens;
-    }
-    let words = n * 4;
-    &tokens[0..words]
+    front(tokens, n.saturating_mul(4))
 }
 
 // Copies bytes to a lent slice, and says how many there are. A slice that is too short for them is left as it is.
@@ -40,43 +33,14 @@ pub fn copy(bytes: &[u8], out: &mut [u8]) -> usize
 pub fn put(bytes: &[u8], out: &mut [u8], at: usize)
     ensures { out.new ≡ placed at bytes.now out.old }
 {
-    if out.len() < bytes.len() {
-        return;
-    }
-    if out.len() - bytes.len() < at {
-        return;
-    }
-    let mut i = 0;
-    while i < bytes.len() {
-        out[at + i] = bytes[i];
-        i += 1;
+    if bytes.len() <= out.len() && at <= out.len() - bytes.len() {
+        out[at..at + bytes.len()].copy_from_slice(bytes);
     }
 }
 
 // Whether every word from an index on is a value.
-pub fn filled_16(words: &[u16], from: usize, value: u16) -> bool
-    ensures { result ≡ filled value (drop from words.now) }
+pub fn filled<T: PartialEq + Copy>(words: &[T], from: usize, value: T) -> bool
+    ensures { result ≡ filled_by T.eq value (drop from words.now) }
 {
-    let mut i = from;
-    while i < words.len() {
-        if words[i] != value {
-            return false;
-        }
-        i += 1;
-    }
-    true
-}
-
-// The same for the words of tokens.
-pub fn filled_32(tokens: &[u32], from: usize, value: u32) -> bool
-    ensures { result ≡ filled value (drop from tokens.now) }
-{
-    let mut i = from;
-    while i < tokens.len() {
-        if tokens[i] != value {
-            return false;
-        }
-        i += 1;
-    }
-    true
+    words.iter().skip(from).all(|word| *word == value)
 }
