@@ -4,7 +4,7 @@
 ghost use Rattle.std.specs.Prelude.{◌≡◌};
 ghost use Rattle.byte_class.specs.Bytes.{is_continuation, class_of};
 
-#[derive(Clone, Copy)]
+#[derive(Clone, Copy, Debug, PartialEq, Eq)]
 pub enum Class {
     Break,
     Tab,
@@ -16,6 +16,7 @@ pub enum Class {
     Refused,
 }
 
+#[tactic(auto, unfolding(crate::specs::Bytes::is_single, crate::specs::Bytes::is_continuation, crate::specs::Bytes::class_of))]
 pub fn class_of(b: u8) -> Class
     ensures { result ≡ class_of b }
 {
@@ -32,8 +33,9 @@ pub fn class_of(b: u8) -> Class
 }
 
 // Whether a byte has the class of continuation bytes, by comparing alone: for a loop that knows that it is in a run.
+#[tactic(auto, unfolding(crate::specs::Bytes::is_continuation))]
 pub fn is_continuation(b: u8) -> bool
     ensures { result ≡ is_continuation b }
 {
-    128 <= b && b <= 191
+    (128..=191).contains(&b)
 }
