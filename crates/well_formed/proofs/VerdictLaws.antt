@@ -8,7 +8,9 @@ use native.Mathlib.Nat.{eq-or-lt_of_le}
 use native.Mathlib.Omega.{arith}
 use Rattle.table.proofs.Orders.{le_or_lt}
 use Rattle.table.specs.Answer.{Answer, given, refused, refused_at, and_then}
-use Rattle.table.proofs.AnswerLaws.{first_refuses, first_passes, table_nameless}
+use Rattle.table.specs.Refusals.{turned_down}
+use Rattle.table.specs.declared.refusals.Refusal.{Refusal}
+use Rattle.table.proofs.AnswerLaws.{first_passes, table_nameless}
 use Rattle.table.specs.Checks.{table_answer}
 use Rattle.table.specs.Form.{form, node_count}
 use Rattle.well_formed.specs.WellFormed.{WellFormed, Passes, LowestBad}
@@ -16,20 +18,20 @@ use Rattle.well_formed.specs.Check.{may_nothing, is_well, verdict_from, check_an
 use Rattle.well_formed.proofs.DecidedLaws.{well_decided}
 use Rattle.well_formed.proofs.PassLaws.{not_so}
 
-module _ (well : ℕ → Bool) (count left : ℕ) (some : 0 < left) (most : left ≤ count) where
-  -- The nodes that are left after one.
-  one_less : left ≡ suc (left - 1)
+module _ (well : ℕ → Bool) (count n : ℕ) (below : n < count) where
+  -- The nodes that are left, n and those after it.
+  one_less : count - n ≡ suc (count - (n + 1))
   one_less = omega arith
 
   -- A node that passes hands on to the next.
-  pub verdict_next : well (count - left) ≡ true → verdict_from well (count - left) left ≡ verdict_from well (count - (left - 1)) (left - 1)
+  pub verdict_next : well n ≡ true → verdict_from well n (count - n) ≡ verdict_from well (n + 1) (count - (n + 1))
   unfolding verdict_from
-  verdict_next e = ap (verdict_from well (count - left)) one_less ∙ (let s : count - (left - 1) ≡ suc (count - left) = omega arith in rw (e, s) refl)
+  verdict_next e = ap (verdict_from well n) one_less ∙ (let s : n + 1 ≡ suc n = omega arith in rw (e, s) refl)
 
   -- One that does not is named.
-  pub verdict_bad : well (count - left) ≡ false → verdict_from well (count - left) left ≡ refused_at 7 (count - left)
+  pub verdict_bad : well n ≡ false → verdict_from well n (count - n) ≡ refused_at 7 n
   unfolding verdict_from
-  verdict_bad e = ap (verdict_from well (count - left)) one_less ∙ rw e refl
+  verdict_bad e = ap (verdict_from well n) one_less ∙ rw e refl
 
 -- Two tests that agree on the nodes give the same verdict.
 pub verdict_same : (p q : ℕ → Bool) (n left : ℕ) → ((k : ℕ) → k < n + left → p k ≡ q k) → verdict_from p n left ≡ verdict_from q n left
@@ -154,15 +156,19 @@ check_means nodes rules = by_table (table_answer nodes rules) refl
         })
     by_table (refused_at k m) e = absurd (table_nameless nodes rules k m e)
 
+-- A first part that turns down.
+turned_first : {A : Type 0} (B : Type 0) (r : Refusal) (next : Answer A) → and_then (turned_down {A = B} r) next ≡ turned_down r
+turned_first B r next = grind arith
+
 -- An answer that is the check's, with what it means.
 module _ (nodes rules : List ℕ) {v : Answer Unit} where
   with_meaning : v ≡ check_answer nodes rules → (v ≡ check_answer nodes rules) × Means nodes rules v
   with_meaning e = (e, rw e (check_means nodes rules))
 
   -- A table that is refused.
-  pub answer_refused : {k : ℕ} → refused k ≡ table_answer nodes rules → v ≡ refused k → (v ≡ check_answer nodes rules) × Means nodes rules v
+  pub answer_refused : (r : Refusal) → turned_down r ≡ table_answer nodes rules → v ≡ turned_down r → (v ≡ check_answer nodes rules) × Means nodes rules v
   unfolding check_answer
-  answer_refused e q = with_meaning (q ∙ first_refuses _ e)
+  answer_refused r e q = with_meaning (q ∙ rw (← e) (sym (turned_first Unit r _)))
 
   -- One that is not.
   pub answer_judged : table_answer nodes rules ≡ given tt → v ≡ verdict_from (is_well nodes rules) 0 (node_count nodes) → (v ≡ check_answer nodes rules) × Means nodes rules v

@@ -1,13 +1,13 @@
 -- What the check answers (01, "Well formed" and "Turned-down calls", numbers 3, 4, 5 and 7), and what its verdict means.
-use Rattle.std.specs.Prelude.{ℕ, zero, suc, ◌*◌, ◌≡◌, Bool, cond, List, ◌↔◌}
-use Rattle.table.specs.Answer.{Answer, given, refused, refused_at, and_then}
+use Rattle.std.specs.Prelude.{ℕ, zero, suc, ◌*◌, ◌≡◌, Result, Bool, cond, List, ◌↔◌}
+use Rattle.table.specs.Answer.{Answer, given, refused_at, and_then}
 use Rattle.table.specs.Form.{node_count}
 use Rattle.table.specs.Checks.{table_answer}
 use Rattle.well_formed.specs.Facts.{nothing}
 use Rattle.well_formed.specs.WellFormed as least
 use Rattle.well_formed.specs.Rounds.{known_after, well_after}
-use Rattle.well_formed.specs.declared.Verdict.{Verdict}
-use Rattle.well_formed.specs.declared.Verdict.TheVariants.{Passes, Refused, IllFormed}
+use Rattle.table.specs.Refusals.{answer_by}
+use Rattle.table.specs.declared.refusals.Refusal.{Refusal}
 
 -- Whether node n may succeed reading nothing, by as many rounds as settle it.
 unfoldable pub may_nothing : List ℕ → List ℕ → ℕ → Bool
@@ -35,8 +35,6 @@ pub record Means (nodes rules : List ℕ) (answer : Answer Unit) : Type 0 where
       (n : ℕ)
       → (answer ≡ refused_at 7 n) ↔ ((table_answer nodes rules ≡ given tt) × least.LowestBad nodes rules n)
 
--- 01's number for each case of `Verdict`, and the node for 7.
-abbrev pub numbers : Verdict → Answer Unit
-numbers Passes = given tt
-numbers (Refused number) = refused number
-numbers (IllFormed node) = refused_at 7 node
+-- The answer of a check that gives nothing.
+abbrev pub numbers : Result Unit Refusal → Answer Unit
+numbers = answer_by (λ x. x)

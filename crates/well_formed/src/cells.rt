@@ -2,15 +2,16 @@
 ghost use Rattle.std.specs.Prelude.{◌≡◌, false, not, ◌&&◌, ◌<◌, length, get_or};
 ghost use Rattle.well_formed.specs.InternalPasses.{learnt, first_child};
 
-use table::kinds;
+use table::Kind;
 
 // Whether a node's cell is set; past the cells none is.
 pub(crate) fn has(cells: &[bool], n: usize) -> bool
     ensures { result ≡ get_or cells.now «n» false }
 {
-    if n < cells.len() { cells[n] } else { false }
+    cells.get(n).copied().unwrap_or(false)
 }
 
+#[tactic(auto, unfolding(crate::specs::InternalPasses::learnt))]
 // Sets node n's cell if b holds; whether it was not set before.
 pub(crate) fn learn(cells: &mut [bool], n: usize, b: bool) -> bool
     requires { «n» < length cells.old }
@@ -29,13 +30,9 @@ pub(crate) fn learn(cells: &mut [bool], n: usize, b: bool) -> bool
 pub(crate) fn first_child(rules: &[u16], kind: u16, a: u16) -> usize
     ensures { result ≡ first_child rules.now kind a }
 {
-    let r = a as usize;
-    if kind != kinds::RULE {
-        return r;
-    }
-    if r < rules.len() {
-        rules[r] as usize
+    if Kind::try_from(kind) == Ok(Kind::Rule) {
+        rules.get(a as usize).copied().unwrap_or(0) as usize
     } else {
-        0
+        a as usize
     }
 }

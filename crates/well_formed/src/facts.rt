@@ -7,7 +7,7 @@ ghost use Rattle.form_facts.specs.OneForm.{fact_of};
 ghost use Rattle.well_formed.specs.InternalPasses.{three, known, FactsReady, FactsPass, FactsFinished};
 
 use crate::cells::{first_child, has, learn};
-use form_facts::{Facts, either, facts_by_form};
+use form_facts::{Facts, facts_by_form};
 
 // Every fact of every node: passes until one finds nothing.
 pub(crate) fn find(
@@ -21,11 +21,7 @@ pub(crate) fn find(
     ensures { FactsFinished nodes.now rules.now
         (three nothing.new something.new fails.new) }
 {
-    loop {
-        if !pass(nodes, rules, nothing, something, fails) {
-            return;
-        }
-    }
+    while pass(nodes, rules, nothing, something, fails) {}
 }
 
 // One pass: what each node gives by its rules joins what is known. Whether a fact was found.
@@ -43,14 +39,12 @@ fn pass(
 {
     let count = nodes.len() / 4;
     let mut found = false;
-    let mut n = 0;
-    while n < count {
+    for n in 0..count {
         let new = gives(nodes, rules, nothing, something, fails, n);
         let first = learn(nothing, n, new.nothing);
         let second = learn(something, n, new.something);
         let third = learn(fails, n, new.fails);
-        found = either(either(either(found, first), second), third);
-        n += 1;
+        found = found | first | second | third;
     }
     found
 }

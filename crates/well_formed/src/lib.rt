@@ -11,30 +11,20 @@ ghost use Rattle.table.specs.Checks.{table_answer};
 ghost use Rattle.table.specs.Form.{node_count};
 ghost use Rattle.well_formed.specs.Check.{numbers, check_answer, Means, is_well, verdict_from};
 
-use table::Checked;
+use table::Refusal;
 
-// What the check answers: the grammar passes, the number of the first of 3, 4 and 5 that fails, or the lowest node that is
-// not well formed (7).
-#[derive(Clone, Copy)]
-pub enum Verdict {
-    Passes,
-    Refused(u8),
-    IllFormed(u16),
-}
-
-// The verdict on a table and its rules.
-pub fn check(nodes: &[u16], rules: &[u16]) -> Verdict
+// Whether a table and its rules pass, or what turns them down: the first of 3, 4 and 5 that fails, or the lowest node that
+// is not well formed (7).
+pub fn check(nodes: &[u16], rules: &[u16]) -> Result<(), Refusal>
     ensures result_value { numbers result ≡ check_answer nodes.now rules.now }
     ensures means { Means nodes.now rules.now (numbers result) }
 {
-    match table::check(nodes, rules) {
-        Checked::Refused(number) => Verdict::Refused(number),
-        Checked::Passes => judge(nodes, rules),
-    }
+    table::check(nodes, rules)?;
+    judge(nodes, rules)
 }
 
 // The verdict on a table that passes 3, 4 and 5: the facts first, then the nodes that are well formed.
-fn judge(nodes: &[u16], rules: &[u16]) -> Verdict
+fn judge(nodes: &[u16], rules: &[u16]) -> Result<(), Refusal>
     requires { table_answer nodes.now rules.now ≡ passed tt }
     ensures { numbers result
         ≡ verdict_from (is_well nodes.now rules.now) 0 (node_count nodes.now) }
@@ -49,19 +39,16 @@ fn judge(nodes: &[u16], rules: &[u16]) -> Verdict
 }
 
 // The lowest node that is not among those found, or that the grammar passes.
-fn lowest(nodes: &[u16], found: &[bool]) -> Verdict
+fn lowest(nodes: &[u16], found: &[bool]) -> Result<(), Refusal>
     requires { node_count nodes.now ≤ 512 }
     ensures { numbers result
         ≡ verdict_from (λ (n : ℕ). get_or found.now n false) 0 (node_count nodes.now) }
 {
     let count = nodes.len() / 4;
-    let mut left = count;
-    while left > 0 {
-        let n = count - left;
+    for n in 0..count {
         if !cells::has(found, n) {
-            return Verdict::IllFormed(n as u16);
+            return Err(Refusal::IllFormed(n as u16));
         }
-        left -= 1;
     }
-    Verdict::Passes
+    Ok(())
 }

@@ -5,18 +5,14 @@ ghost use Rattle.well_formed.specs.Rounds.{passes as passes-by};
 ghost use Rattle.well_formed.specs.InternalPasses.{WellReady, WellPass, WellFinished};
 
 use crate::cells::{first_child, has, learn};
-use form_facts::{either, well_by_form};
+use form_facts::well_by_form;
 
 // Every well-formed node: passes until one finds none. Which nodes may succeed reading nothing is known.
 pub(crate) fn find(nodes: &[u16], rules: &[u16], nothing: &[bool], well: &mut [bool])
     requires { WellReady nodes.now rules.now nothing.now well.old }
     ensures { WellFinished nodes.now rules.now nothing.now well.new }
 {
-    loop {
-        if !pass(nodes, rules, nothing, well) {
-            return;
-        }
-    }
+    while pass(nodes, rules, nothing, well) {}
 }
 
 // One pass: the nodes that pass by their rules join those found. Whether a node was found.
@@ -27,12 +23,10 @@ fn pass(nodes: &[u16], rules: &[u16], nothing: &[bool], well: &mut [bool]) -> bo
 {
     let count = nodes.len() / 4;
     let mut found = false;
-    let mut n = 0;
-    while n < count {
+    for n in 0..count {
         let new = passes(nodes, rules, nothing, well, n);
         let first = learn(well, n, new);
-        found = either(found, first);
-        n += 1;
+        found = found | first;
     }
     found
 }

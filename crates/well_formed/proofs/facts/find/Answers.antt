@@ -1,36 +1,13 @@
 -- `well_formed::facts::find` meets its contract.
-use mathlib.Core.Path.{refl}
-use native.Mathlib.Omega.{arith}
-use borrow.Author.Tests.{not-true, not-false}
 use Rattle.table.specs.Form.{node_count}
 use Rattle.well_formed.proofs.DecidedLaws.{cells_below, cell_at}
 use Rattle.well_formed.proofs.PassLaws.{last_pass, fewer}
 use Rattle.well_formed.proofs.facts.find.Goals as goal
 
-pub loop-init : goal.loop-init
-loop-init c = (c.requires, refl, refl, refl)
-
-pub pass-requires : goal.pass-requires
-pass-requires c = c.loop.invariant.0
-
-pub returns-then-not-pass : goal.returns-then-not-pass
-returns-then-not-pass c = last_pass _ _ _ (λ k l. l) (not-true c.pass.result c.if-not-pass.true-raw) c.pass.ensures
-
 pub loop-smaller : goal.loop-smaller
 loop-smaller c =
     fewer _ _ _ (cells_below (node_count c.args.nodes.now))
-    (λ k l Q e. cell_at Q (node_count c.args.nodes.now) e k.node l k.fact)
-    (not-false c.pass.result c.if-not-pass.false-raw) c.pass.ensures
+    (λ k l Q e. cell_at Q (node_count c.args.nodes.now) e k.node l k.fact) c.loop-test.true c.pass.ensures
 
-pub loop-preserved : goal.loop-preserved
-loop-preserved c = (
-  record {
-    room_nothing = omega arith;
-    room_something = omega arith;
-    room_fails = omega arith;
-    true_ones = c.pass.ensures.true_ones;
-  },
-  omega arith,
-  omega arith,
-  omega arith,
-)
+pub returns : goal.returns
+returns c = last_pass _ _ _ (λ k l. l) c.loop-test.false c.pass.ensures
