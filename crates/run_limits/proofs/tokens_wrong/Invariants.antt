@@ -1,9 +1,5 @@
 -- `run_limits::tokens_wrong` meets its contract.
-use mathlib.Core.Path.{◌≡◌}
-use mathlib.Core.Bool.{Bool, true, ◌&&◌}
-use Prim.Native.Nat.{ℕ, ◌-◌, ◌≤◌}
-use lib.Dec.{leb}
-use mathlib.Core.List.{List}
+use Rattle.std.proofs.Common.{◌≡◌, ℕ, Bool, true, ◌&&◌, List, leb}
 use Rattle.table.specs.Every.{every}
 use Rattle.clauses.specs.Limits.{tokens_of}
 use Rattle.run_limits.proofs.tokens_wrong.Given as goal
@@ -13,7 +9,4 @@ abbrev pub token_right : List ℕ → ℕ → Bool
 token_right words w = leb ((tokens_of words).terminal w) 255 && leb ((tokens_of words).column w) 65535
 
 abbrev pub invariant-loop-w : goal.invariant-loop-w
-invariant-loop-w l = (l.w ≤ l.count) × (every l.w (token_right l.tokens) ≡ true)
-
-abbrev pub decreases-loop-w : goal.decreases-loop-w
-decreases-loop-w l = l.count - l.w
+invariant-loop-w l = every l.w (token_right l.tokens) ≡ true
