@@ -99,9 +99,8 @@ pub fn spelling_at(file: &[u8], at: usize, skip: usize) -> &[u8]
 }
 
 // The byte at an index of a value, and 0 past its end.
-pub fn byte_in(value: &[u8], i: usize) -> u16
-    ensures value { result ≡ get_or value.now i 0 }
-    ensures upper_bound { result < 256 }
+pub fn byte_in(value: &[u8], i: usize) -> u8
+    ensures { result ≡ get_or value.now i 0 }
 {
-    u16::from(value.get(i).copied().unwrap_or(0))
+    value.get(i).copied().unwrap_or(0)
 }

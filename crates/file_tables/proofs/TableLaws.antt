@@ -1,20 +1,19 @@
 -- The words of a table and its rules, written field by field.
-use Prim.Native.Nat.{ℕ, ◌+◌, ◌*◌, ◌/◌, ◌%◌, ◌≤◌, ◌<◌}
+use Prim.Native.Nat.{ℕ, ◌+◌, ◌*◌, ◌%◌, ◌<◌}
 use mathlib.Core.Path.{◌≡◌, refl, sym, ap, ap₂, ◌∙◌}
 use mathlib.Core.List.{List, [], ◌∷◌, ◌++◌, map, map-append}
 use native.Mathlib.Omega.{arith}
-use borrow.Author.Tests.{lt-leb, lt-ltb, le-ltb}
-use mathlib.Core.Bool.{true, false, not, ◌&&◌, ◌||◌, and-false, or-true}
-use lib.Dec.{leb, ltb, eqb}
-use lib.Seq.{take_at}
+use borrow.Author.Tests.{lt-leb, lt-ltb}
+use mathlib.Core.Bool.{not, ◌&&◌, ◌||◌, and-false, or-true}
+use lib.Dec.{leb, eqb}
 use Rattle.table.specs.Words.{each_words}
 use Rattle.table.proofs.Words.{words_append, length_words}
 use Rattle.table.specs.Answer.{refused}
 use Rattle.table.specs.Limits.{most_nodes, most_rules}
 use Rattle.table.specs.Form.{node_count}
 use Rattle.table.specs.Checks.{fails3, table_answer}
-use lib.ListN.{length, take, drop, set, get_or, length-map}
-use Rattle.file_tables.specs.Tables.{rule_node, four_words, words_of, too_short}
+use lib.ListN.{length, drop, set, get_or, length-map}
+use Rattle.file_tables.specs.Tables.{rule_node, four_words, words_of}
 use Rattle.file_fields.specs.Fields.{two_bytes}
 use Rattle.file_fields.specs.Offsets.{field_at, next_at, offset_of, fields_from}
 use Rattle.file_fields.proofs.Lists.{write_next, four_more}
@@ -72,49 +71,10 @@ pub offset_stepped :
     → next ≡ offset_of file first (k + 1)
 offset_stepped file first k n e = n ∙ ap (next_at file) e ∙ sym (offset_next file first k)
 
--- What was written stands in front.
+-- A table of k node fields has k nodes.
 module _ (file : List ℕ) (first k : ℕ) where
-  pub nodes_front : (rest : List ℕ) {out : List ℕ} → out ≡ words_of (fields_from file first k) ++ rest → take (k * 4) out ≡ words_of (fields_from file first k)
-  nodes_front rest e = ap (take (k * 4)) e ∙ take_at (words_of (fields_from file first k)) rest (k * 4) (length_nodes file first k)
-
-  pub rules_front : (rest : List ℕ) {out : List ℕ} → out ≡ map rule_node (fields_from file first k) ++ rest → take k out ≡ map rule_node (fields_from file first k)
-  rules_front rest e = ap (take k) e ∙ take_at (map rule_node (fields_from file first k)) rest k (length_rules file first k)
-
-  -- A table of k node fields has k nodes.
   pub count_nodes : node_count (words_of (fields_from file first k)) ≡ k
   count_nodes = omega (arith, length_nodes file first k)
-
--- Slices that are too short for the nodes, for the rules, and long enough for both.
-module _ (file : List ℕ) (nodes_at node_count rules_at rule_count nodes_lent rules_lent : ℕ) where
-  abbrev nodes : List ℕ
-  nodes = words_of (fields_from file nodes_at node_count)
-
-  abbrev rules : List ℕ
-  rules = map rule_node (fields_from file rules_at rule_count)
-
-  pub short_nodes : nodes_lent / 4 < node_count → true ≡ too_short nodes rules nodes_lent rules_lent
-  unfolding too_short
-  short_nodes h = rw (lt-ltb nodes_lent (length nodes) (omega (arith, length_nodes file nodes_at node_count))) refl
-
-  pub short_rules : rules_lent < rule_count → true ≡ too_short nodes rules nodes_lent rules_lent
-  unfolding too_short
-  short_rules h =
-      rw (lt-ltb rules_lent (length rules) (omega (arith, length_rules file rules_at rule_count)))
-      (sym (or-true (ltb nodes_lent (length nodes))))
-
-  pub enough : node_count ≤ nodes_lent / 4 → rule_count ≤ rules_lent → false ≡ too_short nodes rules nodes_lent rules_lent
-  unfolding too_short
-  enough h k =
-      rw (
-        le-ltb nodes_lent (length nodes) (omega (arith, length_nodes file nodes_at node_count)),
-        le-ltb rules_lent (length rules) (omega (arith, length_rules file rules_at rule_count)),
-      ) refl
-
-  pub nodes_written_lem : (old : List ℕ) {out : List ℕ} → out ≡ nodes ++ drop (node_count * 4) old → out ≡ nodes ++ drop (length nodes) old
-  nodes_written_lem old q = q ∙ ap (λ (k : ℕ). nodes ++ drop k old) (sym (length_nodes file nodes_at node_count))
-
-  pub rules_written_lem : (old : List ℕ) {out : List ℕ} → out ≡ rules ++ drop rule_count old → out ≡ rules ++ drop (length rules) old
-  rules_written_lem old q = q ∙ ap (λ (k : ℕ). rules ++ drop k old) (sym (length_rules file rules_at rule_count))
 
 -- More nodes or rules than the limits are number 3.
 pub many_nodes : (nodes rules : List ℕ) → most_nodes < node_count nodes → table_answer nodes rules ≡ refused 3

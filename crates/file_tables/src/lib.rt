@@ -1,14 +1,21 @@
 // The table and the rule list that fields of a grammar file stand for: checked (numbers 3 to 5) and written.
 #![tactic(auto)]
 
-ghost use Rattle.std.specs.Prelude.{◌≡◌, ◌++◌, map, ◌+◌, ◌*◌, ◌≤◌, ◌<◌, length, get_or, drop};
+ghost use Rattle.std.specs.Prelude.{◌≡◌, ◌++◌, ◌+◌, ◌*◌, ◌≤◌, ◌<◌, true, false, MatchResult, length, get_or, drop};
 ghost use Rattle.table.specs.Checks.{table_answer, numbers};
-ghost use Rattle.file_tables.specs.Tables.{rule_node, words_of, too_short, written};
+ghost use Rattle.file_tables.specs.Tables.{written, node_words, rule_nodes, lacks_room};
 ghost use Rattle.file_fields.specs.Fields.{two_bytes};
-ghost use Rattle.file_fields.specs.Offsets.{fields_from};
+ghost use Rattle.table.specs.declared.refusals.Refusal.TheVariants.{Room};
 
 use file_fields::{byte_in, next_at, value_at};
-use table::{Checked, refusals};
+use table::Refusal;
+
+// Fields of one tag in a row: the offset of the first, and how many there are.
+#[derive(Clone, Copy)]
+pub struct Group {
+    pub at: usize,
+    pub count: usize,
+}
 
 // The two-byte number that a value begins with, high byte first.
 pub fn first_number(value: &[u8]) -> u16
@@ -17,94 +24,77 @@ pub fn first_number(value: &[u8]) -> u16
     number_in(value, 0)
 }
 
-// Numbers 3, 4 and 5 of the table and rules that stand at two offsets.
-pub fn check_tables(
-    file: &[u8],
-    nodes_at: usize,
-    node_count: usize,
-    rules_at: usize,
-    rule_count: usize,
-) -> Checked
+#[tactic(auto, using(crate::proofs::TableLaws::many_nodes, crate::proofs::TableLaws::many_rules, crate::proofs::TableLaws::count_nodes, crate::proofs::TableLaws::length_nodes, crate::proofs::TableLaws::length_rules))]
+// Whether the node fields and the rule fields stand for a table, or the first of 3, 4 and 5 that fails.
+pub fn check_tables(file: &[u8], nodes: Group, rules: Group) -> Result<(), Refusal>
     ensures { numbers result
-        ≡ table_answer (words_of (fields_from file.now nodes_at node_count))
-        (map rule_node (fields_from file.now rules_at rule_count)) }
+        ≡ table_answer (node_words file.now nodes) (rule_nodes file.now rules) }
 {
-    if node_count > table::NODES {
-        return Checked::Refused(refusals::COUNTS);
+    if nodes.count > table::NODES || rules.count > table::RULES {
+        return Err(Refusal::Counts);
     }
-    if rule_count > table::RULES {
-        return Checked::Refused(refusals::COUNTS);
-    }
-    let mut nodes = [0u16; 2048];
-    let mut rules = [0u16; 128];
-    write_nodes(file, nodes_at, node_count, &mut nodes);
-    write_rules(file, rules_at, rule_count, &mut rules);
-    let words = node_count * 4;
-    table::check(&nodes[..words], &rules[..rule_count])
+    let mut words = [0u16; table::NODES * 4];
+    let mut list = [0u16; table::RULES];
+    write_nodes(file, nodes, &mut words);
+    write_rules(file, rules, &mut list);
+    table::check(&words[..nodes.count * 4], &list[..rules.count])
 }
 
-// Writes the table and the rules that stand at two offsets; whether a slice is too short, and then nothing is written.
+#[tactic(auto, using(crate::proofs::TableLaws::length_nodes, crate::proofs::TableLaws::length_rules), unfolding(crate::specs::Tables::too_short))]
+// Writes the table and the rules that fields stand for; where a slice is too short, nothing is written.
 pub fn write_tables(
     file: &[u8],
-    nodes_at: usize,
-    node_count: usize,
-    rules_at: usize,
-    rule_count: usize,
-    nodes: &mut [u16],
-    rules: &mut [u16],
-) -> bool
-    ensures value { result
-        ≡ too_short (words_of (fields_from file.now nodes_at node_count))
-        (map rule_node (fields_from file.now rules_at rule_count))
-        (length nodes.old) (length rules.old) }
-    ensures nodes_after { nodes.new
-        ≡ written result (words_of (fields_from file.now nodes_at node_count)) nodes.old }
-    ensures rules_after { rules.new
-        ≡ written result (map rule_node (fields_from file.now rules_at rule_count)) rules.old }
+    nodes: Group,
+    rules: Group,
+    words: &mut [u16],
+    list: &mut [u16],
+) -> Result<(), Refusal>
+    ensures value { MatchResult result
+        (λ _. lacks_room file.now nodes rules words.old list.old ≡ false)
+        (λ e. (e ≡ Room) × (lacks_room file.now nodes rules words.old list.old ≡ true)) }
+    ensures nodes_after { words.new
+        ≡ written (lacks_room file.now nodes rules words.old list.old) (node_words file.now nodes) words.old }
+    ensures rules_after { list.new
+        ≡ written (lacks_room file.now nodes rules words.old list.old) (rule_nodes file.now rules) list.old }
 {
-    if nodes.len() / 4 < node_count {
-        return true;
+    if words.len() / 4 < nodes.count || list.len() < rules.count {
+        return Err(Refusal::Room);
     }
-    if rules.len() < rule_count {
-        return true;
-    }
-    write_nodes(file, nodes_at, node_count, nodes);
-    write_rules(file, rules_at, rule_count, rules);
-    false
+    write_nodes(file, nodes, words);
+    write_rules(file, rules, list);
+    Ok(())
 }
 
-// Writes the words of count node fields from an offset on.
-fn write_nodes(file: &[u8], first: usize, count: usize, out: &mut [u16])
-    requires { count * 4 ≤ length out.old }
+#[tactic(auto, unfolding(file_fields::specs::Offsets::fields_from, file_fields::specs::Offsets::offset_of, table::specs::Words::each_words))]
+// Writes the words of node fields.
+fn write_nodes(file: &[u8], nodes: Group, out: &mut [u16])
+    requires { nodes.count * 4 ≤ length out.old }
     ensures { out.new
-        ≡ words_of (fields_from file.now first count) ++ drop (count * 4) out.old }
+        ≡ node_words file.now nodes ++ drop (nodes.count * 4) out.old }
 {
-    let mut at = first;
-    let mut i = 0;
-    while i < count {
+    let mut at = nodes.at;
+    for i in 0..nodes.count {
         let value = value_at(file, at);
         let to = i * 4;
-        out[to] = byte_in(value, 0);
+        out[to] = u16::from(byte_in(value, 0));
         out[to + 1] = number_in(value, 1);
         out[to + 2] = number_in(value, 3);
-        out[to + 3] = byte_in(value, 5);
+        out[to + 3] = u16::from(byte_in(value, 5));
         at = next_at(file, at);
-        i += 1;
     }
 }
 
-// Writes the nodes of count rule fields from an offset on.
-fn write_rules(file: &[u8], first: usize, count: usize, out: &mut [u16])
-    requires { count ≤ length out.old }
+#[tactic(auto, unfolding(file_fields::specs::Offsets::fields_from, file_fields::specs::Offsets::offset_of))]
+// Writes the nodes of rule fields.
+fn write_rules(file: &[u8], rules: Group, out: &mut [u16])
+    requires { rules.count ≤ length out.old }
     ensures { out.new
-        ≡ map rule_node (fields_from file.now first count) ++ drop count out.old }
+        ≡ rule_nodes file.now rules ++ drop rules.count out.old }
 {
-    let mut at = first;
-    let mut i = 0;
-    while i < count {
+    let mut at = rules.at;
+    for i in 0..rules.count {
         out[i] = number_in(value_at(file, at), 0);
         at = next_at(file, at);
-        i += 1;
     }
 }
 
@@ -113,7 +103,5 @@ fn number_in(value: &[u8], i: usize) -> u16
     requires { i < 256 }
     ensures { result ≡ two_bytes (get_or value.now i 0) (get_or value.now (i + 1) 0) }
 {
-    let high = byte_in(value, i);
-    let low = byte_in(value, i + 1);
-    high * 256 + low
+    u16::from_be_bytes([byte_in(value, i), byte_in(value, i + 1)])
 }
