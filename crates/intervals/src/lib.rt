@@ -1,7 +1,7 @@
 // Column intervals: whether a token fits one, and what is left of one after a token or an indent.
 #![tactic(auto)]
 
-ghost use Rattle.std.specs.Prelude.{◌≡◌, ◌-◌, ◌<◌};
+ghost use Rattle.std.specs.Prelude.{◌≡◌, ◌<◌};
 ghost use Rattle.columns.specs.Relations.{any, amount as amount_of};
 ghost use Rattle.columns.specs.Intervals.{lower_end, meet_ends, less as less_end, inner_ends, outer_ends, lies as lies_in};
 ghost use Rattle.columns.specs.Intervals.{fits as fits_in, after_token};
@@ -13,12 +13,12 @@ use table::relations;
 pub fn fits(flag: bool, mode: u16, c: Interval, i: u32) -> bool
     ensures { result ≡ fits_in flag mode c i }
 {
-    let l = c.lower;
     let r = if flag { relations::EQUAL } else { mode };
+    // A number, as C and node words give it: an enum of 35 relations, of which four have names, is no plainer.
     match r {
         relations::EQUAL => lies(c, i),
-        relations::GREATER => l < i,
-        relations::AT_LEAST => l <= i,
+        relations::GREATER => c.lower < i,
+        relations::AT_LEAST => c.lower <= i,
         relations::ANY => true,
         _ => lies_in_step(r, c, i),
     }
@@ -30,32 +30,23 @@ fn lies_in_step(r: u16, c: Interval, i: u32) -> bool
     ensures { result ≡ lies_in i (inner_ends r c) }
 {
     let d = amount(r);
-    if i < d { false } else { lies(c, i - d) }
+    d <= i && lies(c, i - d)
 }
 
 // The amount of a step: its number less 3; 0 for the relations that have a name.
 pub fn amount(r: u16) -> u32
     ensures { result ≡ amount_of r }
 {
-    if r <= relations::ANY {
-        0
-    } else {
-        (r - relations::ANY) as u32
-    }
+    r.saturating_sub(relations::ANY) as u32
 }
 
 // Whether a column lies between the ends.
 fn lies(c: Interval, i: u32) -> bool
     ensures { result ≡ lies_in i c }
 {
-    let h = c.upper;
-    let l = c.lower;
-    if i < l {
-        return false;
-    }
-    match h {
-        Upper::Endless => true,
-        Upper::At(x) => i <= x,
+    match c.upper {
+        Upper::Endless => c.lower <= i,
+        Upper::At(x) => c.lower <= i && i <= x,
     }
 }
 
@@ -81,57 +72,48 @@ pub fn leave(r: u16, old: Interval, new: Interval) -> Interval
 fn outer(r: u16, c: Interval) -> Interval
     ensures { result ≡ outer_ends r c }
 {
-    let h = c.upper;
+    // A number, as in fits.
     match r {
         relations::EQUAL => c,
-        relations::GREATER => {
-            let upper = less(h, 1);
-            Interval { lower: 0, upper }
-        }
-        relations::AT_LEAST => Interval { lower: 0, upper: h },
+        relations::GREATER => Interval {
+            lower: 0,
+            upper: less(c.upper, 1),
+        },
+        relations::AT_LEAST => Interval {
+            lower: 0,
+            upper: c.upper,
+        },
         relations::ANY => Interval {
             lower: 0,
             upper: Upper::Endless,
         },
         _ => {
             let d = amount(r);
-            let upper = less(h, d);
-            let lower = lowered(c.lower, d);
-            Interval { lower, upper }
+            Interval {
+                lower: c.lower.saturating_sub(d),
+                upper: less(c.upper, d),
+            }
         }
     }
 }
 
-// An upper end less an amount; without end stays.
+// An upper end less an amount, which stops at 0; without end stays.
 fn less(h: Upper, d: u32) -> Upper
     ensures { result ≡ less_end h d }
 {
     match h {
-        Upper::Endless => h,
-        Upper::At(x) => Upper::At(lowered(x, d)),
+        Upper::Endless => Upper::Endless,
+        Upper::At(x) => Upper::At(x.saturating_sub(d)),
     }
-}
-
-// A column less an amount stops at 0.
-fn lowered(x: u32, d: u32) -> u32
-    ensures { result ≡ x - d }
-{
-    if x < d { 0 } else { x - d }
 }
 
 // What lies in both of two intervals.
 fn meet(a: Interval, b: Interval) -> Interval
     ensures { result ≡ meet_ends a b }
 {
-    let ua = a.upper;
-    let ub = b.upper;
-    let la = a.lower;
-    let lb = b.lower;
-    let upper = lower_end(ua, ub);
-    if la <= lb {
-        Interval { lower: lb, upper }
-    } else {
-        Interval { lower: la, upper }
+    Interval {
+        lower: a.lower.max(b.lower),
+        upper: lower_end(a.upper, b.upper),
     }
 }
 
@@ -139,11 +121,9 @@ fn meet(a: Interval, b: Interval) -> Interval
 fn lower_end(a: Upper, b: Upper) -> Upper
     ensures { result ≡ lower_end a b }
 {
-    match a {
-        Upper::Endless => b,
-        Upper::At(x) => match b {
-            Upper::Endless => a,
-            Upper::At(y) => if x <= y { a } else { b },
-        },
+    match (a, b) {
+        (Upper::Endless, _) => b,
+        (_, Upper::Endless) => a,
+        (Upper::At(x), Upper::At(y)) => Upper::At(x.min(y)),
     }
 }
