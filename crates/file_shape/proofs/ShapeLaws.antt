@@ -8,7 +8,7 @@ use mathlib.Core.Option.{Option, some, none, map}
 use mathlib.Core.Logic.{⊎_elim}
 use native.Mathlib.Nat.{le_of_eq}
 use native.Mathlib.Omega.{arith}
-use borrow.Author.Tests.{le-leb, lt-leb, le-ltb, lt-ltb, eq-eqb, ne_eqb, leb-true, leb-false, eqb-true}
+use borrow.Author.Tests.{le-leb, lt-leb, le-ltb, lt-ltb, eq-eqb, ne_eqb, leb-true, eqb-true}
 use lib.ListN.{length, get_or, drop, length-map, drop_of_length-le}
 use lib.Seq.{append_snoc, get_or-take, get_or-drop}
 use lib.Dec.{leb, ltb, eqb}
@@ -16,9 +16,9 @@ use Rattle.table.proofs.Every.{and_left, and_right}
 use Rattle.file_fields.specs.Fields.{Field, before, fields, later_tags, in_order, tagged, right_length}
 use Rattle.file_shape.specs.Contents.{most_bytes, most_keywords, right_value, right_values, keywords, fields_of, unreadable, fails1}
 use Rattle.file_fields.specs.Offsets.{length_at, value_at, next_at, field_at, offset_of, fields_from, right_at}
-use Rattle.file_shape.specs.InternalShape.{framed_by, LongestRun, Shaped}
+use Rattle.file_shape.specs.InternalShape.{framed_by, LongestRun}
 use Rattle.file_shape.specs.declared.runs.Run.{Run}
-use Rattle.file_shape.specs.declared.Shape.{Shape}
+use Rattle.file_shape.specs.Shape.{Parts}
 use Rattle.table.proofs.Orders.{le_or_lt}
 use Rattle.file_fields.proofs.FieldLaws.{fields_none, fields_whole, fields_cut}
 use Rattle.file_fields.proofs.Offsets.{length_from}
@@ -229,7 +229,7 @@ module _ (file : List ℕ) (k r n : Run) (K : LongestRun file 4 2 k) (R : Longes
       ∙ ap (λ (g : Bool). leb (length file) most_bytes && g) (sym (begins_file file ∙ and_assoc (right_at file 0 1) (eqb (get_or file 3 0) 1) (good 2 (fields (drop 4 file))))))
 
   -- A file that is not so framed fails number 1.
-  unframed : framed_by file n.end ≡ false → fails1 file ≡ true
+  pub unframed : framed_by file n.end ≡ false → fails1 file ≡ true
   unfolding fails1
   unframed h =
       ⊎_elim
@@ -335,30 +335,22 @@ module _ (file : List ℕ) (k r n : Run) (K : LongestRun file 4 2 k) (R : Longes
         ap₂ ◌||◌ (le-ltb most_bytes (length file) short) (readable_if (fields file) begun)
         ∙ ap (ltb most_keywords) (length-map (tagged 2 (fields_of file)) (λ f. f.value) ∙ ap length keyword_fields_lem ∙ length_from file 4 k.count)
 
-  -- The shape that three runs give, right or not.
-  abbrev shape_by : Bool → Shape
-  shape_by b =
-      record {
-        right = b;
-        keywords = k.count;
-        rules = record { at = k.end; count = r.count };
-        nodes = record { at = r.end; count = n.count };
-        start = n.end;
-      }
+    pub many_keywords : most_keywords < k.count → fails1 file ≡ true
+    many_keywords m = keyword_count ∙ lt-ltb most_keywords k.count m
 
-  pub shaped_framed : framed_by file n.end ≡ true → Shaped file (shape_by (leb k.count most_keywords))
-  shaped_framed h =
-      record {
-        wrong = λ e. keyword_count h ∙ lt-ltb most_keywords k.count (leb-false k.count most_keywords e);
-        right = λ e.
-            record {
-              passes = keyword_count h ∙ le-ltb most_keywords k.count (leb-true k.count most_keywords e);
-              keyword_fields = keyword_fields_lem h;
-              rule_fields = rule_fields_lem h;
-              node_fields = node_fields_lem h;
-              start_field = start_field_lem h;
-            };
-      }
-
-  pub shaped_unframed : {b : Bool} → b ≡ framed_by file n.end → b ≡ false → Shaped file (shape_by b)
-  shaped_unframed e f = record { wrong = λ _. unframed (sym e ∙ f); right = λ g. absurd (false≢true (sym f ∙ g)) }
+    -- The fields by tag, as three runs give them.
+    pub framed_parts :
+        k.count ≤ most_keywords
+        → Parts file (record {
+          keywords = k.count;
+          rules = record { at = k.end; count = r.count };
+          nodes = record { at = r.end; count = n.count };
+          start = n.end;
+        })
+    framed_parts m = record {
+      passes = keyword_count ∙ le-ltb most_keywords k.count m;
+      keyword_fields = keyword_fields_lem;
+      rule_fields = rule_fields_lem;
+      node_fields = node_fields_lem;
+      start_field = start_field_lem;
+    }

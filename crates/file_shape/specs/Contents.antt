@@ -9,6 +9,8 @@ use Rattle.table.specs.Checks.{fails3, fails4, fails5, is_relation}
 use Rattle.file_fields.specs.Fields.{Field, two_bytes, fields, in_order, tagged, right_length}
 use Rattle.spellings.specs.Spellings.{single_alone, right_spellings}
 use Rattle.file_tables.specs.Tables.{rule_node, words_of}
+-- "A read answers the counts of nodes, rules and keywords and the start."
+pub use Rattle.file_shape.specs.declared.Contents.{Contents}
 
 -- "At most 65,535 bytes"
 abbrev pub most_bytes : ℕ
@@ -82,14 +84,6 @@ fails5_with nodes rules node mode = fails5 nodes rules || not (ltb node (node_co
 -- 5 of a file.
 unfoldable pub fails5_by_file : List Field → Bool
 fails5_by_file fs = fails5_with (node_table fs) (rule_list fs) (start_node fs) (start_mode fs)
-
--- "A read answers the counts of nodes, rules and keywords and the start."
-pub record Contents : Type 0 where
-  pub nodes : ℕ
-  pub rules : ℕ
-  pub keywords : ℕ
-  pub start : ℕ
-  pub mode : ℕ
 
 -- The counts and the start of the fields of a file.
 unfoldable pub contents : List Field → Contents

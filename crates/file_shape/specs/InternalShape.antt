@@ -1,5 +1,5 @@
 -- What the private functions that find a file's shape promise one another. No public promise rests on this file.
-use Rattle.std.specs.Prelude.{ℕ, ◌<◌, ◌≡◌, Bool, true, false, ◌&&◌, List, length, get_or, leb, eqb}
+use Rattle.std.specs.Prelude.{ℕ, ◌<◌, ◌≡◌, Bool, true, false, ◌&&◌, Option, MatchOption, List, length, get_or, leb, eqb}
 use Rattle.file_fields.specs.Offsets.{next_at, offset_of, right_at}
 use Rattle.file_shape.specs.Contents.{most_bytes, fails1}
 use Rattle.file_shape.specs.Shape.{Parts}
@@ -21,7 +21,6 @@ pub record LongestRun (file : List ℕ) (at t : ℕ) (r : Run) : Type 0 where
   pub each : (i : ℕ) → i < r.count → right_at file (offset_of file at i) t ≡ true
   pub stops : right_at file r.end t ≡ false
 
--- The shape of a file, right exactly if number 1 passes.
-pub record Shaped (file : List ℕ) (s : Shape) : Type 0 where
-  pub wrong : s.right ≡ false → fails1 file ≡ true
-  pub right : s.right ≡ true → Parts file s
+-- The shape of a file, there exactly if number 1 passes.
+abbrev pub Shaped : List ℕ → Option Shape → Type 0
+Shaped file o = MatchOption o (fails1 file ≡ true) (λ s. Parts file s)

@@ -1,12 +1,12 @@
 -- What an inspection of a file finds: the first of numbers 1 to 5 that fails, or the fields by tag and offset.
-use Rattle.std.specs.Prelude.{ℕ, ◌≡◌, false, List, [], ◌∷◌}
-use Rattle.table.specs.Answer.{given, refused}
+use Rattle.std.specs.Prelude.{ℕ, ◌≡◌, false, Result, MatchResult, List, [], ◌∷◌}
+use Rattle.table.specs.Answer.{given}
+use Rattle.table.specs.Refusals.{turned_down}
+use Rattle.table.specs.declared.refusals.Refusal.{Refusal}
 use Rattle.file_fields.specs.Fields.{tagged}
 use Rattle.file_fields.specs.Offsets.{field_at, fields_from}
 use Rattle.file_shape.specs.Contents.{fields_of, fails1, contents, file_answer}
 use Rattle.file_shape.specs.declared.Shape.{Shape}
-use Rattle.file_shape.specs.declared.Inspected.{Inspected}
-use Rattle.file_shape.specs.declared.Inspected.TheVariants.{Whole, Refused}
 
 -- The fields of a file that number 1 passes, by tag and offset.
 pub record Parts (file : List ℕ) (s : Shape) : Type 0 where
@@ -17,6 +17,8 @@ pub record Parts (file : List ℕ) (s : Shape) : Type 0 where
   pub start_field : tagged 5 (fields_of file) ≡ field_at file s.start ∷ []
 
 -- What an inspection by numbers 1 to 5 found.
-abbrev pub Inspects : List ℕ → Inspected → Type 0
-Inspects file (Whole s) = Parts file s × (file_answer file ≡ given (contents (fields_of file)))
-Inspects file (Refused n) = file_answer file ≡ refused n
+abbrev pub Inspects : List ℕ → Result Shape Refusal → Type 0
+Inspects file r =
+    MatchResult r
+    (λ s. Parts file s × (file_answer file ≡ given (contents (fields_of file))))
+    (λ e. file_answer file ≡ turned_down e)

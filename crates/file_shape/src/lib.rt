@@ -8,66 +8,53 @@ ghost use Rattle.file_shape.specs.Contents.{fields_of, fails2};
 ghost use Rattle.file_shape.specs.Shape.{Parts, Inspects};
 
 use file_fields::{byte_in, value_at};
+pub use file_tables::Group;
 use file_tables::{check_tables, first_number};
 use runs::shape_of;
 use spellings::{right_spellings, singles_alone};
-use table::{Checked, refusals};
-
-// The fields of one tag: the offset of the first, and how many there are.
-#[derive(Clone, Copy)]
-pub struct Group {
-    pub at: usize,
-    pub count: usize,
-}
+use table::Refusal;
 
 // The fields of a file; the keywords stand behind tag 1's four bytes.
 #[derive(Clone, Copy)]
 pub struct Shape {
-    pub right: bool,
     pub keywords: usize,
     pub rules: Group,
     pub nodes: Group,
     pub start: usize,
 }
 
-// The shape of a file that passes 1 to 5, or the number of the first that fails.
-#[derive(Clone, Copy)]
-pub enum Inspected {
-    Whole(Shape),
-    Refused(u8),
+// What a file holds: the counts of nodes, rules and keywords, and the start.
+#[derive(Clone, Copy, Debug, PartialEq, Eq)]
+pub struct Contents {
+    pub nodes: usize,
+    pub rules: usize,
+    pub keywords: usize,
+    pub start: u16,
+    pub mode: u16,
 }
 
 // The offset of the first keyword, where there is one: behind tag 1's four bytes.
 pub const FIRST_KEYWORD: usize = 4;
 
-// Numbers 1 to 5, in their order.
-pub fn inspect(file: &[u8]) -> Inspected
+#[tactic(auto, using(crate::proofs::PartLaws::by_names), unfolding(crate::specs::Contents::file_answer))]
+// The shape of a file that passes numbers 1 to 5, or the first that fails.
+pub fn inspect(file: &[u8]) -> Result<Shape, Refusal>
     ensures { Inspects file.now result }
 {
-    let s = shape_of(file);
-    if !s.right {
-        return Inspected::Refused(refusals::FIELDS);
+    let Some(shape) = shape_of(file) else {
+        return Err(Refusal::Fields);
+    };
+    if names_wrong(file, shape) {
+        return Err(Refusal::Spelling);
     }
-    if names_wrong(file, s) {
-        return Inspected::Refused(refusals::SPELLING);
+    check_tables(file, shape.nodes, shape.rules)?;
+    let value = value_at(file, shape.start);
+    if usize::from(first_number(value)) >= shape.nodes.count
+        || u16::from(byte_in(value, 2)) >= table::RELATIONS
+    {
+        return Err(Refusal::Rule);
     }
-    let nodes = s.nodes;
-    let rules = s.rules;
-    let table = check_tables(file, nodes.at, nodes.count, rules.at, rules.count);
-    match table {
-        Checked::Refused(n) => {
-            return Inspected::Refused(n);
-        }
-        Checked::Passes => {}
-    }
-    let value = value_at(file, s.start);
-    if first_number(value) as usize >= nodes.count {
-        return Inspected::Refused(refusals::RULE);
-    }
-    if byte_in(value, 2) >= table::RELATIONS {
-        return Inspected::Refused(refusals::RULE);
-    }
-    Inspected::Whole(s)
+    Ok(shape)
 }
 
 // Number 2: a keyword or a rule name breaks its rules.
@@ -75,12 +62,7 @@ fn names_wrong(file: &[u8], s: Shape) -> bool
     requires { Parts file.now s }
     ensures { result ≡ fails2 (fields_of file.now) }
 {
-    let rules = s.rules;
-    if !right_spellings(file, FIRST_KEYWORD, s.keywords, 0) {
-        return true;
-    }
-    if !singles_alone(file, FIRST_KEYWORD, s.keywords) {
-        return true;
-    }
-    !right_spellings(file, rules.at, rules.count, 2)
+    !(right_spellings(file, FIRST_KEYWORD, s.keywords, 0)
+        && singles_alone(file, FIRST_KEYWORD, s.keywords)
+        && right_spellings(file, s.rules.at, s.rules.count, 2))
 }

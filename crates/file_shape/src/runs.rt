@@ -3,7 +3,7 @@ ghost use Rattle.std.specs.Prelude.{◌≡◌};
 ghost use Rattle.file_shape.specs.InternalShape.{LongestRun, framed_by, Shaped};
 
 use crate::{FIRST_KEYWORD, Group, Shape};
-use file_fields::{next_at, right_at, tags};
+use file_fields::{byte_in, next_at, right_at, tags};
 
 // How many fields of one tag stand in a row, and where they end.
 #[derive(Clone, Copy)]
@@ -30,16 +30,18 @@ fn run_of(file: &[u8], at: usize, tag: u8) -> Run
     Run { count, end }
 }
 
+#[tactic(auto, using(crate::proofs::ShapeLaws::unframed, crate::proofs::ShapeLaws::many_keywords, crate::proofs::ShapeLaws::framed_parts))]
 // Number 1: tag 1, then runs of tags 2, 3 and 4, then tag 5, which ends the file.
-pub(crate) fn shape_of(file: &[u8]) -> Shape
+pub(crate) fn shape_of(file: &[u8]) -> Option<Shape>
     ensures { Shaped file.now result }
 {
     let keywords = run_of(file, FIRST_KEYWORD, tags::KEYWORD);
     let rules = run_of(file, keywords.end, tags::RULE);
     let nodes = run_of(file, rules.end, tags::NODE);
-    let start = nodes.end;
-    Shape {
-        right: framed(file, start) && keywords.count <= KEYWORDS,
+    if !framed(file, nodes.end) || keywords.count > KEYWORDS {
+        return None;
+    }
+    Some(Shape {
         keywords: keywords.count,
         rules: Group {
             at: keywords.end,
@@ -49,25 +51,18 @@ pub(crate) fn shape_of(file: &[u8]) -> Shape
             at: rules.end,
             count: nodes.count,
         },
-        start,
-    }
+        start: nodes.end,
+    })
 }
 
+#[tactic(auto, unfolding(crate::specs::InternalShape::framed_by))]
 // Whether the file is not over length, begins with tag 1 and its byte, and ends with tag 5 at an offset.
 fn framed(file: &[u8], start: usize) -> bool
     ensures { result ≡ framed_by file.now start }
 {
-    if file.len() > BYTES {
-        return false;
-    }
-    if !right_at(file, 0, tags::FORMAT) {
-        return false;
-    }
-    if file[3] != 1 {
-        return false;
-    }
-    if !right_at(file, start, tags::START) {
-        return false;
-    }
-    next_at(file, start) == file.len()
+    file.len() <= BYTES
+        && right_at(file, 0, tags::FORMAT)
+        && byte_in(file, 3) == 1
+        && right_at(file, start, tags::START)
+        && next_at(file, start) == file.len()
 }

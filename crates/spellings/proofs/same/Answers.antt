@@ -14,7 +14,7 @@ unfolding same_bytes
 returns-then-n-t c = rw (ne_eqb (length c.args.s.now) (length c.args.t.now) c.if-n-t.true)
 
 pub returns-then-byte_in : goal.returns-then-byte_in
-returns-then-byte_in c = bytes_apart _ _ _ (λ e. c.if-byte_in.true (c.byte_in.ensures.value ∙ e ∙ sym c.byte_in-2.ensures.value))
+returns-then-byte_in c = bytes_apart _ _ _ (λ e. c.if-byte_in.true (c.byte_in.ensures ∙ e ∙ sym c.byte_in-2.ensures))
 
 pub loop-i-init : goal.loop-i-init
 unfolding every
