@@ -3,10 +3,9 @@
 #![tactic(auto)]
 
 ghost use Rattle.std.specs.Prelude.{◌≡◌};
-ghost use Rattle.readings.specs.Readings.{reading_of};
 ghost use Rattle.after_child.specs.AfterChild.{left_state, aligned_state, failed_state};
 
-use columns::State;
+use columns::{Reading, State};
 use intervals::leave;
 use readings::handed_on;
 
@@ -24,15 +23,15 @@ pub fn left(r: u16, s: State, u: State) -> State
 }
 
 // After an align: with the flag that the reading hands on.
-pub fn aligned(by_2014: bool, s: State, u: State) -> State
-    ensures { result ≡ aligned_state (reading_of by_2014) s u }
+pub fn aligned(reading: Reading, s: State, u: State) -> State
+    ensures { result ≡ aligned_state reading s u }
 {
     let d = u.interval;
     State {
         place: u.place,
         farthest: u.farthest,
         interval: d,
-        flag: handed_on(by_2014, s.flag, u.flag),
+        flag: handed_on(reading, s.flag, u.flag),
     }
 }
 

@@ -1,4 +1,4 @@
--- The reading that a flag names, in a walk and in the C interface, and the relation that an indent is walked by.
+-- The reading that a flag names, in the C interface, and the relation that an indent is walked by.
 use Rattle.std.specs.Prelude.{ℕ, Bool, true, false, cond}
 use Rattle.columns.specs.Relations.{equal}
 use Rattle.columns.specs.declared.Reading.{Reading}

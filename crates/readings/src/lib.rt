@@ -1,5 +1,5 @@
 // The reading of a run (02, Note 5), and what it decides: the relation that an indent is walked by, and the flag that an
-// align hands on. A walk has it as a flag, set for 2014, and so has the C interface.
+// align hands on. The C interface has it as a flag, set for 2014.
 #![tactic(auto)]
 
 ghost use Rattle.std.specs.Prelude.{◌≡◌};
@@ -13,36 +13,29 @@ use table::relations;
 pub fn reading(by_2014: bool) -> Reading
     ensures { result ≡ reading_of by_2014 }
 {
-    match by_2014 {
-        true => Reading::By2014,
-        false => Reading::By2017,
-    }
-}
-
-// Whether a reading is that of 2014: the flag that names it.
-pub fn is_by_2014(reading: Reading) -> bool
-    ensures { reading_of result ≡ reading }
-{
-    match reading {
-        Reading::By2014 => true,
-        Reading::By2017 => false,
+    if by_2014 {
+        Reading::By2014
+    } else {
+        Reading::By2017
     }
 }
 
 // The relation that an indent is walked by, under the flag before it: its own where it counts, else equal.
-pub fn in_force(by_2014: bool, flag: bool, r: u16) -> u16
-    ensures { result ≡ in_force (reading_of by_2014) flag r }
+pub fn in_force(reading: Reading, flag: bool, r: u16) -> u16
+    ensures { result ≡ in_force reading flag r }
 {
-    if by_2014 {
-        if flag { relations::EQUAL } else { r }
-    } else {
-        r
+    match reading {
+        Reading::By2014 => if flag { relations::EQUAL } else { r },
+        Reading::By2017 => r,
     }
 }
 
 // The flag that an align hands on, from the one before it and the one that its child left.
-pub fn handed_on(by_2014: bool, before: bool, after: bool) -> bool
-    ensures { result ≡ handed_on (reading_of by_2014) before after }
+pub fn handed_on(reading: Reading, before: bool, after: bool) -> bool
+    ensures { result ≡ handed_on reading before after }
 {
-    if by_2014 { after } else { before && after }
+    match reading {
+        Reading::By2014 => after,
+        Reading::By2017 => before && after,
+    }
 }
