@@ -4,7 +4,7 @@ use Prim.Native.Nat.{ℕ, suc, ◌+◌, ◌-◌, ◌*◌, ◌/◌, ◌≤◌, �
 use mathlib.Core.Path.{◌≡◌, refl, sym, ap, ◌∙◌}
 use mathlib.Core.Bool.{Bool, true, false, or-true, true≢false, false≢true}
 use mathlib.Core.List.{List, [], ◌∷◌}
-use mathlib.Core.Option.{none}
+use Rattle.std.proofs.Common.{None}
 use lib.ListN.{length, get_or, take, drop, drop_of_length-le}
 use lib.Seq.{drop-cons}
 use native.Mathlib.Numerals.{add-one}
@@ -16,10 +16,8 @@ use Rattle.byte_class.specs.declared.Class.{Class}
 use Rattle.byte_class.specs.declared.Class.TheVariants.{Break, Tab, Blank, Single, Digit, Run, Continuation, Refused}
 use Rattle.places.specs.Columns.{column_by, column_after, column_over}
 use Rattle.places.specs.Places.{run_class, in_run, run_length}
-use Rattle.places.specs.Moves.{Position, position, Move, move, move_by, next_place, next_in, next_within, move_of}
-use Rattle.places.specs.InternalFind.{passed_by, passed_over, Room, Skipped, RunEnd, end_found, spelling_found}
-use Rattle.places.specs.declared.Spot.{Spot}
-use Rattle.places.specs.declared.Found.{Found}
+use Rattle.places.specs.Moves.{Position, position, Move, move, move_by, next_place, next_in, next_within}
+use Rattle.places.specs.InternalFind.{passed_by, passed_over, Room, Skipped, RunEnd}
 
 -- The bytes from an offset on.
 pub from_one : (text : List ℕ) (i : ℕ) → i < length text → drop i text ≡ get_or text i 0 ∷ drop (i + 1) text
@@ -27,13 +25,13 @@ from_one text i h = rw (add-one, drop-cons text i 0)
 
 -- Where there is room for the columns, and where there is none.
 module _ (text : List ℕ) (p : Position) where
-  pub past_end : {m : Move} → m ≡ record { found = none; reached = p } → length text < p.offset → m ≡ next_within text p
+  pub past_end : {m : Move} → m ≡ record { found = None; reached = p } → length text < p.offset → m ≡ next_within text p
   unfolding next_within
   past_end e h = e ∙ rw (lt-ltb (length text) p.offset h) refl
 
   pub no_room :
       {m : Move}
-      → m ≡ record { found = none; reached = p }
+      → m ≡ record { found = None; reached = p }
       → (4294967295 - p.column) / 8 < length text - p.offset
       → m ≡ next_within text p
   unfolding next_within
@@ -190,77 +188,100 @@ run_on text at c h q =
     (rw (from_one text at h) more.0, rw (from_one text at h) more.1)
 
 pub run_begun :
-    (text : List ℕ) (at c : ℕ)
+    (text : List ℕ) (s : Position)
+    → s.offset < length text
+    → in_run (get_or text s.offset 0) ≡ true
+    → {d : ℕ}
+    → d ≡ column_after (get_or text s.offset 0) s.column
+    → {e : Position}
+    → RunEnd text (position (s.offset + 1) d true) e
+    → (e.offset ≡ s.offset + run_length (drop s.offset text))
+    × (e.column ≡ column_over (take (run_length (drop s.offset text)) (drop s.offset text)) s.column)
+run_begun text s h q w r =
+    let on = run_on text s.offset s.column h q in
+    (omega (arith, r.ends, on.0), r.column ∙ rw w (sym on.1))
+
+-- A byte that is passed over, in a text.
+pub skip_on :
+    (text : List ℕ) (at c : ℕ) (m : Bool)
     → at < length text
-    → in_run (get_or text at 0) ≡ true
+    → passed_over (get_or text at 0) m ≡ true
     → {d : ℕ}
     → d ≡ column_after (get_or text at 0) c
-    → {e : Spot}
-    → RunEnd text (at + 1) d e
-    → RunEnd text at c e
-run_begun text at c h q w r =
-    let on = run_on text at c h q in
-    record { ends = omega (arith, r.ends, on.0); within = r.within; column = r.column ∙ rw w (sym on.1) }
+    → next_in text (position at c m) ≡ next_in text (position (at + 1) d m)
+skip_on text at c m h e w =
+    at_byte text at c m h
+    ∙ over_move (get_or text at 0) (drop (at + 1) text) at c m e
+    ∙ ap (λ (d : ℕ). next_in text (position (at + 1) d m)) (sym w)
+
+-- Of the bytes that are not passed over all but a break and a single byte begin a run.
+run_left : (k : Class) (m : Bool) → passed_by k m ≡ false → (k ≡ Break → ⊥) → (k ≡ Single → ⊥) → run_class k ≡ true
+run_left Break m e b s = absurd (b refl)
+run_left Tab m e b s = absurd (true≢false e)
+run_left Blank m e b s = absurd (true≢false e)
+run_left Single m e b s = absurd (s refl)
+run_left Digit m e b s = refl
+run_left Run m e b s = refl
+run_left Continuation m e b s = refl
+run_left Refused m e b s = absurd (true≢false e)
 
 -- What was found behind the bytes that were passed over, by the byte there.
-module _ (text : List ℕ) (first start : ℕ) (m : Bool) (s : Spot) (k : Skipped text first start m s) where
-  abbrev from : Position
-  from = position first start m
-
-  pub found_end :
-      s.at ≡ length text
-      → {f : Found}
-      → f ≡ end_found m s.column s.at s.at s.column
-      → move_of f ≡ next_in text (position first start m)
+module _ (text : List ℕ) {from s : Position} (k : Skipped text from s) where
+  pub found_end : s.offset ≡ length text → s.mark ≡ true → move true s.column s.offset 0 (position s.offset s.column false) ≡ next_in text from
   unfolding next_place
-  found_end h e = ap move_of e ∙ by_mark m ∙ sym (at_end text s.at s.column m (le_of_eq (sym h))) ∙ sym k.same
-    where
-      by_mark :
-          (n : Bool)
-          → move_of (end_found n s.column s.at s.at s.column) ≡ next_place [] s.at s.column n
-      by_mark true = refl
-      by_mark false = refl
+  found_end h m = sym (at_end text s.offset s.column s.mark (le_of_eq (sym h)) ∙ rw m refl) ∙ sym k.same
 
-  module _ (h : s.at < length text) where
+  pub found_none : s.offset ≡ length text → s.mark ≡ false → (let v : Move = record { found = None; reached = s } in v ≡ next_in text from)
+  unfolding next_place
+  found_none h m = sym (at_end text s.offset s.column s.mark (le_of_eq (sym h)) ∙ rw m refl) ∙ sym k.same
+
+  module _ (h : s.offset < length text) {class : Class} (c : class ≡ class_of (get_or text s.offset 0)) where
     abbrev byte : ℕ
-    byte = get_or text s.at 0
+    byte = get_or text s.offset 0
 
     abbrev rest : List ℕ
-    rest = drop (s.at + 1) text
+    rest = drop (s.offset + 1) text
 
-    back : next_place (byte ∷ rest) s.at s.column m ≡ next_in text (position first start m)
-    back = sym (at_byte text s.at s.column m h) ∙ sym k.same
+    back : next_place (byte ∷ rest) s.offset s.column s.mark ≡ next_in text from
+    back = sym (at_byte text s.offset s.column s.mark h) ∙ sym k.same
 
-    pub found_run : in_run (get_or text s.at 0) ≡ true → {e : Spot} → RunEnd text s.at s.column e → {f : Found}
-        → f ≡ spelling_found s.column s.at (e.at - s.at) e.at e.column
-        → move_of f ≡ next_in text (position first start m)
-    found_run q {e} r g =
-        let n : e.at - s.at ≡ run_length (drop s.at text) = omega (arith, r.ends) in
-        ap move_of g
-        ∙ (λ i. move false s.column s.at (n i) (position (r.ends i) (r.column i) true))
-        ∙ ap
-        (λ (l : List ℕ).
-        move false s.column s.at (run_length l)
-        (position (s.at + run_length l) (column_over (take (run_length l) l) s.column) true))
-        (from_one text s.at h)
-        ∙ sym (run_move byte rest s.at s.column m q)
+    pub found_break : class ≡ Break → move true s.column s.offset 0 (position (s.offset + 1) 0 false) ≡ next_in text from
+    unfolding passed_over
+    found_break e =
+        sym (break_move byte rest s.offset s.column s.mark (sym (ap (λ (k : Class). passed_by k false) (sym e ∙ c))) (k.stops h)) ∙ back
+
+    pub found_single : class ≡ Single → move false s.column s.offset (s.offset + 1 - s.offset) (position (s.offset + 1) (s.column + 1) true) ≡ next_in text from
+    unfolding in_run passed_over column_after
+    found_single e =
+        let t : Single ≡ class_of byte = sym e ∙ c in
+        let one : s.offset + 1 - s.offset ≡ 1 = omega arith in
+        ap (λ (n : ℕ). move false s.column s.offset n (position (s.offset + 1) (s.column + 1) true)) one
+        ∙ ap (λ (k : Class). move false s.column s.offset 1 (position (s.offset + 1) (column_by k s.column) true)) t
+        ∙ sym (single_move byte rest s.offset s.column s.mark (sym (ap run_class t)) (sym (ap (λ (k : Class). passed_by k false) t)) (k.stops h))
         ∙ back
 
-    pub found_break : passed_over (get_or text s.at 0) false ≡ true → {f : Found}
-        → f ≡ end_found true s.column s.at (s.at + 1) 0
-        → move_of f ≡ next_in text (position first start m)
-    found_break q g = ap move_of g ∙ sym (break_move byte rest s.at s.column m q (k.stops h)) ∙ back
+    pub run_begins : (class ≡ Break → ⊥) → (class ≡ Single → ⊥) → in_run (get_or text s.offset 0) ≡ true
+    unfolding in_run passed_over
+    run_begins b t = ap run_class (sym c) ∙ run_left class s.mark (ap (λ (k : Class). passed_by k s.mark) c ∙ k.stops h) b t
 
-    pub found_single :
-        in_run (get_or text s.at 0) ≡ false
-        → passed_over (get_or text s.at 0) false ≡ false
+    pub found_run :
+        (class ≡ Break → ⊥)
+        → (class ≡ Single → ⊥)
         → {d : ℕ}
-        → d ≡ column_after (get_or text s.at 0) s.column
-        → {f : Found}
-        → f ≡ spelling_found s.column s.at 1 (s.at + 1) d
-        → move_of f ≡ next_in text (position first start m)
-    found_single q b e g =
-        ap move_of g
-        ∙ ap (λ (d : ℕ). move false s.column s.at 1 (position (s.at + 1) d true)) e
-        ∙ sym (single_move byte rest s.at s.column m q b (k.stops h))
+        → d ≡ column_by class s.column
+        → {e : Position}
+        → RunEnd text (position (s.offset + 1) d true) e
+        → move false s.column s.offset (e.offset - s.offset) e ≡ next_in text from
+    unfolding column_after
+    found_run b t w {e} r =
+        let q = run_begins b t in
+        let run = run_begun text s h q (w ∙ ap (λ (k : Class). column_by k s.column) c) r in
+        let n : e.offset - s.offset ≡ run_length (drop s.offset text) = omega (arith, run.0) in
+        (λ i. move false s.column s.offset (n i) (position (run.0 i) (run.1 i) (r.mark i)))
+        ∙ ap
+        (λ (l : List ℕ).
+        move false s.column s.offset (run_length l)
+        (position (s.offset + run_length l) (column_over (take (run_length l) l) s.column) true))
+        (from_one text s.offset h)
+        ∙ sym (run_move byte rest s.offset s.column s.mark q)
         ∙ back

@@ -5,9 +5,7 @@ use Rattle.byte_class.specs.declared.Class.{Class}
 use Rattle.byte_class.specs.declared.Class.TheVariants.{Break, Tab, Blank, Single, Digit, Run, Continuation, Refused}
 use Rattle.places.specs.Columns.{column_over}
 use Rattle.places.specs.Places.{run_length}
-use Rattle.places.specs.Moves.{position, next_in}
-use Rattle.places.specs.declared.Spot.{Spot}
-use Rattle.places.specs.declared.Found.{Found}
+use Rattle.places.specs.Moves.{Position, next_in}
 
 -- A byte that begins and ends no token.
 abbrev pub passed_by : Class → Bool → Bool
@@ -28,21 +26,15 @@ pub record Room (text : List ℕ) (at column : ℕ) : Type 0 where
   pub within : at ≤ length text
   pub fits : column + 8 * (length text - at) < 2 ^ 32
 
-pub record Skipped (text : List ℕ) (first start : ℕ) (mark : Bool) (s : Spot) : Type 0 where
-  pub room : Room text s.at s.column
-  pub same : next_in text (position first start mark) ≡ next_in text (position s.at s.column mark)
-  pub stops : s.at < length text → passed_over (get_or text s.at 0) mark ≡ false
+-- The first byte from a position on that is not passed over, or the end.
+pub record Skipped (text : List ℕ) (from s : Position) : Type 0 where
+  pub room : Room text s.offset s.column
+  pub same : next_in text from ≡ next_in text s
+  pub stops : s.offset < length text → passed_over (get_or text s.offset 0) s.mark ≡ false
 
-pub record RunEnd (text : List ℕ) (first start : ℕ) (s : Spot) : Type 0 where
-  pub ends : s.at ≡ first + run_length (drop first text)
-  pub within : s.at ≤ length text
-  pub column : s.column ≡ column_over (take (run_length (drop first text)) (drop first text)) start
-
--- A line's end, and a single byte or a run, as they are found.
-abbrev pub end_found : Bool → ℕ → ℕ → ℕ → ℕ → Found
-end_found any c o at reached =
-    record { any = any; ends = true; column = c; offset = o; length = 0; at = at; reached = reached; mark = false }
-
-abbrev pub spelling_found : ℕ → ℕ → ℕ → ℕ → ℕ → Found
-spelling_found c o n at reached =
-    record { any = true; ends = false; column = c; offset = o; length = n; at = at; reached = reached; mark = true }
+-- Where the run that is at a position, or goes on there, ends.
+pub record RunEnd (text : List ℕ) (from s : Position) : Type 0 where
+  pub ends : s.offset ≡ from.offset + run_length (drop from.offset text)
+  pub within : s.offset ≤ length text
+  pub column : s.column ≡ column_over (take (run_length (drop from.offset text)) (drop from.offset text)) from.column
+  pub mark : s.mark ≡ from.mark

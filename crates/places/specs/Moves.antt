@@ -1,31 +1,22 @@
--- The next place from a position in a report on (01, "The scanner": "One value carries the report text ..").
-use Rattle.std.specs.Prelude.{ℕ, ◌+◌, ◌-◌, ◌*◌, Bool, true, false, cond, ◌||◌, List, [], ◌∷◌, length, take, drop, ltb}
-use Rattle.std.proofs.Math.Option.{Option, some, none}
+-- The next place from a position in a report on (01, "The scanner": "One value carries the report text .."). A position is
+-- where a value stands: the offset and column reached, and whether the line there has had a token. A move is the next
+-- place, if there is one, and the position behind it.
+use Rattle.std.specs.Prelude.{ℕ, ◌+◌, ◌-◌, ◌*◌, Bool, true, false, cond, ◌||◌, Some, None, List, [], ◌∷◌, length, take, drop, ltb}
 use Rattle.byte_class.specs.Bytes.{class_of}
 use Rattle.byte_class.specs.declared.Class.{Class}
 use Rattle.byte_class.specs.declared.Class.TheVariants.{Break, Tab, Blank, Single, Digit, Run, Continuation, Refused}
 use Rattle.places.specs.Columns.{column_after, column_over}
-use Rattle.places.specs.Places.{Place, run_length}
-use Rattle.places.specs.declared.Found.{Found}
-
--- Where a value stands: the offset and column reached, and whether the line there has had a token.
-pub record Position : Type 0 where
-  pub offset : ℕ
-  pub column : ℕ
-  pub mark : Bool
+use Rattle.places.specs.Places.{run_length}
+pub use Rattle.places.specs.declared.Position.{Position}
+pub use Rattle.places.specs.declared.Move.{Move}
 
 -- The position at an offset, a column and a mark.
 abbrev pub position : ℕ → ℕ → Bool → Position
 position o c m = record { offset = o; column = c; mark = m }
 
--- The next place, if there is one, and the position behind it.
-pub record Move : Type 0 where
-  pub found : Option Place
-  pub reached : Position
-
 -- The move that finds a place and goes to a position.
 abbrev pub move : Bool → ℕ → ℕ → ℕ → Position → Move
-move ends c o n to = record { found = some (record { ends = ends; column = c; offset = o; length = n }); reached = to }
+move ends c o n to = record { found = Some (record { ends = ends; column = c; offset = o; length = n }); reached = to }
 
 -- What stands first in the bytes from an offset on, at a class: a line's end if the line has had a token, behind the
 -- break at column 0; a single byte; a run; or what the bytes behind this one have.
@@ -43,7 +34,7 @@ move_by Refused m o c next n after rest = rest
 -- kept; "after the last token the answer is none ..", and the offset is the end's.
 unfoldable pub next_place : List ℕ → ℕ → ℕ → Bool → Move
 next_place [] o c true = move true c o 0 (position o c false)
-next_place [] o c false = record { found = none; reached = position o c false }
+next_place [] o c false = record { found = None; reached = position o c false }
 next_place (b ∷ bytes) o c m =
     move_by (class_of b) m o c (column_after b c) (run_length (b ∷ bytes))
     (column_over (take (run_length (b ∷ bytes)) (b ∷ bytes)) c) (next_place bytes (o + 1) (column_after b c) m)
@@ -57,12 +48,4 @@ next_in text p = next_place (drop p.offset text) p.offset p.column p.mark
 unfoldable pub next_within : List ℕ → Position → Move
 next_within text p =
     cond (ltb (length text) p.offset || ltb 4294967295 (p.column + 8 * (length text - p.offset)))
-    (record { found = none; reached = p }) (next_in text p)
-
--- The move that was found.
-abbrev pub move_of : Found → Move
-move_of f =
-    record {
-      found = cond f.any (some (record { ends = f.ends; column = f.column; offset = f.offset; length = f.length })) none;
-      reached = position f.at f.reached f.mark;
-    }
+    (record { found = None; reached = p }) (next_in text p)

@@ -1,15 +1,10 @@
--- A token's place in a report, and its runs (01, "The scanner").
+-- A token's place in a report, its column, offset and length, and whether it is a line's end; and its runs (01, "The
+-- scanner").
 use Rattle.std.specs.Prelude.{ℕ, suc, Bool, true, false, cond, List, [], ◌∷◌}
 use Rattle.byte_class.specs.Bytes.{class_of}
 use Rattle.byte_class.specs.declared.Class.{Class}
 use Rattle.byte_class.specs.declared.Class.TheVariants.{Break, Tab, Blank, Single, Digit, Run, Continuation, Refused}
-
--- A token's place: its column, offset and length, and whether it is a line's end.
-pub record Place : Type 0 where
-  pub ends : Bool
-  pub column : ℕ
-  pub offset : ℕ
-  pub length : ℕ
+pub use Rattle.places.specs.declared.Place.{Place}
 
 -- "other tokens are longest runs of the remaining bytes": the classes of these bytes.
 abbrev pub run_class : Class → Bool

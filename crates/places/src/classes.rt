@@ -24,23 +24,14 @@ pub(crate) fn column_by(class: Class, column: u32) -> u32
 pub(crate) fn run_class(class: Class) -> bool
     ensures { result ≡ run_class class }
 {
-    match class {
-        Class::Break => false,
-        Class::Tab => false,
-        Class::Blank => false,
-        Class::Single => false,
-        Class::Digit => true,
-        Class::Run => true,
-        Class::Continuation => true,
-        Class::Refused => false,
-    }
+    matches!(class, Class::Digit | Class::Run | Class::Continuation)
 }
 
 // The columns of a byte of a run.
 pub(crate) fn run_width(b: u8) -> u32
     ensures { result ≡ cond (is_continuation b) 0 1 }
 {
-    if is_continuation(b) { 0 } else { 1 }
+    u32::from(!is_continuation(b))
 }
 
 // Whether a byte of a class begins and ends no token, where the line has had a token or not.
@@ -49,12 +40,7 @@ pub(crate) fn passed_by(class: Class, mark: bool) -> bool
 {
     match class {
         Class::Break => !mark,
-        Class::Tab => true,
-        Class::Blank => true,
-        Class::Single => false,
-        Class::Digit => false,
-        Class::Run => false,
-        Class::Continuation => false,
-        Class::Refused => true,
+        Class::Tab | Class::Blank | Class::Refused => true,
+        _ => false,
     }
 }

@@ -3,175 +3,175 @@
 
 mod classes;
 
-ghost use Rattle.std.specs.Prelude.{◌≡◌, take, drop};
-ghost use Rattle.std.proofs.Math.Option.{none};
-ghost use Rattle.places.specs.Moves.{position, next_in, next_within, move_of};
-ghost use Rattle.places.specs.InternalFind.{Room, RunEnd, Skipped, end_found, spelling_found};
+ghost use Rattle.std.specs.Prelude.{◌≡◌, true, false, ◌-◌, ◌≤◌, take, drop};
+ghost use Rattle.places.specs.Moves.{position, move, next_in, next_within};
+ghost use Rattle.places.specs.InternalFind.{Room, RunEnd, Skipped};
 
-use byte_class::class_of;
+use byte_class::{Class, class_of};
 use classes::{column_by, passed_by, run_class, run_width};
 
-// The last column that 32 bits hold.
-const LAST: u32 = 4294967295;
-
-// An offset with its column.
-#[derive(Clone, Copy)]
-struct Spot {
-    at: usize,
-    column: u32,
+// An offset with its column, and whether the line there has had a token.
+#[derive(Clone, Copy, Debug, PartialEq, Eq)]
+pub struct Position {
+    pub offset: usize,
+    pub column: u32,
+    pub mark: bool,
 }
 
-// A token's place, if there is one, and the offset, column and mark behind it.
-#[derive(Clone, Copy)]
-pub struct Found {
-    pub any: bool,
+// A token's place: its column, offset and length, and whether it is the end of a line.
+#[derive(Clone, Copy, Debug, PartialEq, Eq)]
+pub struct Place {
     pub ends: bool,
     pub column: u32,
     pub offset: usize,
     pub length: usize,
-    pub at: usize,
-    pub reached: u32,
-    pub mark: bool,
 }
 
-// The first offset from one on whose byte is not passed over, or the end.
-fn skip(report: &[u8], first: usize, start: u32, mark: bool) -> Spot
-    requires { Room report.now first start }
-    ensures { Skipped report.now first start mark result }
+// The next token's place, if there is one, and the position behind it.
+#[derive(Clone, Copy, Debug, PartialEq, Eq)]
+pub struct Move {
+    pub found: Option<Place>,
+    pub reached: Position,
+}
+
+// The first position from one on whose byte is not passed over, or the end.
+fn skip(report: &[u8], from: Position) -> Position
+    requires { Room report.now from.offset from.column }
+    ensures { Skipped report.now from result }
 {
-    let mut at = first;
-    let mut column = start;
-    while at < report.len() {
-        let class = class_of(report[at]);
-        if !passed_by(class, mark) {
-            return Spot { at, column };
+    let mut column = from.column;
+    for offset in from.offset..report.len() {
+        let class = class_of(report[offset]);
+        if !passed_by(class, from.mark) {
+            return Position {
+                offset,
+                column,
+                ..from
+            };
         }
         column = column_by(class, column);
-        at += 1;
     }
-    Spot { at, column }
+    Position {
+        offset: report.len(),
+        column,
+        ..from
+    }
 }
 
-// Where the run that is at an offset, or goes on there, ends.
-fn run_end(report: &[u8], first: usize, start: u32) -> Spot
-    requires { Room report.now first start }
-    ensures { RunEnd report.now first start result }
+// Where the run that is at a position, or goes on there, ends.
+fn run_end(report: &[u8], from: Position) -> Position
+    requires { Room report.now from.offset from.column }
+    ensures { RunEnd report.now from result }
 {
-    let mut at = first;
-    let mut column = start;
-    while at < report.len() {
-        let b = report[at];
+    let mut column = from.column;
+    for offset in from.offset..report.len() {
+        let b = report[offset];
         if !run_class(class_of(b)) {
-            return Spot { at, column };
+            return Position {
+                offset,
+                column,
+                ..from
+            };
         }
         column += run_width(b);
-        at += 1;
     }
-    Spot { at, column }
+    Position {
+        offset: report.len(),
+        column,
+        ..from
+    }
 }
 
 // The next token's place from a position on; nothing, and the position itself, where the offset is past the report or its
 // columns have no room.
-pub fn find(report: &[u8], at: usize, column: u32, mark: bool) -> Found
-    ensures { move_of result ≡ next_within report.now (position at column mark) }
+pub fn find(report: &[u8], from: Position) -> Move
+    ensures { result ≡ next_within report.now from }
 {
-    if report.len() < at {
-        return nothing(at, column, mark);
+    let room = (u32::MAX - from.column) / 8;
+    if report.len() < from.offset || (room as usize) < report.len() - from.offset {
+        return nothing(from);
     }
-    let room = (LAST - column) / 8;
-    if (room as usize) < report.len() - at {
-        return nothing(at, column, mark);
-    }
-    find_within(report, at, column, mark)
-}
-
-// Nothing at a position.
-fn nothing(at: usize, column: u32, mark: bool) -> Found
-    ensures { move_of result ≡ record { found = none; reached = position at column mark } }
-{
-    Found {
-        any: false,
-        ends: false,
-        column,
-        offset: at,
-        length: 0,
-        at,
-        reached: column,
-        mark,
-    }
+    find_within(report, from)
 }
 
 // The next token's place where there is room.
-fn find_within(report: &[u8], at: usize, column: u32, mark: bool) -> Found
-    requires { Room report.now at column }
-    ensures { move_of result ≡ next_in report.now (position at column mark) }
+fn find_within(report: &[u8], from: Position) -> Move
+    requires { Room report.now from.offset from.column }
+    ensures { result ≡ next_in report.now from }
 {
-    let spot = skip(report, at, column, mark);
-    let offset = spot.at;
-    let place = spot.column;
-    if offset == report.len() {
-        return line_end(mark, place, offset, offset, place);
+    let here = skip(report, from);
+    if here.offset == report.len() {
+        return if here.mark {
+            line_end(here, here)
+        } else {
+            nothing(here)
+        };
     }
-    let class = class_of(report[offset]);
-    let second = offset + 1;
-    let behind = column_by(class, place);
-    if run_class(class) {
-        let end = run_end(report, second, behind);
-        let next = end.at;
-        return spelling(place, offset, next - offset, next, end.column);
-    }
-    // Of the bytes that stand here only a break is passed over where the line has had no token.
-    if passed_by(class, false) {
-        return line_end(true, place, offset, second, 0);
-    }
-    spelling(place, offset, 1, second, behind)
-}
-
-// The end of a line that has had a token, or nothing.
-fn line_end(any: bool, column: u32, offset: usize, at: usize, reached: u32) -> Found
-    ensures { result ≡ end_found any column offset at reached }
-{
-    Found {
-        any,
-        ends: true,
-        column,
-        offset,
-        length: 0,
-        at,
-        reached,
-        mark: false,
-    }
-}
-
-// A single byte or a run.
-fn spelling(column: u32, offset: usize, length: usize, at: usize, reached: u32) -> Found
-    ensures { result ≡ spelling_found column offset length at reached }
-{
-    Found {
-        any: true,
-        ends: false,
-        column,
-        offset,
-        length,
-        at,
-        reached,
+    let class = class_of(report[here.offset]);
+    let behind = Position {
+        offset: here.offset + 1,
+        column: column_by(class, here.column),
         mark: true,
+    };
+    match class {
+        Class::Break => line_end(here, behind),
+        Class::Single => spelling(here, behind),
+        _ => spelling(here, run_end(report, behind)),
+    }
+}
+
+// Nothing at a position.
+fn nothing(at: Position) -> Move
+    ensures { result ≡ record { found = None; reached = at } }
+{
+    Move {
+        found: None,
+        reached: at,
+    }
+}
+
+// The end of a line, and the position behind it.
+fn line_end(at: Position, behind: Position) -> Move
+    ensures { result ≡ move true at.column at.offset 0 (position behind.offset behind.column false) }
+{
+    let place = Place {
+        ends: true,
+        column: at.column,
+        offset: at.offset,
+        length: 0,
+    };
+    Move {
+        found: Some(place),
+        reached: Position {
+            mark: false,
+            ..behind
+        },
+    }
+}
+
+// A single byte or a run, and the position behind it.
+fn spelling(at: Position, behind: Position) -> Move
+    requires { at.offset ≤ behind.offset }
+    ensures { result ≡ move false at.column at.offset (behind.offset - at.offset) behind }
+{
+    let place = Place {
+        ends: false,
+        column: at.column,
+        offset: at.offset,
+        length: behind.offset - at.offset,
+    };
+    Move {
+        found: Some(place),
+        reached: behind,
     }
 }
 
 // The bytes of the token at a place, as a part of the report; what lies past the report is left out.
-pub fn bytes_at(report: &[u8], f: Found) -> &[u8]
-    ensures { result.now ≡ take f.length (drop f.offset report.now) }
+pub fn bytes_at(report: &[u8], place: Place) -> &[u8]
+    ensures { result.now ≡ take place.length (drop place.offset report.now) }
 {
-    let from = f.offset;
-    let n = f.length;
-    if report.len() < from {
-        return &report[..0];
-    }
-    if n <= report.len() - from {
-        let end = from + n;
-        &report[from..end]
-    } else {
-        &report[from..]
-    }
+    let from = place.offset.min(report.len());
+    let n = place.length;
+    let end = n.min(report.len() - from) + from;
+    &report[from..end]
 }

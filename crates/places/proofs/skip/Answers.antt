@@ -1,40 +1,23 @@
 -- `places::skip` meets its contract.
-use native.Mathlib.Omega.{arith}
-use borrow.Author.Tests.{not-true, not-false}
-use Prim.Native.Nat.{ℕ, ◌+◌}
-use mathlib.Core.Path.{refl, sym, ap, ◌∙◌}
-use lib.ListN.{get_or, drop}
-use Rattle.places.specs.Moves.{position, next_in}
-use Rattle.places.proofs.ClassLaws.{column_found, passed_found}
-use Rattle.places.proofs.FindLaws.{at_byte, over_move, room_next}
+use Rattle.std.proofs.Common.{◌≡◌, ℕ, true, get_or, ◌∙◌}
+use Rattle.byte_class.specs.Bytes.{class_of}
+use Rattle.places.specs.Columns.{column_by, column_after}
+use Rattle.places.specs.InternalFind.{passed_by, passed_over}
+use Rattle.places.proofs.FindLaws.{skip_on, room_next}
 use Rattle.places.proofs.skip.Goals as goal
 
-pub loop-at-init : goal.loop-at-init
-loop-at-init c = (c.requires, refl)
-
 pub returns-then-not-passed_by : goal.returns-then-not-passed_by
+unfolding passed_over
 returns-then-not-passed_by c =
-    record {
-      room = c.loop-at.invariant.0;
-      same = c.loop-at.invariant.1;
-      stops = λ _. passed_found (get_or c.args.report.now c.loop-at.at 0) c.class_of-class.ensures c.args.mark c.passed_by.ensures
-          ∙ not-true _ c.if-not-passed_by.true-raw;
-    }
+    record { room = c.loop-offset.invariant.0; same = c.loop-offset.invariant.1; stops = λ _. cc }
 
-pub column_by-column-requires : goal.column_by-column-requires
-column_by-column-requires c = omega (arith, c.loop-at.invariant.0.fits, c.loop-at.invariant.0.within)
-
-pub loop-at-preserved : goal.loop-at-preserved
-loop-at-preserved c =
-    let byte = get_or c.args.report.now c.loop-at.at 0 in
-    let column = column_found byte c.class_of-class.ensures c.loop-at.column c.column_by-column.ensures in (
-      room_next c.loop-at.invariant.0 c.loop-at-test.true byte column,
-      c.loop-at.invariant.1
-          ∙ at_byte c.args.report.now c.loop-at.at c.loop-at.column c.args.mark c.loop-at-test.true
-          ∙ over_move byte (drop (c.loop-at.at + 1) c.args.report.now) c.loop-at.at c.loop-at.column c.args.mark
-          (passed_found byte c.class_of-class.ensures c.args.mark c.passed_by.ensures ∙ not-false _ c.if-not-passed_by.false-raw)
-          ∙ ap (λ (d : ℕ). next_in c.args.report.now (position (c.loop-at.at + 1) d c.args.mark)) (sym column),
+pub loop-offset-preserved : goal.loop-offset-preserved
+unfolding passed_over column_after
+loop-offset-preserved c =
+    let byte : ℕ = get_or c.args.report.now c.loop-offset.offset 0 in
+    let over : passed_by (class_of byte) c.args.from.mark ≡ true = cc in
+    let column : c.column_by-column.result ≡ column_by (class_of byte) c.loop-offset.column = cc in (
+      room_next c.loop-offset.invariant.0 c.loop-offset-test.true byte column,
+      c.loop-offset.invariant.1
+          ∙ skip_on c.args.report.now c.loop-offset.offset c.loop-offset.column c.args.from.mark c.loop-offset-test.true over column,
     )
-
-pub returns : goal.returns
-returns c = record { room = c.loop-at.invariant.0; same = c.loop-at.invariant.1; stops = λ h. absurd (omega (arith, c.loop-at-test.false)) }

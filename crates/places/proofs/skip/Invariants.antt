@@ -1,13 +1,9 @@
 -- `places::skip` meets its contract.
-use Prim.Native.Nat.{◌-◌}
-use mathlib.Core.Path.{◌≡◌}
-use lib.ListN.{length}
+use Rattle.std.proofs.Common.{◌≡◌}
 use Rattle.places.specs.InternalFind.{Room}
 use Rattle.places.specs.Moves.{position, next_in}
 use Rattle.places.proofs.skip.Given as goal
 
-abbrev pub invariant-loop-at : goal.invariant-loop-at
-invariant-loop-at l = Room l.report l.at l.column × (next_in l.report (position l.first l.start l.mark) ≡ next_in l.report (position l.at l.column l.mark))
-
-abbrev pub decreases-loop-at : goal.decreases-loop-at
-decreases-loop-at l = length l.report - l.at
+abbrev pub invariant-loop-offset : goal.invariant-loop-offset
+invariant-loop-offset l =
+    Room l.report l.offset l.column × (next_in l.report l.from ≡ next_in l.report (position l.offset l.column l.from.mark))
