@@ -9,7 +9,7 @@
 
 use columns::{Interval, Reading, Start, Upper};
 use interpreter::Listed;
-use stored_cases::{least, load_16, pair, part};
+use stored_cases::{NODE_WORDS, RULE_WORDS, TOKEN_WORDS, load, pair, part, zeros};
 
 fn main(rt: HostRuntime) {
     let mut bytes = io::large_buffer();
@@ -22,7 +22,7 @@ fn call(shape: &[u8]) {
     let tokens = [0u32; 16384];
     let x = pair(shape, 0) * 2;
     let y = pair(shape, 2) * 2;
-    let z = least(pair(shape, 4), 4096) * 4;
+    let z = pair(shape, 4).min(4096) * 4;
     let start = start_at(pair(shape, 6) as u16, pair(shape, 8) as u16);
     let reading = readings::reading(pair(shape, 12) != 0);
     let nodes = part(shape, 14, x);
@@ -37,11 +37,11 @@ fn call(shape: &[u8]) {
 
 // Lists the captures of a stored table. There is room for one at each of 4,097 places.
 fn list(nodes: &[u8], rules: &[u8], tokens: &[u32], start: Start, reading: Reading) {
-    let mut node_words = stored_cases::room_for_nodes();
-    let mut rule_words = stored_cases::room_for_rules();
-    let mut captures = stored_cases::room_for_tokens();
-    let n = least(nodes.len() / 2, 2100);
-    let r = least(rules.len() / 2, 200);
+    let mut node_words = zeros::<u16, NODE_WORDS>();
+    let mut rule_words = zeros::<u16, RULE_WORDS>();
+    let mut captures = zeros::<u32, TOKEN_WORDS>();
+    let n = (nodes.len() / 2).min(NODE_WORDS);
+    let r = (rules.len() / 2).min(RULE_WORDS);
     list_in(
         nodes,
         rules,
@@ -65,8 +65,8 @@ fn list_in(
     second: &mut [u16],
     captures: &mut [u32],
 ) {
-    load_16(nodes, first);
-    load_16(rules, second);
+    load(nodes, first);
+    load(rules, second);
     let listed = interpreter::list(first, second, tokens, start, reading, captures);
     match listed {
         Listed::Success(_, _, count) => {

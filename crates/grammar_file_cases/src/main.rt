@@ -16,7 +16,8 @@ ghost use Rattle.grammar_file_cases.specs.Written.{nodes_written, rules_written}
 use grammar_file::FileRead;
 use slices::filled;
 use stored_cases::{
-    MOST_RECORDS, byte, label, least, load_16, mark_16, pair, part, show, show_16, show_one, triple,
+    CASES, MOST_RECORDS, NODE_WORDS, PART, RULE_WORDS, byte, label, load, pair, part, show,
+    show_each, show_one, triple, zeros,
 };
 use table::Checked;
 
@@ -39,8 +40,8 @@ const TABLE: usize = b't' as usize;
 const MARKER: u16 = 60000;
 
 fn main(rt: HostRuntime) {
-    let mut cases = stored_cases::room_for_cases();
-    let mut bytes = stored_cases::room_for_part();
+    let mut cases = zeros::<u8, CASES>();
+    let mut bytes = zeros::<u8, PART>();
     let n = stored_cases::read(&rt, b"cases", &mut cases);
     records(part(&cases, 0, n), &mut bytes);
 }
@@ -95,17 +96,17 @@ fn show_part(found: &[u8]) {
 
 // Lends x node words and y rule words for a table.
 fn lend(payload: &[u8], x: usize, y: usize) {
-    let mut nodes = stored_cases::room_for_nodes();
-    let mut rules = stored_cases::room_for_rules();
-    let n = least(x, 2100);
-    let r = least(y, 200);
+    let mut nodes = zeros::<u16, NODE_WORDS>();
+    let mut rules = zeros::<u16, RULE_WORDS>();
+    let n = x.min(NODE_WORDS);
+    let r = y.min(RULE_WORDS);
     show_table(payload, &mut nodes[0..n], &mut rules[0..r]);
 }
 
 // Prints what the check of a table answers.
 fn show_table(payload: &[u8], nodes: &mut [u16], rules: &mut [u16]) {
-    load_16(payload, nodes);
-    load_16(
+    load(payload, nodes);
+    load(
         stored_cases::part(payload, nodes.len() * 2, payload.len()),
         rules,
     );
@@ -121,18 +122,18 @@ fn show_table(payload: &[u8], nodes: &mut [u16], rules: &mut [u16]) {
 
 // Lends x node words and y rule words for a read, then checks the same file.
 fn lend_read(file: &[u8], x: usize, y: usize, words: bool) {
-    let mut nodes = stored_cases::room_for_nodes();
-    let mut rules = stored_cases::room_for_rules();
-    let n = least(x, 2100);
-    let r = least(y, 200);
+    let mut nodes = zeros::<u16, NODE_WORDS>();
+    let mut rules = zeros::<u16, RULE_WORDS>();
+    let n = x.min(NODE_WORDS);
+    let r = y.min(RULE_WORDS);
     show_read(file, &mut nodes[0..n], &mut rules[0..r], words);
     show_answer(grammar_file::check(file));
 }
 
 // Prints what a read answers, the words that it wrote where they are asked for, and whether it left the others alone.
 fn show_read(file: &[u8], nodes: &mut [u16], rules: &mut [u16], words: bool) {
-    mark_16(nodes, MARKER);
-    mark_16(rules, MARKER);
+    nodes.fill(MARKER);
+    rules.fill(MARKER);
     let answer = grammar_file::read(file, nodes, rules);
     show_answer(answer);
     show_lent(
@@ -156,9 +157,9 @@ fn show_lent(nodes: &[u16], rules: &[u16], n: usize, r: usize, words: bool) {
 
 // Prints a text and the first n words, or all where there are fewer.
 fn show_words(text: &[u8], words: &[u16], n: usize) {
-    let end = least(n, words.len());
+    let end = n.min(words.len());
     io::write_all(1, text);
-    show_16(&words[0..end]);
+    show_each(&words[0..end]);
 }
 
 // How many node words a read wrote.
@@ -172,7 +173,7 @@ fn nodes_written(answer: FileRead) -> usize
             keywords,
             start,
             mode,
-        } => least(nodes, 512) * 4,
+        } => nodes.min(512) * 4,
         FileRead::Refused(number) => 0,
     }
 }

@@ -15,7 +15,8 @@ use grammar_file::FileRead;
 use grammar_writer::FileWritten;
 use slices::filled;
 use stored_cases::{
-    MOST_RECORDS, byte, label, least, load_16, pair, part, show_either, show_one, stored, triple,
+    CASES, MOST_RECORDS, NODE_WORDS, PART, RULE_WORDS, byte, label, load, pair, part, show_either,
+    show_one, stored, triple, zeros,
 };
 
 // The kinds of calls.
@@ -29,10 +30,10 @@ const AGAIN: usize = b'a' as usize;
 const MARKER: u8 = 238;
 
 fn main(rt: HostRuntime) {
-    let mut cases = stored_cases::room_for_cases();
-    let mut file = stored_cases::room_for_part();
-    let mut words = stored_cases::room_for_part();
-    let mut out = stored_cases::room_for_part();
+    let mut cases = zeros::<u8, CASES>();
+    let mut file = zeros::<u8, PART>();
+    let mut words = zeros::<u8, PART>();
+    let mut out = zeros::<u8, PART>();
     let n = stored_cases::read(&rt, b"cases", &mut cases);
     records(part(&cases, 0, n), &mut file, &mut words, &mut out);
 }
@@ -53,7 +54,7 @@ fn records(cases: &[u8], file: &mut [u8], words: &mut [u8], out: &mut [u8]) {
 // Makes the call of the record at an index. The answer is where the record ends.
 fn record(cases: &[u8], at: usize, file: &mut [u8], words: &mut [u8], out: &mut [u8]) -> usize {
     let header = part(cases, at, 43);
-    let lent = least(triple(header, 6), out.len());
+    let lent = triple(header, 6).min(out.len());
     let first = label(cases, at, header);
     let second = stored(cases, first, part(header, 13, 15), file);
     let end = stored(cases, second, part(header, 28, 15), words);
@@ -82,10 +83,10 @@ fn call(header: &[u8], lending: &[u8], words: &[u8], out: &mut [u8]) {
 
 // Makes a call with words for its table.
 fn lend(header: &[u8], lending: &[u8], words: &[u8], out: &mut [u8], whole: bool) {
-    let mut nodes = stored_cases::room_for_nodes();
-    let mut rules = stored_cases::room_for_rules();
-    let n = least(pair(header, 9), 2100);
-    let r = least(pair(header, 11), 200);
+    let mut nodes = zeros::<u16, NODE_WORDS>();
+    let mut rules = zeros::<u16, RULE_WORDS>();
+    let n = pair(header, 9).min(NODE_WORDS);
+    let r = pair(header, 11).min(RULE_WORDS);
     write_in(
         header,
         lending,
@@ -109,8 +110,8 @@ fn write_in(
 ) {
     let node = pair(header, 2) as u16;
     let mode = pair(header, 4) as u16;
-    load_16(words, nodes);
-    load_16(part(words, nodes.len() * 2, words.len()), rules);
+    load(words, nodes);
+    load(part(words, nodes.len() * 2, words.len()), rules);
     let answer = grammar_writer::write(lending, nodes, rules, node, mode, out);
     show_written(answer, out, whole);
 }
@@ -161,8 +162,8 @@ fn again(file: &[u8], out: &mut [u8]) {
             start,
             mode,
         } => {
-            let x = least(n, 512) * 4;
-            let y = least(r, 128);
+            let x = n.min(512) * 4;
+            let y = r.min(128);
             write_again(file, &nodes[0..x], &rules[0..y], start, mode, out);
         }
         FileRead::Refused(number) => show_refused(number, out),

@@ -18,8 +18,8 @@ use columns::{Reading, Start, State, Upper};
 use interpreter::{Listed, Ran};
 use slices::filled;
 use stored_cases::{
-    MOST_RECORDS, byte, fill, label, least, load_16, load_32, mark_32, pair, part, show_32,
-    show_either, show_one, stored, triple,
+    CASES, MEMORY_WORDS, MOST_RECORDS, NODE_WORDS, PART, RULE_WORDS, TOKEN_WORDS, byte, fill,
+    label, load, pair, part, show_either, show_fours, show_one, stored, triple, zeros,
 };
 use stored_runs::remembering::{kept, lend, remember_stored};
 
@@ -48,9 +48,9 @@ const AGAIN: usize = 1200;
 const AGAIN_CONTENTS: usize = 3;
 
 fn main(rt: HostRuntime) {
-    let mut cases = stored_cases::room_for_cases();
-    let mut table = stored_cases::room_for_part();
-    let mut text = stored_cases::room_for_part();
+    let mut cases = zeros::<u8, CASES>();
+    let mut table = zeros::<u8, PART>();
+    let mut text = zeros::<u8, PART>();
     let n = stored_cases::read(&rt, b"cases", &mut cases);
     records(part(&cases, 0, n), &mut table, &mut text);
 }
@@ -107,7 +107,7 @@ fn call(header: &[u8], nodes: &[u8], rules: &[u8], tokens: &[u8]) {
 fn run(nodes: &[u8], rules: &[u8], tokens: &[u8], start: Start, reading: Reading) {
     let ran = stored_runs::run_stored(nodes, rules, tokens, start, reading);
     show_run(ran);
-    let mut memory = stored_cases::room_for_tokens();
+    let mut memory = zeros::<u32, TOKEN_WORDS>();
     let child = pair(nodes, start.node as usize * 8 + 2) as u32;
     again(
         nodes,
@@ -149,8 +149,8 @@ fn remember(
     reading: Reading,
     lent: &[u8],
 ) {
-    let mut memory = stored_cases::room_for_memory();
-    let x = least(triple(lent, 0), 65536);
+    let mut memory = zeros::<u32, MEMORY_WORDS>();
+    let x = triple(lent, 0).min(MEMORY_WORDS);
     remember_in(
         nodes,
         rules,
@@ -274,14 +274,14 @@ fn show_run(ran: Ran) {
 
 // Makes a call that is lent words for its captures, as many as the end of a header tells.
 fn list(nodes: &[u8], rules: &[u8], tokens: &[u8], start: Start, reading: Reading, lent: &[u8]) {
-    let mut node_words = stored_cases::room_for_nodes();
-    let mut rule_words = stored_cases::room_for_rules();
-    let mut token_words = stored_cases::room_for_tokens();
-    let mut captures = stored_cases::room_for_tokens();
-    let n = least(nodes.len() / 2, 2100);
-    let r = least(rules.len() / 2, 200);
-    let t = least(tokens.len() / 4, 16500);
-    let c = least(triple(lent, 0), 16500);
+    let mut node_words = zeros::<u16, NODE_WORDS>();
+    let mut rule_words = zeros::<u16, RULE_WORDS>();
+    let mut token_words = zeros::<u32, TOKEN_WORDS>();
+    let mut captures = zeros::<u32, TOKEN_WORDS>();
+    let n = (nodes.len() / 2).min(NODE_WORDS);
+    let r = (rules.len() / 2).min(RULE_WORDS);
+    let t = (tokens.len() / 4).min(TOKEN_WORDS);
+    let c = triple(lent, 0).min(TOKEN_WORDS);
     list_in(
         nodes,
         rules,
@@ -307,10 +307,10 @@ fn list_in(
     words: &mut [u32],
     captures: &mut [u32],
 ) {
-    load_16(nodes, first);
-    load_16(rules, second);
-    load_32(tokens, words);
-    mark_32(captures, MARKER);
+    load(nodes, first);
+    load(rules, second);
+    load(tokens, words);
+    captures.fill(MARKER);
     show_list(first, second, words, start, reading, captures);
 }
 
@@ -347,8 +347,8 @@ fn show_list(
 
 // Prints the words of n captures, a bar before each fourth, then how many others there are, and whether they are 0.
 fn show_listed(words: &[u32], n: usize) {
-    let end = least(least(n, MOST_SHOWN) * 4, words.len());
-    show_32(&words[0..end]);
+    let end = (n.min(MOST_SHOWN) * 4).min(words.len());
+    show_fours(&words[0..end]);
     show_one(b" |", (words.len() - end) as u64);
     show_either(filled(words, end, 0), b" zeros", b" changed");
 }

@@ -7,15 +7,15 @@
 //   l  the line of the file and the report
 #![tactic(auto)]
 
-use stored_cases::{MOST_RECORDS, byte, label, part, stored, triple};
+use stored_cases::{CASES, MOST_RECORDS, PART, byte, label, part, stored, triple, zeros};
 
 // The kinds of calls.
 const LINE: usize = b'l' as usize;
 
 fn main(rt: HostRuntime) {
-    let mut cases = stored_cases::room_for_cases();
-    let mut file = stored_cases::room_for_part();
-    let mut report = stored_cases::room_for_part();
+    let mut cases = zeros::<u8, CASES>();
+    let mut file = zeros::<u8, PART>();
+    let mut report = zeros::<u8, PART>();
     let n = stored_cases::read(&rt, b"cases", &mut cases);
     records(part(&cases, 0, n), &mut file, &mut report);
 }

@@ -9,7 +9,7 @@
 #![tactic(auto)]
 
 use columns::Reading;
-use stored_cases::{MOST_RECORDS, byte, label, part, triple};
+use stored_cases::{CASES, MOST_RECORDS, byte, label, part, triple, zeros};
 
 // The kinds of calls.
 const RUN: usize = b'r' as usize;
@@ -19,7 +19,7 @@ const RUN_BY_2014: usize = b'R' as usize;
 const LINE: usize = b'l' as usize;
 
 fn main(rt: HostRuntime) {
-    let mut cases = stored_cases::room_for_cases();
+    let mut cases = zeros::<u8, CASES>();
     let n = stored_cases::read(&rt, b"cases", &mut cases);
     records(part(&cases, 0, n));
 }

@@ -18,8 +18,8 @@ ghost use Rattle.scanner_cases.specs.Handing.{is_token, is_word, are_words, hold
 use scanner::{Handed, Step};
 use slices::filled;
 use stored_cases::{
-    MOST_RECORDS, byte, label, least, mark_32, part, show, show_32, show_either, show_one, stored,
-    triple,
+    CASES, MOST_RECORDS, PART, TOKEN_WORDS, byte, label, part, show, show_either, show_fours,
+    show_one, stored, triple, zeros,
 };
 use token_words::Scanned;
 
@@ -54,9 +54,9 @@ struct Walk {
 }
 
 fn main(rt: HostRuntime) {
-    let mut cases = stored_cases::room_for_cases();
-    let mut file = stored_cases::room_for_part();
-    let mut report = stored_cases::room_for_part();
+    let mut cases = zeros::<u8, CASES>();
+    let mut file = zeros::<u8, PART>();
+    let mut report = zeros::<u8, PART>();
     let n = stored_cases::read(&rt, b"cases", &mut cases);
     records(part(&cases, 0, n), &mut file, &mut report);
 }
@@ -114,8 +114,8 @@ fn show_next(file: &[u8], report: &[u8], at: usize, column: u32, mark: bool) {
 
 // Makes a call that is lent x words.
 fn lend(file: &[u8], report: &[u8], x: usize, all: bool) {
-    let mut tokens = stored_cases::room_for_tokens();
-    let n = least(x, 16500);
+    let mut tokens = zeros::<u32, TOKEN_WORDS>();
+    let n = x.min(TOKEN_WORDS);
     show_lent(file, report, &mut tokens[0..n], all);
 }
 
@@ -129,7 +129,7 @@ fn show_lent(file: &[u8], report: &[u8], tokens: &mut [u32], all: bool) {
 
 // Prints what a scan answers and wrote. The answer here is the number of tokens, 0 where the scan was refused.
 fn show_scan(file: &[u8], report: &[u8], tokens: &mut [u32]) -> usize {
-    mark_32(tokens, MARKER);
+    tokens.fill(MARKER);
     let count = show_scanned(token_words::scan(file, report, tokens));
     show_tokens(tokens, count);
     count
@@ -287,28 +287,28 @@ fn show_handed(handed: Handed) {
 
 // Prints the words of n tokens, and whether a scan left those behind them alone.
 fn show_tokens(words: &[u32], n: usize) {
-    let end = least(least(n, MOST_HANDED) * 4, words.len());
+    let end = (n.min(MOST_HANDED) * 4).min(words.len());
     show_first(words, n, end);
     show_either(filled(words, end, MARKER), b" | kept", b" | changed");
 }
 
 // Prints the words of n tokens, those before `end`, where they are few, else those of the last two and a sum of all.
 fn show_first(words: &[u32], n: usize, end: usize) {
-    let last = least(end, words.len());
+    let last = end.min(words.len());
     if n <= FEW {
-        show_32(&words[0..last]);
+        show_fours(&words[0..last]);
         return;
     }
     if last >= 8 {
         let from = last - 8;
-        show_32(&words[from..last]);
+        show_fours(&words[from..last]);
     }
     show_one(b" | sum", sum(words, last));
 }
 
 // A sum of the first `end` words that tells their order too.
 fn sum(words: &[u32], end: usize) -> u64 {
-    let last = least(end, words.len());
+    let last = end.min(words.len());
     let mut total = 0;
     let mut i = 0;
     while i < last {

@@ -11,7 +11,8 @@
 use columns::Capture;
 use shown_text::ShownPart;
 use stored_cases::{
-    MOST_RECORDS, byte, label, least, load_32, part, quad, show, show_one, stored, triple,
+    CASES, MOST_RECORDS, PART, TOKEN_WORDS, byte, label, load, part, quad, show, show_one, stored,
+    triple, zeros,
 };
 
 // The kinds of calls.
@@ -23,10 +24,10 @@ const FEW: usize = 64;
 const END: usize = 32;
 
 fn main(rt: HostRuntime) {
-    let mut cases = stored_cases::room_for_cases();
-    let mut file = stored_cases::room_for_part();
-    let mut report = stored_cases::room_for_part();
-    let mut text = stored_cases::room_for_part();
+    let mut cases = zeros::<u8, CASES>();
+    let mut file = zeros::<u8, PART>();
+    let mut report = zeros::<u8, PART>();
+    let mut text = zeros::<u8, PART>();
     let n = stored_cases::read(&rt, b"cases", &mut cases);
     records(part(&cases, 0, n), &mut file, &mut report, &mut text);
 }
@@ -93,8 +94,8 @@ fn call<'a>(header: &[u8], file: &'a [u8], report: &'a [u8], tokens: &[u8]) {
 
 // Makes a call with words for its tokens, at most 16,500 of them.
 fn lend<'a>(file: &'a [u8], report: &'a [u8], tokens: &[u8], capture: Capture) {
-    let mut words = stored_cases::room_for_tokens();
-    let n = least(tokens.len() / 4, 16500);
+    let mut words = zeros::<u32, TOKEN_WORDS>();
+    let n = (tokens.len() / 4).min(TOKEN_WORDS);
     show_in(file, report, tokens, capture, &mut words[0..n]);
 }
 
@@ -106,7 +107,7 @@ fn show_in<'a>(
     capture: Capture,
     words: &mut [u32],
 ) {
-    load_32(tokens, words);
+    load(tokens, words);
     show_place(shown_text::shown(file, report, words, capture));
     show_text(shown_text::text(file, report, words, capture));
 }

@@ -10,30 +10,43 @@
 // script under `cases/`; a new call is an arm more in the program over that crate.
 #![tactic(auto)]
 
-ghost use Rattle.std.specs.Prelude.{◌-◌, ◌≤◌, ◌<◌, min, ◌≡◌, length, take, drop, get_or};
-ghost use Rattle.std.proofs.Math.Seq.{paste};
+ghost use Rattle.std.specs.Prelude.{◌≡◌, ℕ, ◌*◌, ◌+◌, ◌<◌, List, length, take, drop, get_or, IfOk};
 ghost use Rattle.io.specs.Counts.{IsPrefixLen};
 ghost use Rattle.table.specs.Words.{tabulate};
-ghost use Rattle.stored_cases.specs.Numbers.{pair_at, triple_at, quad_at, first_pairs, first_quads};
-ghost use Rattle.stored_cases.specs.Parts.{here, past, label_end, room, filled_by, repeated, stored_bytes, stored_end};
+ghost use Rattle.stored_cases.specs.Numbers.{pair_at, triple_at, quad_at};
+ghost use Rattle.stored_cases.specs.Parts.{past, label_end, room, filled_by, repeated, stored_bytes, stored_end};
+ghost use Rattle.stored_cases.specs.InternalWords.{pair_from_rest, quad_from_rest};
 
+use files::{STDERR, STDOUT};
+use slices::front;
 use std::fs::File;
 use std::io::{Error, ErrorKind};
-use std::os::fd::AsRawFd;
 use std::rt::Files;
-
-// The number that the system gives standard error.
-const STDERR: i32 = 2;
 
 // At least the number of records of a file.
 pub const MOST_RECORDS: u32 = 100000;
+
+// Room for a file of cases and for a part of a record, in bytes.
+pub const CASES: usize = 1000000;
+
+pub const PART: usize = 140000;
+
+// Node words, rule words and words of tokens to lend, more of each than are allowed.
+pub const NODE_WORDS: usize = 2100;
+
+pub const RULE_WORDS: usize = 200;
+
+pub const TOKEN_WORDS: usize = 16500;
+
+// Words to remember in.
+pub const MEMORY_WORDS: usize = 65536;
 
 // Reads a file, and says how many bytes it gave: none if it cannot be opened.
 pub fn read(rt: &(impl Files<File = File> + Alloc), path: &[u8], bytes: &mut [u8]) -> usize
     ensures { IsPrefixLen result bytes.new }
 {
-    match open(rt, path) {
-        Ok(file) => io::read_full(file.as_raw_fd(), bytes),
+    match read_path(rt, path, bytes) {
+        Ok(n) => n,
         Err(error) => {
             fail(rt, path, &error);
             0
@@ -41,10 +54,16 @@ pub fn read(rt: &(impl Files<File = File> + Alloc), path: &[u8], bytes: &mut [u8
     }
 }
 
-// Opens a file for reading. std takes a path as text, so one that is not UTF-8 is refused.
-fn open(files: &impl Files<File = File>, path: &[u8]) -> std::io::Result<File> {
+// Reads a file. std takes a path as text, so one that is not UTF-8 is refused.
+fn read_path(
+    files: &impl Files<File = File>,
+    path: &[u8],
+    bytes: &mut [u8],
+) -> std::io::Result<usize>
+    ensures { IfOk result (λ n. IsPrefixLen n bytes.new) }
+{
     match std::str::from_utf8(path) {
-        Ok(path) => File::open(files, path),
+        Ok(path) => files::read(files, path, bytes),
         Err(_) => Err(Error::from(ErrorKind::InvalidFilename)),
     }
 }
@@ -67,165 +86,122 @@ fn without_number(text: &str) -> &str {
     }
 }
 
-// 1,000,000 zeros, for a file of cases; only their number is said.
-pub fn room_for_cases() -> [u8; 1000000]
-    ensures { 1000000 ≡ length result }
+// N zeros, as room to lend; only their number is said.
+pub fn zeros<T: Default + Copy, const N: usize>() -> [T; N]
+    ensures { N ≡ length result }
 {
-    [0; 1000000]
-}
-
-// 140,000 zeros, for a part of a record.
-pub fn room_for_part() -> [u8; 140000]
-    ensures { 140000 ≡ length result }
-{
-    [0; 140000]
-}
-
-// Node words, rule words and words of tokens to lend, more of each than are allowed.
-pub fn room_for_nodes() -> [u16; 2100]
-    ensures { 2100 ≡ length result }
-{
-    [0; 2100]
-}
-
-pub fn room_for_rules() -> [u16; 200]
-    ensures { 200 ≡ length result }
-{
-    [0; 200]
-}
-
-pub fn room_for_tokens() -> [u32; 16500]
-    ensures { 16500 ≡ length result }
-{
-    [0; 16500]
-}
-
-// 65,536 zeros, for words to remember in.
-pub fn room_for_memory() -> [u32; 65536]
-    ensures { 65536 ≡ length result }
-{
-    [0; 65536]
+    [T::default(); N]
 }
 
 // The n bytes from an index on, or as many as there are.
 pub fn part(bytes: &[u8], at: usize, n: usize) -> &[u8]
     ensures { result.now ≡ take n (drop at bytes.now) }
 {
-    let from = least(at, bytes.len());
-    let end = from + least(n, bytes.len() - from);
-    &bytes[from..end]
+    front(rest_of(bytes, at), n)
+}
+
+// The bytes from an index on, none where it lies behind them.
+fn rest_of(bytes: &[u8], at: usize) -> &[u8]
+    ensures { result.now ≡ drop at bytes.now }
+{
+    &bytes[at.min(bytes.len())..]
+}
+
+// The N bytes from an index on, 0 for each that is not there.
+fn bytes_at<const N: usize>(bytes: &[u8], at: usize) -> [u8; N]
+    ensures { (k : ℕ) → k < N → get_or result k 0 ≡ get_or bytes.now (at + k) 0 }
+{
+    let mut found = [0; N];
+    let there = part(bytes, at, N);
+    found[..there.len()].copy_from_slice(there);
+    found
 }
 
 // The byte at an index.
 pub fn byte(bytes: &[u8], at: usize) -> usize
     ensures { (result ≡ get_or bytes.now at 0) × (result < 256) }
 {
-    if at < bytes.len() { wide(bytes[at]) } else { 0 }
-}
-
-fn wide(byte: u8) -> usize
-    ensures { (result ≡ byte) × (result < 256) }
-{
-    byte as usize
+    bytes.get(at).copied().unwrap_or(0) as usize
 }
 
 // The number of two bytes at an index.
 pub fn pair(bytes: &[u8], at: usize) -> usize
     ensures { (result ≡ pair_at bytes.now at) × (result < 65536) }
 {
-    if at < bytes.len() {
-        byte(bytes, at) * 256 + byte(bytes, at + 1)
-    } else {
-        0
-    }
+    u16::read(bytes, at) as usize
 }
 
+#[tactic(auto, unfolding(crate::specs::Numbers::triple_at, crate::specs::Numbers::pair_at))]
 // The number of three bytes at an index.
 pub fn triple(bytes: &[u8], at: usize) -> usize
     ensures { (result ≡ triple_at bytes.now at) × (result < 16777216) }
 {
-    if at < bytes.len() {
-        byte(bytes, at) * 65536 + pair(bytes, at + 1)
-    } else {
-        0
-    }
+    let [high, middle, low] = bytes_at::<3>(bytes, at);
+    u32::from_be_bytes([0, high, middle, low]) as usize
 }
 
 // The number of four bytes at an index.
 pub fn quad(bytes: &[u8], at: usize) -> u32
     ensures { result ≡ quad_at bytes.now at }
 {
-    if at < bytes.len() {
-        (byte(bytes, at) * 16777216 + triple(bytes, at + 1)) as u32
-    } else {
-        0
+    u32::read(bytes, at)
+}
+
+// A word of a table, of two bytes in a file of cases, or of tokens, of four.
+pub trait Word: Copy {
+    ghost SIZE: { ℕ };
+
+    // The word at an index.
+    ghost word_at: { List ℕ → ℕ → Self };
+
+    // How many bytes it has in a file of cases.
+    const SIZE: usize;
+
+    fn read(bytes: &[u8], at: usize) -> Self
+        ensures { result ≡ word_at bytes.now at };
+
+    // The word at an index is the first of the bytes from there on.
+    ghost from_rest: { (bytes : List ℕ) (i : ℕ) → word_at (drop i bytes) 0 ≡ word_at bytes i };
+}
+
+impl Word for u16 {
+    ghost SIZE = { 2 };
+
+    ghost word_at = { pair_at };
+
+    ghost from_rest = { pair_from_rest };
+
+    const SIZE: usize = 2;
+
+    #[tactic(auto, unfolding(crate::specs::Numbers::pair_at))]
+    fn read(bytes: &[u8], at: usize) -> u16 {
+        u16::from_be_bytes(bytes_at(bytes, at))
     }
 }
 
-fn word(bytes: &[u8], at: usize) -> u16
-    ensures { result ≡ pair_at bytes.now at }
-{
-    pair(bytes, at) as u16
-}
+impl Word for u32 {
+    ghost SIZE = { 4 };
 
-// Sets the words to the numbers of two bytes, from the start on.
-pub fn load_16(bytes: &[u8], words: &mut [u16])
-    ensures { words.new ≡ first_pairs (length words.old) bytes.now }
-{
-    let mut i = 0;
-    while i < words.len() {
-        words[i] = word(bytes, i * 2);
-        i += 1;
+    ghost word_at = { quad_at };
+
+    ghost from_rest = { quad_from_rest };
+
+    const SIZE: usize = 4;
+
+    #[tactic(auto, unfolding(crate::specs::Numbers::quad_at, crate::specs::Numbers::triple_at, crate::specs::Numbers::pair_at))]
+    fn read(bytes: &[u8], at: usize) -> u32 {
+        u32::from_be_bytes(bytes_at(bytes, at))
     }
 }
 
-// Sets the words to the numbers of four bytes, from the start on.
-pub fn load_32(bytes: &[u8], words: &mut [u32])
-    ensures { words.new ≡ first_quads (length words.old) bytes.now }
+// Sets the words to those of the bytes, from the start on.
+pub fn load<W: Word>(bytes: &[u8], words: &mut [W])
+    ensures { words.new ≡ tabulate (length words.old) (λ i. W.word_at bytes.now (i * W.SIZE)) }
 {
-    let mut i = 0;
-    while i < words.len() {
-        words[i] = quad(bytes, i * 4);
-        i += 1;
-    }
-}
-
-// Sets every word to a value.
-pub fn mark_16(words: &mut [u16], value: u16)
-    ensures { words.new ≡ tabulate (length words.old) (λ _. value) }
-{
-    let mut i = 0;
-    while i < words.len() {
-        words[i] = value;
-        i += 1;
-    }
-}
-
-// The same for words of tokens.
-pub fn mark_32(tokens: &mut [u32], value: u32)
-    ensures { tokens.new ≡ tabulate (length tokens.old) (λ _. value) }
-{
-    let mut i = 0;
-    while i < tokens.len() {
-        tokens[i] = value;
-        i += 1;
-    }
-}
-
-pub fn least(a: usize, b: usize) -> usize
-    ensures { result ≡ min a b }
-{
-    if a < b { a } else { b }
-}
-
-// How many of n bytes are there from an index on.
-fn count_here(cases: &[u8], at: usize, n: usize) -> usize
-    ensures { result ≡ here cases.now at n }
-{
-    if at > cases.len() {
-        0
-    } else {
-        least(n, cases.len() - at)
+    let mut rest = bytes;
+    for word in words.iter_mut() {
+        *word = W::read(rest, 0);
+        rest = rest_of(rest, W::SIZE);
     }
 }
 
@@ -233,40 +209,29 @@ fn count_here(cases: &[u8], at: usize, n: usize) -> usize
 pub fn after(cases: &[u8], at: usize, n: usize) -> usize
     ensures { result ≡ past cases.now at n }
 {
-    at + count_here(cases, at, n)
+    at + part(cases, at, n).len()
 }
 
 // How many bytes there are from one index to before another.
 fn room_of(bytes: &[u8], from: usize, end: usize) -> usize
     ensures { result ≡ room bytes.now from end }
 {
-    let last = least(end, bytes.len());
-    if last < from { 0 } else { last - from }
+    end.min(bytes.len()).saturating_sub(from)
 }
 
-// Copies n bytes from one index on to those from another index on.
-fn copy(cases: &[u8], at: usize, bytes: &mut [u8], from: usize, n: usize)
-    requires { (n ≤ length cases.now - at) × (n ≤ length bytes.old - from) }
-    ensures { bytes.new ≡ paste bytes.old from (drop at cases.now) n }
-{
-    let mut i = 0;
-    while i < n {
-        bytes[from + i] = cases[at + i];
-        i += 1;
-    }
-}
-
+#[tactic(auto, using(crate::proofs::Laws::filled))]
 // Sets the bytes from one index to before another to those of the cases from `at` on, as far as there are both. The
 // answer is where the bytes taken end.
 pub fn fill(cases: &[u8], at: usize, bytes: &mut [u8], from: usize, end: usize) -> usize
     ensures value { result ≡ past cases.now at (room bytes.old from end) }
     ensures bytes_after { bytes.new ≡ filled_by cases.now at bytes.old from end }
 {
-    let n = count_here(cases, at, room_of(bytes, from, end));
-    copy(cases, at, bytes, from, n);
-    at + n
+    let taken = part(cases, at, room_of(bytes, from, end));
+    slices::put(taken, bytes, from);
+    at + taken.len()
 }
 
+#[tactic(auto, using(crate::proofs::Laws::repeating_all, crate::proofs::Laws::repeating_more), unfolding(crate::specs::Parts::repeated))]
 // Sets each byte from one index to before another to the one at the distance before it, one after the other; none where
 // the distance leads before the start.
 fn repeat(bytes: &mut [u8], from: usize, end: usize, distance: usize)
@@ -275,14 +240,12 @@ fn repeat(bytes: &mut [u8], from: usize, end: usize, distance: usize)
     if distance > from {
         return;
     }
-    let last = least(end, bytes.len());
-    let mut i = from;
-    while i < last {
+    for i in from..end.min(bytes.len()) {
         bytes[i] = bytes[i - distance];
-        i += 1;
     }
 }
 
+#[tactic(auto, unfolding(crate::specs::Parts::stored_bytes, crate::specs::Parts::stored_end))]
 // Puts a part together by five numbers of three bytes. The answer is where its bytes end.
 pub fn stored(cases: &[u8], at: usize, five: &[u8], bytes: &mut [u8]) -> usize
     ensures value { result ≡ stored_end cases.now at five.now bytes.old }
@@ -302,8 +265,8 @@ pub fn label(cases: &[u8], at: usize, header: &[u8]) -> usize
 {
     let n = byte(header, 1);
     let from = after(cases, at, header.len());
-    io::write_all(1, part(cases, from, n));
-    io::write_all(1, b": ");
+    io::write_all(STDOUT, part(cases, from, n));
+    io::write_all(STDOUT, b": ");
     after(cases, from, n)
 }
 
@@ -311,11 +274,7 @@ pub fn label(cases: &[u8], at: usize, header: &[u8]) -> usize
 pub fn show_either(test: bool, first: &[u8], second: &[u8]) -> bool
     ensures { result ≡ test }
 {
-    if test {
-        io::write_all(1, first);
-    } else {
-        io::write_all(1, second);
-    }
+    io::write_all(STDOUT, if test { first } else { second });
     test
 }
 
@@ -323,9 +282,9 @@ pub fn show_either(test: bool, first: &[u8], second: &[u8]) -> bool
 pub fn show_one(text: &[u8], number: u64) -> usize
     ensures { result ≡ 1 }
 {
-    io::write_all(1, text);
-    io::write_all(1, b" ");
-    io::print_decimal(1, number);
+    io::write_all(STDOUT, text);
+    io::write_all(STDOUT, b" ");
+    io::print_decimal(STDOUT, number);
     1
 }
 
@@ -333,47 +292,27 @@ pub fn show_one(text: &[u8], number: u64) -> usize
 pub fn show(text: &[u8], numbers: &[u64]) -> usize
     ensures { result ≡ length numbers.now }
 {
-    io::write_all(1, text);
-    let mut i = 0;
-    while i < numbers.len() {
-        show_one(b"", numbers[i]);
-        i += 1;
-    }
-    i
+    io::write_all(STDOUT, text);
+    show_each(numbers)
 }
 
 // Prints words, a blank before each. The answer is how many there were.
-pub fn show_16(words: &[u16]) -> usize
+pub fn show_each<W: Copy + Into<u64>>(words: &[W]) -> usize
     ensures { result ≡ length words.now }
 {
-    let mut shown = 0;
-    while shown < words.len() {
-        show_one(b"", wide_16(words[shown]));
-        shown += 1;
+    for word in words {
+        show_one(b"", (*word).into());
     }
-    shown
+    words.len()
 }
 
-fn wide_16(word: u16) -> u64 {
-    word as u64
-}
-
-// Prints words of tokens or captures, a bar before each fourth. The answer is how many there were.
-pub fn show_32(words: &[u32]) -> usize
+// Prints words of tokens or captures, a bar before each four. The answer is how many there were.
+pub fn show_fours(words: &[u32]) -> usize
     ensures { result ≡ length words.now }
 {
-    let mut shown = 0;
-    while shown < words.len() {
-        show_fourth(shown, words[shown]);
-        shown += 1;
+    for four in words.chunks(4) {
+        io::write_all(STDOUT, b" |");
+        show_each(four);
     }
-    shown
-}
-
-// Prints the word at an index, a bar before it if the index is a multiple of 4.
-fn show_fourth(i: usize, word: u32) {
-    if i % 4 == 0 {
-        io::write_all(1, b" |");
-    }
-    show_one(b"", word as u64);
+    words.len()
 }

@@ -12,7 +12,7 @@ ghost use Rattle.line.specs.Line.{line_count};
 
 use columns::{Interval, Reading, Start, State, Upper};
 use interpreter::Ran;
-use stored_cases::{byte, least, load_16, load_32, pair, quad, show_one};
+use stored_cases::{NODE_WORDS, RULE_WORDS, TOKEN_WORDS, byte, load, pair, quad, show_one, zeros};
 
 // The start of 18 bytes: the flag (0 is clear) and whether the upper end is a column (0 is without end) in one byte each;
 // the node and the mode in two each; the place, the lower end and the upper end in four each.
@@ -57,10 +57,10 @@ fn is_set(flag: usize) -> bool
 pub fn run(nodes: &[u8], rules: &[u8], tokens: &[u32], start: Start, reading: Reading) -> Ran
     ensures { StoredAnswers reading nodes.now rules.now tokens.now start result }
 {
-    let mut node_words = stored_cases::room_for_nodes();
-    let mut rule_words = stored_cases::room_for_rules();
-    let x = least(nodes.len() / 2, 2100);
-    let y = least(rules.len() / 2, 200);
+    let mut node_words = zeros::<u16, NODE_WORDS>();
+    let mut rule_words = zeros::<u16, RULE_WORDS>();
+    let x = (nodes.len() / 2).min(NODE_WORDS);
+    let y = (rules.len() / 2).min(RULE_WORDS);
     run_in(
         nodes,
         rules,
@@ -85,8 +85,8 @@ fn run_in(
     ensures { Answers reading (first_pairs (length first.old) nodes.now)
         (first_pairs (length second.old) rules.now) tokens.now start result }
 {
-    load_16(nodes, first);
-    load_16(rules, second);
+    load(nodes, first);
+    load(rules, second);
     interpreter::run(first, second, tokens, start, reading)
 }
 
@@ -94,8 +94,8 @@ fn run_in(
 pub fn run_stored(nodes: &[u8], rules: &[u8], tokens: &[u8], start: Start, reading: Reading) -> Ran
     ensures { StoredAnswers reading nodes.now rules.now (quads 16500 tokens.now) start result }
 {
-    let mut token_words = stored_cases::room_for_tokens();
-    let z = least(tokens.len() / 4, 16500);
+    let mut token_words = zeros::<u32, TOKEN_WORDS>();
+    let z = (tokens.len() / 4).min(TOKEN_WORDS);
     run_over(nodes, rules, tokens, start, reading, &mut token_words[0..z])
 }
 
@@ -111,7 +111,7 @@ fn run_over(
     ensures { StoredAnswers reading nodes.now rules.now
         (first_quads (length words.old) tokens.now) start result }
 {
-    load_32(tokens, words);
+    load(tokens, words);
     run(nodes, rules, words, start, reading)
 }
 

@@ -6,7 +6,7 @@ ghost use Rattle.stored_runs.specs.Remembered.{slot_word, lent_word, holds, Reme
 
 use columns::{Reading, Start};
 use interpreter::Ran;
-use stored_cases::{least, load_16, load_32};
+use stored_cases::{NODE_WORDS, RULE_WORDS, TOKEN_WORDS, load, zeros};
 
 // A word of what looks like slots that remember an outcome of a node: 1 for a failure, 2 for a success. They are for mode
 // equal, place 0, from 0 without end, flag clear, and the success leaves that state.
@@ -69,12 +69,12 @@ pub fn remember_stored(
     ensures { StoredRemembers reading nodes.now rules.now (quads 16500 tokens.now) start
         memory.old result memory.new }
 {
-    let mut node_words = stored_cases::room_for_nodes();
-    let mut rule_words = stored_cases::room_for_rules();
-    let mut token_words = stored_cases::room_for_tokens();
-    let x = least(nodes.len() / 2, 2100);
-    let y = least(rules.len() / 2, 200);
-    let z = least(tokens.len() / 4, 16500);
+    let mut node_words = zeros::<u16, NODE_WORDS>();
+    let mut rule_words = zeros::<u16, RULE_WORDS>();
+    let mut token_words = zeros::<u32, TOKEN_WORDS>();
+    let x = (nodes.len() / 2).min(NODE_WORDS);
+    let y = (rules.len() / 2).min(RULE_WORDS);
+    let z = (tokens.len() / 4).min(TOKEN_WORDS);
     remember_in(
         nodes,
         rules,
@@ -104,8 +104,8 @@ fn remember_in(
         (first_pairs (length second.old) rules.now)
         (first_quads (length words.old) tokens.now) start memory.old result memory.new }
 {
-    load_16(nodes, first);
-    load_16(rules, second);
-    load_32(tokens, words);
+    load(nodes, first);
+    load(rules, second);
+    load(tokens, words);
     interpreter::remember(first, second, words, start, reading, memory)
 }

@@ -13,15 +13,18 @@ ghost use Rattle.well_formed.specs.Check.{check_answer, numbers};
 ghost use Rattle.stored_cases.specs.Numbers.{first_pairs, pairs};
 ghost use Rattle.well_formed_cases.specs.Repeats.{number_of, stored_number};
 
-use stored_cases::{MOST_RECORDS, byte, label, load_16, pair, part, show_one};
+use stored_cases::{
+    CASES, MOST_RECORDS, NODE_WORDS, PART, RULE_WORDS, byte, label, load, pair, part, show_one,
+    zeros,
+};
 use well_formed::Verdict;
 
 // The kinds of calls.
 const CHECK: usize = b'c' as usize;
 
 fn main(rt: HostRuntime) {
-    let mut cases = stored_cases::room_for_cases();
-    let mut bytes = stored_cases::room_for_part();
+    let mut cases = zeros::<u8, CASES>();
+    let mut bytes = zeros::<u8, PART>();
     let n = stored_cases::read(&rt, b"cases", &mut cases);
     records(part(&cases, 0, n), &mut bytes);
 }
@@ -75,10 +78,10 @@ fn check_again(nodes: &[u8], rules: &[u8], again: usize) {
 fn answer(nodes: &[u8], rules: &[u8]) -> Verdict
     ensures { numbers result ≡ check_answer (pairs 2100 nodes.now) (pairs 200 rules.now) }
 {
-    let mut node_words = stored_cases::room_for_nodes();
-    let mut rule_words = stored_cases::room_for_rules();
-    let x = stored_cases::least(nodes.len() / 2, 2100);
-    let y = stored_cases::least(rules.len() / 2, 200);
+    let mut node_words = zeros::<u16, NODE_WORDS>();
+    let mut rule_words = zeros::<u16, RULE_WORDS>();
+    let x = (nodes.len() / 2).min(NODE_WORDS);
+    let y = (rules.len() / 2).min(RULE_WORDS);
     check(nodes, rules, &mut node_words[0..x], &mut rule_words[0..y])
 }
 
@@ -88,8 +91,8 @@ fn check(nodes: &[u8], rules: &[u8], first: &mut [u16], second: &mut [u16]) -> V
         ≡ check_answer (first_pairs (length first.old) nodes.now)
         (first_pairs (length second.old) rules.now) }
 {
-    load_16(nodes, first);
-    load_16(rules, second);
+    load(nodes, first);
+    load(rules, second);
     well_formed::check(first, second)
 }
 

@@ -5,4 +5,4 @@ use Rattle.grammar_file_cases.specs.Written.{nodes_written}
 use Rattle.grammar_file_cases.proofs.nodes_written.Goals as goal
 
 pub returns-in-Read : goal.returns-in-Read
-returns-in-Read c = ap (λ k. k * 4) c.least.ensures ∙ sym (ap nodes_written c.in-Read.is)
+returns-in-Read c = ap (λ k. k * 4) c.min.ensures ∙ sym (ap nodes_written c.in-Read.is)

@@ -6,5 +6,5 @@ use Rattle.stored_runs.proofs.run.Goals as goal
 pub returns : goal.returns
 returns c =
     as_many_pairs _ _ c.run_in.ensures
-    (lent _ _ _ 2100 c.room_for_nodes-node_words.ensures c.least-x.ensures)
-    (lent _ _ _ 200 c.room_for_rules-rule_words.ensures c.least-y.ensures)
+    (lent _ _ _ 2100 c.zeros-node_words.ensures c.min-x.ensures)
+    (lent _ _ _ 200 c.zeros-rule_words.ensures c.min-y.ensures)

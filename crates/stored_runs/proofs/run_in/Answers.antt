@@ -5,5 +5,5 @@ use Rattle.stored_runs.proofs.run_in.Goals as goal
 
 pub returns : goal.returns
 returns c =
-    carried _ _ c.load_16.ensures c.load_16-2.ensures refl
+    carried _ _ c.load.ensures c.load-2.ensures refl
     (record { answer = c.run.ensures.result_value; derived = c.run.ensures.derived })

@@ -4,4 +4,4 @@ use Rattle.stored_runs.proofs.Laws.{carried}
 use Rattle.stored_runs.proofs.run_over.Goals as goal
 
 pub returns : goal.returns
-returns c = carried _ _ refl refl c.load_32.ensures c.run.ensures
+returns c = carried _ _ refl refl c.load.ensures c.run.ensures

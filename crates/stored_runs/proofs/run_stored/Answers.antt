@@ -6,4 +6,4 @@ use Rattle.stored_runs.proofs.run_stored.Goals as goal
 pub returns : goal.returns
 returns c =
     as_many_quads _ c.run_over.ensures
-    (lent _ _ _ 16500 c.room_for_tokens-token_words.ensures c.least-z.ensures)
+    (lent _ _ _ 16500 c.zeros-token_words.ensures c.min-z.ensures)

@@ -6,4 +6,4 @@ use Rattle.well_formed_cases.proofs.check.Goals as goal
 pub returns : goal.returns
 returns c =
     c.check.ensures.result_value
-    ∙ same_answer c.load_16.ensures c.load_16-2.ensures
+    ∙ same_answer c.load.ensures c.load-2.ensures

@@ -4,7 +4,7 @@ use Rattle.stored_runs.proofs.remembering.remember_in.Goals as goal
 
 pub returns : goal.returns
 returns c =
-    remembers_carried _ _ _ _ c.load_16.ensures c.load_16-2.ensures c.load_32.ensures
+    remembers_carried _ _ _ _ c.load.ensures c.load-2.ensures c.load-3.ensures
     (record {
       answers = record { answer = c.remember.ensures.result_value; derived = c.remember.ensures.derived };
       left = c.remember.ensures.memory_after;

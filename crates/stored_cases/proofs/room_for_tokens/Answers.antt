@@ -1,8 +1,0 @@
--- `stored_cases::room_for_tokens` meets its contract. The arguments are written out, so that nothing of the list is computed.
-use Prim.Native.Nat.{ℕ}
-use mathlib.Core.Path.{sym}
-use lib.ListN.{length-replicate}
-use Rattle.stored_cases.proofs.room_for_tokens.Goals as goal
-
-pub returns : goal.returns
-returns c = sym (length-replicate {0} {A = ℕ} 16500 0)
