@@ -1,48 +1,17 @@
--- Number 14 test by test, and what a capture that it passes is.
+-- What a capture that 14 passes is.
 use Prim.Native.Nat.{ℕ, zero, suc, ◌+◌, ◌-◌, ◌/◌, ◌≤◌, ◌<◌}
-use mathlib.Core.Path.{◌≡◌, refl, sym, ap, ap₂, ◌∙◌}
-use mathlib.Core.Bool.{Bool, true, false, ◌&&◌, ◌||◌}
+use mathlib.Core.Path.{◌≡◌}
+use mathlib.Core.Bool.{Bool, true, false}
 use mathlib.Core.List.{List}
 use native.Mathlib.Omega.{arith}
 use native.Mathlib.Nat.{le_trans}
-use borrow.Author.Tests.{not-false, lt-ltb, le-ltb, ltb-true, ltb-false, leb-true}
+use borrow.Author.Tests.{not-false, lt-ltb, ltb-true, ltb-false, leb-true}
 use lib.ListN.{length}
-use lib.Dec.{leb, ltb}
+use lib.Dec.{leb}
 use Rattle.table.specs.Every.{every}
 use Rattle.table.proofs.Every.{and_left, and_right, both_false}
 use Rattle.columns.specs.declared.Capture.{Capture}
-use Rattle.capture_checks.specs.Fourteen.{token_offset, token_end, last_token, reads_tokens, offsets_fall, fails14}
-
-module _ (rules bytes : ℕ) (words : List ℕ) (c : Capture) where
-  pub no_rule : rules ≤ c.rule → true ≡ fails14 rules bytes words c
-  unfolding fails14
-  no_rule h = rw (le-ltb c.rule rules h) refl
-
-  module _ (there : c.rule < rules) where
-    pub no_tokens : length words / 4 < c.after → true ≡ fails14 rules bytes words c
-    unfolding fails14
-    no_tokens h = rw (lt-ltb c.rule rules there, lt-ltb (length words / 4) c.after h) refl
-
-    module _ (reached : c.after ≤ length words / 4) where
-      pub turned : c.after < c.first → true ≡ fails14 rules bytes words c
-      unfolding fails14
-      turned h = rw (lt-ltb c.rule rules there, le-ltb (length words / 4) c.after reached, lt-ltb c.after c.first h) refl
-
-      module _ (order : c.first ≤ c.after) {x : Bool} (e : x ≡ offsets_fall words c.first c.after) where
-        left : (x || (reads_tokens c && ltb bytes (token_end words (last_token c)))) ≡ fails14 rules bytes words c
-        unfolding fails14
-        left =
-            rw (lt-ltb c.rule rules there, le-ltb (length words / 4) c.after reached, le-ltb c.after c.first order)
-            (ap (λ (b : Bool). b || (reads_tokens c && ltb bytes (token_end words (last_token c)))) e)
-
-        pub falls : x ≡ true → true ≡ fails14 rules bytes words c
-        falls t = sym (ap (λ (b : Bool). b || (reads_tokens c && ltb bytes (token_end words (last_token c)))) t) ∙ left
-
-        pub last_end : x ≡ false → c.first < c.after → {n : ℕ} → n ≡ token_end words (last_token c) → ltb bytes n ≡ fails14 rules bytes words c
-        last_end t h d = ap (ltb bytes) d ∙ sym (ap₂ (λ (a b : Bool). a || (b && ltb bytes (token_end words (last_token c)))) t (lt-ltb c.first c.after h)) ∙ left
-
-        pub no_end : x ≡ false → c.after ≤ c.first → false ≡ fails14 rules bytes words c
-        no_end t h = sym (ap₂ (λ (a b : Bool). a || (b && ltb bytes (token_end words (last_token c)))) t (le-ltb c.first c.after h)) ∙ left
+use Rattle.capture_checks.specs.Fourteen.{token_offset, token_end, last_token, offsets_fall, fails14}
 
 -- What a capture that 14 passes is.
 pub record Right (rules bytes : ℕ) (words : List ℕ) (c : Capture) : Type 0 where

@@ -6,43 +6,28 @@ ghost use Rattle.capture_checks.specs.Fourteen.{token_offset, token_end, offsets
 
 use columns::Capture;
 
+#[tactic(auto, unfolding(crate::specs::Fourteen::fails14))]
 // Number 14, for a file of so many rules and a report of so many bytes.
 pub fn capture_wrong(rules: usize, bytes: usize, tokens: &[u32], capture: Capture) -> bool
     ensures { result ≡ fails14 rules bytes tokens.now capture }
 {
-    if capture.rule as usize >= rules {
-        return true;
-    }
-    if capture.after as usize > tokens.len() / 4 {
-        return true;
-    }
-    if capture.after < capture.first {
-        return true;
-    }
-    if offsets_fall(tokens, capture.first, capture.after) {
-        return true;
-    }
-    if capture.first < capture.after {
-        token_end(tokens, capture.after - 1) > bytes
-    } else {
-        false
-    }
+    capture.rule as usize >= rules
+        || capture.after as usize > tokens.len() / 4
+        || capture.after < capture.first
+        || offsets_fall(tokens, capture.first, capture.after)
+        || capture.first < capture.after && token_end(tokens, capture.after - 1) > bytes
 }
 
+#[tactic(auto, using(table::proofs::Every::every_more, table::proofs::Every::every_fails), unfolding(crate::specs::Fourteen::offsets_fall, table::specs::Every::every))]
 // Whether, among the tokens from one place to before another, one has a lower offset than the one before it.
 fn offsets_fall(tokens: &[u32], first: u32, after: u32) -> bool
     ensures { result ≡ offsets_fall tokens.now first after }
 {
-    if after <= first {
-        return false;
-    }
-    let pairs = after - first - 1;
-    let mut i = 0;
-    while i < pairs {
+    let pairs = after.saturating_sub(first).saturating_sub(1);
+    for i in 0..pairs {
         if token_offset(tokens, first + i) > token_offset(tokens, first + i + 1) {
             return true;
         }
-        i += 1;
     }
     false
 }
@@ -66,5 +51,5 @@ pub fn token_end(tokens: &[u32], w: u32) -> usize
 fn word(tokens: &[u32], i: usize) -> u32
     ensures { result ≡ get_or tokens.now i 0 }
 {
-    if i < tokens.len() { tokens[i] } else { 0 }
+    tokens.get(i).copied().unwrap_or(0)
 }
