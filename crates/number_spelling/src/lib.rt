@@ -1,8 +1,8 @@
 // Spellings of numbers, and the terminal of a spelling: a keyword's, or one that no keyword has.
 #![tactic(auto)]
 
-ghost use Rattle.std.specs.Prelude.{◌≡◌, cond, ◌+◌, ◌≤◌, length, drop};
-ghost use Rattle.number_spelling.specs.Number.{is_digit, is_number, unsigned, after_digits};
+ghost use Rattle.std.specs.Prelude.{◌≡◌, cond, ◌+◌};
+ghost use Rattle.number_spelling.specs.Number.{is_digit, is_number, unsigned, digit_first, after_digits, fraction};
 
 use byte_class::{Class, class_of};
 use table::terminals;
@@ -22,64 +22,68 @@ pub fn no_keyword(s: &[u8]) -> u32
 pub fn keyword_terminal(k: u8) -> u32
     ensures { result ≡ 3 + k }
 {
-    terminals::FIRST_KEYWORD + k as u32
-}
-
-// The end of the digits from an index on.
-fn digits_end(s: &[u8], from: usize) -> usize
-    requires { from ≤ length s.now }
-    ensures { (from ≤ result)
-        × (result ≤ length s.now)
-        × (drop result s.now ≡ after_digits (drop from s.now)) }
-{
-    let mut i = from;
-    while i < s.len() {
-        if !is_digit(s[i]) {
-            return i;
-        }
-        i += 1;
-    }
-    i
+    terminals::FIRST_KEYWORD + u32::from(k)
 }
 
 // An optional minus, digits, optionally a point and digits.
+#[tactic(auto, unfolding(crate::specs::Number::is_number))]
 fn number(s: &[u8]) -> bool
     ensures { result ≡ is_number s.now }
 {
-    let from = minus(s);
-    let whole = digits_end(s, from);
-    if whole == from {
-        return false;
-    }
-    if whole == s.len() {
-        return true;
-    }
-    if s[whole] != b'.' {
-        return false;
-    }
-    let end = digits_end(s, whole + 1);
-    if end == whole + 1 {
-        return false;
-    }
-    end == s.len()
+    let whole = unsigned(s);
+    digit_first(whole) && fraction(after_digits(whole))
 }
 
-// How many bytes a minus at the front has.
-fn minus(s: &[u8]) -> usize
-    ensures { (result ≤ length s.now) × (drop result s.now ≡ unsigned s.now) }
+// Nothing, or a point and digits.
+#[tactic(auto, unfolding(crate::specs::Number::fraction, crate::specs::Number::is_empty))]
+fn fraction(s: &[u8]) -> bool
+    ensures { result ≡ fraction s.now }
 {
-    if s.len() == 0 {
-        return 0;
+    match s {
+        [] => true,
+        [point, digits @ ..] => *point == b'.'
+            && digit_first(digits)
+            && after_digits(digits).is_empty(),
     }
-    if s[0] == b'-' { 1 } else { 0 }
 }
 
+// What stands behind an optional minus.
+#[tactic(auto, unfolding(crate::specs::Number::unsigned))]
+fn unsigned(s: &[u8]) -> &[u8]
+    ensures { result.now ≡ unsigned s.now }
+{
+    match s {
+        [b'-', rest @ ..] => rest,
+        _ => s,
+    }
+}
+
+// Whether a digit is in front.
+#[tactic(auto, unfolding(crate::specs::Number::digit_first))]
+fn digit_first(s: &[u8]) -> bool
+    ensures { result ≡ digit_first s.now }
+{
+    s.first().is_some_and(|b| is_digit(*b))
+}
+
+// What is left behind the digits at the front.
+#[tactic(auto, unfolding(crate::specs::Number::after_digits))]
+fn after_digits(s: &[u8]) -> &[u8]
+    ensures { result.now ≡ after_digits s.now }
+{
+    let mut rest = s;
+    while let [b, behind @ ..] = rest {
+        if !is_digit(*b) {
+            return rest;
+        }
+        rest = behind;
+    }
+    rest
+}
+
+#[tactic(auto, unfolding(crate::specs::Number::is_digit))]
 fn is_digit(b: u8) -> bool
     ensures { result ≡ is_digit b }
 {
-    let class = class_of(b);
-    match class {
-        Class::Digit => true,
-        _ => false,
-    }
+    class_of(b) == Class::Digit
 }
