@@ -1,6 +1,6 @@
 -- The counts and the start of a file whose fields are known by offset, and its keywords.
 use Prim.Native.Nat.{ℕ, ◌≤◌}
-use mathlib.Core.Path.{◌≡◌, sym, ap, ◌∙◌}
+use mathlib.Core.Path.{◌≡◌, refl, sym}
 use mathlib.Core.Bool.{true≢false, false, not, ◌||◌}
 use mathlib.Core.List.{List, []}
 use lib.ListN.{length, get_or}
@@ -9,34 +9,21 @@ use mathlib.Core.Option
 use mathlib.Core.Option.{Option, some, none}
 use native.Mathlib.Nat.{le_trans, le_of_eq}
 use borrow.Author.Tests.{ltb-false}
-use Rattle.table.specs.Answer.{given}
 use Rattle.table.proofs.Every.{both_false}
 use Rattle.file_fields.specs.Fields.{fields, in_order, Field, two_bytes}
 use Rattle.file_fields.specs.Offsets.{keywords_from, value_at, spellings_from}
 use Rattle.file_shape.specs.Shape.{Parts}
 use Rattle.file_shape.specs.declared.Shape.{Shape}
 use Rattle.file_shape.proofs.PartLaws.{keywords_are, start_is, node_count_lem, rule_count, keyword_count}
-use Rattle.grammar_file.specs.File.{most_bytes, most_keywords, right_values, unreadable, fails1, keywords, start_value}
-use Rattle.grammar_file.specs.File.{fields_of, contents, numbers}
-use Rattle.grammar_file.specs.declared.FileRead.TheVariants.{Read}
+use Rattle.grammar_file.specs.File.{most_bytes, most_keywords, right_values, unreadable, fails1, keywords}
+use Rattle.grammar_file.specs.File.{fields_of, contents, Contents}
 
 -- The counts, and the start read from its value.
-pub counted : (file : List ℕ) (s : Shape) (p : Parts file s) {v : List ℕ} {a m : ℕ}
-    → v ≡ value_at file s.start → a ≡ two_bytes (get_or v 0 0) (get_or v 1 0) → m ≡ get_or v 2 0
-    → numbers (Read s.nodes.count s.rules.count s.keywords a m) ≡ given (contents (fields_of file))
+pub counted : (file : List ℕ) (s : Shape) → Parts file s → {v : List ℕ} {a m : ℕ} → v ≡ value_at file s.start → a ≡ two_bytes (get_or v 0 0) (get_or v 1 0) → m ≡ get_or v 2 0
+    → ◌≡◌ {A = Contents} (record { nodes = s.nodes.count; rules = s.rules.count; keywords = s.keywords; start = a; mode = m }) (contents (fields_of file))
 unfolding contents
-counted file s p {v} e x y =
-    let f : v ≡ start_value (fields_of file) = e ∙ sym (start_is file s p) in
-    let x' = x ∙ ap (λ (l : List ℕ). two_bytes (get_or l 0 0) (get_or l 1 0)) f in
-    let y' = y ∙ ap (λ (l : List ℕ). get_or l 2 0) f in
-    λ i.
-    given (record {
-      nodes = sym (node_count_lem file s p) i;
-      rules = sym (rule_count file s p) i;
-      keywords = sym (keyword_count file s p) i;
-      start = x' i;
-      mode = y' i;
-    })
+counted file s p e x y =
+    rw (x, y, e, ← start_is file s p, ← node_count_lem file s p, ← rule_count file s p, ← keyword_count file s p) refl
 
 -- A file that number 1 passes has no more than 253 keywords.
 few_keywords : (o : Option (List Field)) → unreadable o ≡ false → length (keywords (Option.get_or o [])) ≤ most_keywords

@@ -1,15 +1,16 @@
 -- What the file reader answers: numbers 1 to 6, and parts of a file (01, "The grammar file" and "Turned-down calls").
-use Rattle.std.specs.Prelude.{ℕ, ◌≤◌, ◌≡◌, Bool, ◌||◌, List, [], length, get_or, ltb}
+use Rattle.std.specs.Prelude.{ℕ, ◌≤◌, ◌≡◌, Bool, ◌||◌, Result, IfOk, List, [], length, get_or, ltb}
 use Rattle.table.specs.Answer.{Answer, given, refused, refused_at, refuse_if, and_then}
+use Rattle.table.specs.Refusals.{answer_by}
+use Rattle.table.specs.declared.refusals.Refusal.{Refusal}
 use Rattle.file_fields.specs.Fields.{Field}
 use Rattle.file_fields.specs.Offsets.{keywords_from}
 pub use Rattle.file_tables.specs.Tables.{rule_node, four_words, words_of}
-pub use Rattle.file_shape.specs.Contents.{most_bytes, most_keywords, start_node, start_mode, fields_of, Contents}
+pub use Rattle.file_shape.specs.Contents.{most_bytes, most_keywords, start_node, start_mode, fields_of}
+pub use Rattle.file_shape.specs.declared.Contents.{Contents}
 unfoldable pub use Rattle.file_shape.specs.Contents.{right_value, right_values, keywords, rule_list, rule_names, node_table}
 unfoldable pub use Rattle.file_shape.specs.Contents.{start_value, unreadable, fails1, fails2, fails5_by_file, contents}
 unfoldable pub use Rattle.file_shape.specs.Contents.{file_answer}
-use Rattle.grammar_file.specs.declared.FileRead.{FileRead}
-use Rattle.grammar_file.specs.declared.FileRead.TheVariants.{Read, Refused}
 
 -- 6: "a lent slice too short for what is to be written": the numbers of words lent for the nodes and for the rules.
 unfoldable pub fails6 : List Field → ℕ → ℕ → Bool
@@ -22,15 +23,14 @@ read_answer file nodes_lent rules_lent =
     (refuse_if (fails6 (fields_of file) nodes_lent rules_lent) 6
     (given (contents (fields_of file))))
 
--- 01's number and values for each case of `FileRead`.
-abbrev pub numbers : FileRead → Answer Contents
-numbers (Read n r k s m) = given (record { nodes = n; rules = r; keywords = k; start = s; mode = m })
-numbers (Refused n) = refused n
+-- The answer of a reader: what the file holds, or the number of a check.
+abbrev pub numbers : Result Contents Refusal → Answer Contents
+numbers = answer_by (λ x. x)
 
 -- The keywords of a file that is read stand one behind the other from offset 4 on, for lookups by offset.
-abbrev pub KeywordsStand : List ℕ → FileRead → Type 0
-KeywordsStand file (Read n r k s m) = (keywords (fields_of file) ≡ keywords_from file k) × (k ≤ most_keywords)
-KeywordsStand file (Refused n) = Unit
+abbrev pub KeywordsStand : List ℕ → Result Contents Refusal → Type 0
+KeywordsStand file r =
+    IfOk r (λ c. (keywords (fields_of file) ≡ keywords_from file c.keywords) × (c.keywords ≤ most_keywords))
 
 -- A part of a file that passes 1 to 5; nothing of any other.
 abbrev pub part_of : Answer Contents → List ℕ → List ℕ

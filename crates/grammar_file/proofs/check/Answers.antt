@@ -1,23 +1,13 @@
 -- `grammar_file::check` meets its contract.
-use mathlib.Core.Path.{◌∙◌}
-use Rattle.grammar_file.proofs.ReadLaws.{refuses, parts, passes}
+use Rattle.std.proofs.Common.{◌≡◌, ap, ◌∙◌}
+use Rattle.file_shape.proofs.PartLaws.{keyword_count}
+use Rattle.grammar_file.specs.File.{Contents, contents}
+use Rattle.grammar_file.proofs.CountLaws.{keywords_stand}
 use Rattle.grammar_file.proofs.check.Goals as goal
 
-pub counts-requires : goal.counts-requires
-counts-requires c = parts c.args.file.now c.inspect-found.ensures c.in-Whole.s c.in-Whole.is
-
-pub returns-in-Refused : goal.returns-in-Refused
-returns-in-Refused c =
-    record {
-      result_value = refuses c.args.file.now c.inspect-found.ensures c.in-Refused.n
-          c.in-Refused.is;
-      keywords_stand = tt;
-    }
-
-pub returns-in-Whole : goal.returns-in-Whole
-returns-in-Whole c =
-    record {
-      result_value = c.counts.ensures.result_value
-          ∙ passes c.args.file.now c.inspect-found.ensures c.in-Whole.s c.in-Whole.is;
-      keywords_stand = c.counts.ensures.keywords_stand;
-    }
+pub returns-clause-keywords_stand : goal.returns-clause-keywords_stand
+unfolding contents
+returns-clause-keywords_stand c =
+    let count : c.contents.result.keywords ≡ c.in_ok-shape.shape.keywords =
+    ap (λ (x : Contents). x.keywords) c.contents.ensures ∙ keyword_count _ _ c.in_ok-shape.ensures.0 in
+    rw count (keywords_stand _ _ c.in_ok-shape.ensures.0)
