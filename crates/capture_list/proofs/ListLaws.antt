@@ -20,7 +20,8 @@ use Rattle.clauses.specs.Trace.{Trace, ◌then◌, dropped, captured}
 use Rattle.clauses.specs.ListAnswer.{capture_words}
 use Rattle.clauses.proofs.ListWords.{words_long}
 use Rattle.capture_list.specs.Put.{most_count, one_more, placed, capture_put}
-use Rattle.capture_list.specs.InternalList.{around_of, so_far, Room, Keeps, shown_in, Lists, Leaves, lists, keeps}
+use Rattle.capture_list.specs.declared.Counts.{Counts}
+use Rattle.capture_list.specs.InternalList.{with_counts, Room, Keeps, shown_in, Lists, Leaves, lists, keeps}
 
 -- The words of captures.
 abbrev words_of : List Capture → List ℕ
@@ -31,14 +32,14 @@ behind [] m i j e = let d : i ≡ j = omega arith in rw d refl
 behind (x ∷ l) m zero j e = absurd (omega arith)
 behind (x ∷ l) m (suc i) j e = behind l m i j (omega arith)
 
-pub left_lists : {c l c' l' : List ℕ} {t : Trace} {u : State} → Leaves t c l c' l' (Success u) → Lists t c l c' l'
+pub left_lists : {c c' : Counts} {l l' : List ℕ} {t : Trace} {u : State} → Leaves t c l c' l' (Success u) → Lists t c l c' l'
 left_lists (lists x) = x
 
-pub left_keeps : {c l c' l' : List ℕ} {t : Trace} {o : Outcome} → Leaves t c l c' l' o → Keeps c l c' l'
+pub left_keeps : {c c' : Counts} {l l' : List ℕ} {t : Trace} {o : Outcome} → Leaves t c l c' l' o → Keeps c l c' l'
 left_keeps (lists x) = x.keeps
 left_keeps (keeps x) = x
 
-module _ {levels : ℕ} {c l : List ℕ} (room : Room levels c l) where
+module _ {levels : ℕ} {c : Counts} {l : List ℕ} (room : Room levels c l) where
   keeps_all : Keeps c l c l
   keeps_all = record { around = refl; long = refl; before = λ i b. refl }
 
@@ -56,7 +57,7 @@ module _ {levels : ℕ} {c l : List ℕ} (room : Room levels c l) where
   left_none (Failure farthest) e = keeps keeps_all
 
   -- One part after another.
-  pub keeps_then : {c' l' c'' l'' : List ℕ} {t : Trace} → Lists t c l c' l' → Keeps c' l' c'' l'' → Keeps c l c'' l''
+  pub keeps_then : {c' c'' : Counts} {l' l'' : List ℕ} {t : Trace} → Lists t c l c' l' → Keeps c' l' c'' l'' → Keeps c l c'' l''
   keeps_then x y =
       record {
         around = y.around ∙ x.keeps.around;
@@ -64,7 +65,7 @@ module _ {levels : ℕ} {c l : List ℕ} (room : Room levels c l) where
         before = λ i b. y.before i (omega (arith, room.count, x.count)) ∙ x.keeps.before i b;
       }
 
-  module _ {c' l' c'' l'' : List ℕ} (t u : Trace) (x : Lists t c l c' l') (y : Lists u c' l' c'' l'') where
+  module _ {c' c'' : Counts} {l' l'' : List ℕ} (t u : Trace) (x : Lists t c l c' l') (y : Lists u c' l' c'' l'') where
     abbrev cs : List Capture
     cs = shown_in c t
 
@@ -75,41 +76,41 @@ module _ {levels : ℕ} {c l : List ℕ} (room : Room levels c l) where
     second : (P : List Capture → Type 0) → P (shown_in c' u) → P ds
     second P p = subst (λ (k : ℕ). P (u.captures k)) x.keeps.around p
 
-    second_count : so_far c'' ≡ min (so_far c' + length ds) most_count
-    second_count = second (λ (z : List Capture). so_far c'' ≡ min (so_far c' + length z) most_count) y.count
+    second_count : c''.so_far ≡ min (c'.so_far + length ds) most_count
+    second_count = second (λ (z : List Capture). c''.so_far ≡ min (c'.so_far + length z) most_count) y.count
 
     second_there :
-        (so_far c' + length ds) * 4 ≤ length l'
+        (c'.so_far + length ds) * 4 ≤ length l'
         → (i : ℕ)
         → i < length ds * 4
-        → get_or l'' (so_far c' * 4 + i) 0 ≡ get_or (words_of ds) i 0
+        → get_or l'' (c'.so_far * 4 + i) 0 ≡ get_or (words_of ds) i 0
     second_there =
         second
         (λ (z : List Capture).
-        (so_far c' + length z) * 4 ≤ length l' → (i : ℕ) → i < length z * 4 → get_or l'' (so_far c' * 4 + i) 0 ≡ get_or (words_of z) i 0)
+        (c'.so_far + length z) * 4 ≤ length l' → (i : ℕ) → i < length z * 4 → get_or l'' (c'.so_far * 4 + i) 0 ≡ get_or (words_of z) i 0)
         y.there
 
     both_there :
-        (so_far c + (length cs + length ds)) * 4 ≤ length l
+        (c.so_far + (length cs + length ds)) * 4 ≤ length l
         → (i : ℕ)
         → i < (length cs + length ds) * 4
-        → get_or l'' (so_far c * 4 + i) 0 ≡ get_or (words_of cs ++ words_of ds) i 0
+        → get_or l'' (c.so_far * 4 + i) 0 ≡ get_or (words_of cs ++ words_of ds) i 0
     both_there f i b = by_part (ltb i (length cs * 4)) refl
       where
-        so_far_lem : so_far c' ≡ so_far c + length cs
+        so_far_lem : c'.so_far ≡ c.so_far + length cs
         so_far_lem = omega (arith, x.count, room.long)
 
-        by_part : (p : Bool) → ltb i (length cs * 4) ≡ p → get_or l'' (so_far c * 4 + i) 0 ≡ get_or (words_of cs ++ words_of ds) i 0
+        by_part : (p : Bool) → ltb i (length cs * 4) ≡ p → get_or l'' (c.so_far * 4 + i) 0 ≡ get_or (words_of cs ++ words_of ds) i 0
         by_part true e =
             let a = ltb-true i (length cs * 4) e in
             let m = words_long cs in
-            y.keeps.before (so_far c * 4 + i) (omega (arith, so_far_lem))
+            y.keeps.before (c.so_far * 4 + i) (omega (arith, so_far_lem))
             ∙ x.there (omega arith) i a
             ∙ sym (get_or-append (words_of cs) (words_of ds) 0 i (omega arith))
         by_part false e =
             let a = ltb-false i (length cs * 4) e in
             let m = words_long cs in
-            let q : so_far c * 4 + i ≡ so_far c' * 4 + (i - length cs * 4) = omega (arith, so_far_lem) in
+            let q : c.so_far * 4 + i ≡ c'.so_far * 4 + (i - length cs * 4) = omega (arith, so_far_lem) in
             ap (λ (k : ℕ). get_or l'' k 0) q
             ∙ second_there (omega (arith, so_far_lem, x.keeps.long)) (i - length cs * 4) (omega arith)
             ∙ sym (behind (words_of cs) (words_of ds) i (i - length cs * 4) (omega arith))
@@ -123,7 +124,7 @@ module _ {levels : ℕ} {c l : List ℕ} (room : Room levels c l) where
         }
 
   pub then_left :
-      {c' l' c'' l'' : List ℕ} {o : Outcome} {t u : Trace}
+      {c' c'' : Counts} {l' l'' : List ℕ} {o : Outcome} {t u : Trace}
       → Lists t c l c' l'
       → Leaves u c' l' c'' l'' o
       → Leaves (t then u) c l c'' l'' o
@@ -131,7 +132,7 @@ module _ {levels : ℕ} {c l : List ℕ} (room : Room levels c l) where
   then_left x (keeps y) = keeps (keeps_then x y)
 
   -- The count is put back.
-  pub lists_back : {c' l' : List ℕ} (t : Trace) → Keeps c l c' l' → Lists (dropped t) c l (around_of c' ∷ so_far c ∷ []) l'
+  pub lists_back : {c' : Counts} {l' : List ℕ} (t : Trace) → Keeps c l c' l' → Lists (dropped t) c l (with_counts c'.around c.so_far) l'
   lists_back t x =
       record {
         keeps = record { around = x.around; long = x.long; before = x.before };
@@ -143,7 +144,7 @@ module _ {levels : ℕ} {c l : List ℕ} (room : Room levels c l) where
   pub room_less : (k : ℕ) → k ≤ levels → Room k c l
   room_less k h = record { deep = omega (arith, room.deep); count = room.count; long = room.long }
 
-  pub room_then : {c' l' : List ℕ} {t : Trace} (k : ℕ) → k ≤ levels → Lists t c l c' l' → Room k c' l'
+  pub room_then : {c' : Counts} {l' : List ℕ} {t : Trace} (k : ℕ) → k ≤ levels → Lists t c l c' l' → Room k c' l'
   room_then k h x =
       record {
         deep = omega (arith, room.deep, x.keeps.around);
@@ -227,38 +228,38 @@ module _ (l : List ℕ) (n : ℕ) (c : Capture) where
 
 -- There is room for a level less with one more around, and any count that has not passed its end.
 pub room_inside :
-    (levels : ℕ) {c l : List ℕ}
+    (levels : ℕ) {c : Counts} {l : List ℕ}
     → Room (levels + 1) c l
     → {k n : ℕ}
-    → k ≤ around_of c + 1
+    → k ≤ c.around + 1
     → n ≤ most_count
-    → Room levels (k ∷ n ∷ []) l
+    → Room levels (with_counts k n) l
 room_inside levels room h f = record { deep = omega (arith, room.deep); count = f; long = room.long }
 
 -- A rule: with one more around and one more so far inside.
-module _ (levels : ℕ) {c l : List ℕ} (room : Room (levels + 1) c l) {n : ℕ} (more : n ≡ one_more (so_far c)) where
-  module _ {c' l' : List ℕ} where
-    pub keeps_rule : Keeps ((around_of c + 1) ∷ n ∷ []) l c' l' → Keeps c l (around_of c ∷ so_far c' ∷ []) l'
+module _ (levels : ℕ) {c : Counts} {l : List ℕ} (room : Room (levels + 1) c l) {n : ℕ} (more : n ≡ one_more c.so_far) where
+  module _ {c' : Counts} {l' : List ℕ} where
+    pub keeps_rule : Keeps (with_counts (c.around + 1) n) l c' l' → Keeps c l (with_counts c.around c'.so_far) l'
     keeps_rule x = record { around = refl; long = x.long; before = λ i b. x.before i (omega (arith, more, room.count)) }
 
-    module _ {l'' : List ℕ} (x w : ℕ) (u : clauses.State Interval) {t : Trace} (h : Lists t ((around_of c + 1) ∷ n ∷ []) l c' l')
-        (z : Noted (so_far c) (record { rule = x; first = w; after = u.0; around = around_of c }) l' l'') where
+    module _ {l'' : List ℕ} (x w : ℕ) (u : clauses.State Interval) {t : Trace} (h : Lists t (with_counts (c.around + 1) n) l c' l')
+        (z : Noted c.so_far (record { rule = x; first = w; after = u.0; around = c.around }) l' l'') where
       abbrev all : List Capture
       all = shown_in c (captured x w (clauses.success u) t)
 
-      rule_there : (so_far c + length all) * 4 ≤ length l → (i : ℕ) → i < length all * 4 → get_or l'' (so_far c * 4 + i) 0 ≡ get_or (words_of all) i 0
+      rule_there : (c.so_far + length all) * 4 ≤ length l → (i : ℕ) → i < length all * 4 → get_or l'' (c.so_far * 4 + i) 0 ≡ get_or (words_of all) i 0
       unfolding each_words
       rule_there f zero b = z.there (omega (arith, h.keeps.long)) 0 (omega arith)
       rule_there f (suc zero) b = z.there (omega (arith, h.keeps.long)) 1 (omega arith)
       rule_there f (suc (suc zero)) b = z.there (omega (arith, h.keeps.long)) 2 (omega arith)
       rule_there f (suc (suc (suc zero))) b = z.there (omega (arith, h.keeps.long)) 3 (omega arith)
       rule_there f (suc (suc (suc (suc i)))) b =
-          let e : so_far c * 4 + suc (suc (suc (suc i))) ≡ n * 4 + i = omega (arith, more, room.long) in
-          z.behind (so_far c * 4 + suc (suc (suc (suc i)))) (omega arith)
+          let e : c.so_far * 4 + suc (suc (suc (suc i))) ≡ n * 4 + i = omega (arith, more, room.long) in
+          z.behind (c.so_far * 4 + suc (suc (suc (suc i)))) (omega arith)
           ∙ ap (λ (k : ℕ). get_or l' k 0) e
           ∙ h.there (omega (arith, more, room.long)) i (omega arith)
 
-      pub lists_rule : Lists (captured x w (clauses.success u) t) c l (around_of c ∷ so_far c' ∷ []) l''
+      pub lists_rule : Lists (captured x w (clauses.success u) t) c l (with_counts c.around c'.so_far) l''
       lists_rule =
           record {
             keeps =

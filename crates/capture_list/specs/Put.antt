@@ -1,9 +1,10 @@
 -- Captures in a lent slice (02, Note 2): the count, when it is put back, where nothing is listed, one capture put at its place,
 -- zeros from an index on.
-use Rattle.std.specs.Prelude.{ℕ, ◌+◌, ◌-◌, ◌*◌, ◌/◌, ◌^◌, min, Bool, true, cond, List, [], ◌∷◌, ◌++◌, length, get_or, set, take, replicate, ltb, eqb}
+use Rattle.std.specs.Prelude.{ℕ, ◌+◌, ◌-◌, ◌*◌, ◌/◌, ◌^◌, min, Bool, true, cond, List, ◌++◌, length, set, take, replicate, ltb, eqb}
 use Rattle.columns.specs.declared.Capture.{Capture}
 use Rattle.columns.specs.declared.Outcome.{Outcome}
 use Rattle.columns.specs.declared.Outcome.TheVariants.{Success, Failure}
+use Rattle.capture_list.specs.declared.Counts.{Counts}
 
 -- Where the count of captures stops; a choice of ours, above the places of every slice.
 abbrev pub most_count : ℕ
@@ -24,8 +25,8 @@ abbrev pub quiet_in : ℕ → ℕ → Bool
 quiet_in q n = cond (eqb n most_count) true (eqb q 5)
 
 -- The counts inside a node of kind q: in a not the count has stopped.
-abbrev pub hushed : ℕ → List ℕ → List ℕ
-hushed q counts = cond (eqb q 5) (get_or counts 0 0 ∷ most_count ∷ []) counts
+abbrev pub hushed : ℕ → Counts → Counts
+hushed q counts = cond (eqb q 5) (record { around = counts.around; so_far = most_count }) counts
 
 -- A slice with a capture's four words at place n.
 abbrev pub placed : ℕ → Capture → List ℕ → List ℕ
