@@ -17,7 +17,7 @@ use stored_cases::{
     CASES, MOST_RECORDS, NODE_WORDS, PART, RULE_WORDS, byte, label, load, pair, part, show_one,
     zeros,
 };
-use well_formed::Verdict;
+use table::Refusal;
 
 // The kinds of calls.
 const CHECK: usize = b'c' as usize;
@@ -32,13 +32,11 @@ fn main(rt: HostRuntime) {
 // Goes through the records.
 fn records(cases: &[u8], bytes: &mut [u8]) {
     let mut at = 0;
-    let mut left = MOST_RECORDS;
-    while left > 0 {
+    for _ in 0..MOST_RECORDS {
         if at >= cases.len() {
             return;
         }
         at = record(cases, at, bytes);
-        left -= 1;
     }
 }
 
@@ -68,14 +66,14 @@ fn call(header: &[u8], nodes: &[u8], rules: &[u8]) {
 fn check_again(nodes: &[u8], rules: &[u8], again: usize) {
     let first = answer(nodes, rules);
     if repeats(nodes, rules, again, number(first)) {
-        show_verdict(first);
+        show_answer(first);
     } else {
         io::write_all(1, b"differs");
     }
 }
 
 // The answer for a stored table, of at most 2,100 node words and 200 rule words. They are loaded anew each time.
-fn answer(nodes: &[u8], rules: &[u8]) -> Verdict
+fn answer(nodes: &[u8], rules: &[u8]) -> Result<(), Refusal>
     ensures { numbers result ≡ check_answer (pairs 2100 nodes.now) (pairs 200 rules.now) }
 {
     let mut node_words = zeros::<u16, NODE_WORDS>();
@@ -86,7 +84,7 @@ fn answer(nodes: &[u8], rules: &[u8]) -> Verdict
 }
 
 // Loads the words of a table and checks it.
-fn check(nodes: &[u8], rules: &[u8], first: &mut [u16], second: &mut [u16]) -> Verdict
+fn check(nodes: &[u8], rules: &[u8], first: &mut [u16], second: &mut [u16]) -> Result<(), Refusal>
     ensures { numbers result
         ≡ check_answer (first_pairs (length first.old) nodes.now)
         (first_pairs (length second.old) rules.now) }
@@ -100,38 +98,36 @@ fn check(nodes: &[u8], rules: &[u8], first: &mut [u16], second: &mut [u16]) -> V
 fn repeats(nodes: &[u8], rules: &[u8], again: usize, expected: u32) -> bool
     ensures { result ≡ (eqb again 0 || eqb (stored_number nodes.now rules.now) expected) }
 {
-    let mut i = 0;
-    while i < again {
+    for i in 0..again {
         if number(answer(nodes, rules)) != expected {
             return false;
         }
-        i += 1;
     }
     true
 }
 
-// A number that tells the verdicts apart.
-fn number(verdict: Verdict) -> u32
-    ensures { result ≡ number_of (numbers verdict) }
+// A number that tells the answers apart.
+fn number(answer: Result<(), Refusal>) -> u32
+    ensures { result ≡ number_of (numbers answer) }
 {
-    match verdict {
-        Verdict::Passes => 0,
-        Verdict::Refused(n) => 1 + n as u32,
-        Verdict::IllFormed(node) => 1000 + node as u32,
+    match answer {
+        Ok(()) => 0,
+        Err(Refusal::IllFormed(node)) => 1000 + node as u32,
+        Err(refusal) => 1 + refusal.number() as u32,
     }
 }
 
 // Prints `passes`, or `refused` with the number, and for 7 the node.
-fn show_verdict(verdict: Verdict) {
-    match verdict {
-        Verdict::Passes => {
+fn show_answer(answer: Result<(), Refusal>) {
+    match answer {
+        Ok(()) => {
             io::write_all(1, b"passes");
         }
-        Verdict::Refused(n) => {
-            show_one(b"refused", n as u64);
-        }
-        Verdict::IllFormed(node) => {
+        Err(Refusal::IllFormed(node)) => {
             show_one(b"refused 7", node as u64);
+        }
+        Err(refusal) => {
+            show_one(b"refused", refusal.number() as u64);
         }
     }
 }
