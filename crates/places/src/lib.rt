@@ -18,6 +18,15 @@ pub struct Position {
     pub mark: bool,
 }
 
+impl Position {
+    // The start of a report.
+    pub const START: Position = Position {
+        offset: 0,
+        column: 0,
+        mark: false,
+    };
+}
+
 // A token's place: its column, offset and length, and whether it is the end of a line.
 #[derive(Clone, Copy, Debug, PartialEq, Eq)]
 pub struct Place {

@@ -1,2 +1,1 @@
-pub mod ClassLaws
 pub mod CheckLaws

@@ -1,11 +1,11 @@
 -- The checks that a scan and a step begin with: 1 to 5 of the grammar file and 8 of the report.
-use Rattle.std.specs.Prelude.{ℕ, ◌≤◌, ◌≡◌, List, length}
-use Rattle.table.specs.Answer.{Answer, given, refused, refuse_if, and_then}
+use Rattle.std.specs.Prelude.{ℕ, ◌≤◌, ◌≡◌, Result, Ok, Err, List, length}
+use Rattle.table.specs.Answer.{Answer, given, refuse_if, and_then}
+use Rattle.table.specs.Refusals.{turned_down}
+use Rattle.table.specs.declared.refusals.Refusal.{Refusal}
 use Rattle.file_fields.specs.Offsets.{keywords_from}
 use Rattle.grammar_file.specs.File.{most_keywords, keywords, fields_of, file_answer}
 use Rattle.report_checks.specs.Report.{most_bytes, fails8}
-use Rattle.report_checks.specs.declared.Checked.{Checked}
-use Rattle.report_checks.specs.declared.Checked.TheVariants.{Keywords, Refused}
 
 -- The first of 1 to 5 and 8 that fails, or none.
 unfoldable pub first_answer : List ℕ → List ℕ → Answer Unit
@@ -18,7 +18,7 @@ pub record Passed (file text : List ℕ) (count : ℕ) : Type 0 where
   pub few : count ≤ most_keywords
   pub short : length text ≤ most_bytes
 
--- What each case of `Checked` says: the number that `first_answer` has, or that none of them fails.
-pub data Checks (file text : List ℕ) : Checked → Type 0 where
-  refuses : {n : ℕ} → refused n ≡ first_answer file text → Checks file text (Refused n)
-  passed : {count : ℕ} → Passed file text count → Checks file text (Keywords count)
+-- What a result says: so many keywords, and none of them fails, or the one that `first_answer` has.
+abbrev pub Checks : List ℕ → List ℕ → Result ℕ Refusal → Type 0
+Checks file text (Ok count) = Passed file text count
+Checks file text (Err r) = turned_down r ≡ first_answer file text
