@@ -13,28 +13,13 @@
 ghost use Rattle.std.specs.Prelude.{◌≡◌};
 ghost use Rattle.grammar_file_cases.specs.Written.{nodes_written, rules_written};
 
-use grammar_file::FileRead;
-use slices::filled;
+use grammar_file::Contents;
+use slices::{filled, front};
 use stored_cases::{
-    CASES, MOST_RECORDS, NODE_WORDS, PART, RULE_WORDS, byte, label, load, pair, part, show,
-    show_each, show_one, triple, zeros,
+    CASES, MOST_RECORDS, NODE_WORDS, PART, RULE_WORDS, label, load, pair, part, show, show_each,
+    show_one, triple, zeros,
 };
-use table::Checked;
-
-// The kinds of calls.
-const READ: usize = b'r' as usize;
-
-const READ_WORDS: usize = b'R' as usize;
-
-const KEYWORD: usize = b'k' as usize;
-
-const KEYWORD_DOWN: usize = b'K' as usize;
-
-const NAME: usize = b'n' as usize;
-
-const NAME_DOWN: usize = b'N' as usize;
-
-const TABLE: usize = b't' as usize;
+use table::Refusal;
 
 // What every lent word holds before a read.
 const MARKER: u16 = 60000;
@@ -49,13 +34,11 @@ fn main(rt: HostRuntime) {
 // Goes through the records.
 fn records(cases: &[u8], bytes: &mut [u8]) {
     let mut at = 0;
-    let mut left = MOST_RECORDS;
-    while left > 0 {
+    for _ in 0..MOST_RECORDS {
         if at >= cases.len() {
             return;
         }
         at = record(cases, at, bytes);
-        left -= 1;
     }
 }
 
@@ -73,14 +56,14 @@ fn record(cases: &[u8], at: usize, bytes: &mut [u8]) -> usize {
 // Makes the call that a header tells of and prints its answer.
 fn call(header: &[u8], payload: &[u8]) {
     let x = pair(header, 2);
-    match byte(header, 0) {
-        KEYWORD => show_part(grammar_file::keyword(payload, x)),
-        KEYWORD_DOWN => show_part(grammar_file::keyword(payload, usize::MAX - x)),
-        NAME => show_part(grammar_file::rule_name(payload, x)),
-        NAME_DOWN => show_part(grammar_file::rule_name(payload, usize::MAX - x)),
-        TABLE => lend(payload, x, pair(header, 4)),
-        READ_WORDS => lend_read(payload, x, pair(header, 4), true),
-        READ => lend_read(payload, x, pair(header, 4), false),
+    match header.first() {
+        Some(b'k') => show_part(grammar_file::keyword(payload, x)),
+        Some(b'K') => show_part(grammar_file::keyword(payload, usize::MAX - x)),
+        Some(b'n') => show_part(grammar_file::rule_name(payload, x)),
+        Some(b'N') => show_part(grammar_file::rule_name(payload, usize::MAX - x)),
+        Some(b't') => lend(payload, x, pair(header, 4)),
+        Some(b'R') => lend_read(payload, x, pair(header, 4), true),
+        Some(b'r') => lend_read(payload, x, pair(header, 4), false),
         _ => {
             io::write_all(1, b"no such call");
         }
@@ -106,17 +89,12 @@ fn lend(payload: &[u8], x: usize, y: usize) {
 // Prints what the check of a table answers.
 fn show_table(payload: &[u8], nodes: &mut [u16], rules: &mut [u16]) {
     load(payload, nodes);
-    load(
-        stored_cases::part(payload, nodes.len() * 2, payload.len()),
-        rules,
-    );
+    load(part(payload, nodes.len() * 2, payload.len()), rules);
     match table::check(nodes, rules) {
-        Checked::Passes => {
+        Ok(()) => {
             io::write_all(1, b"passes");
         }
-        Checked::Refused(number) => {
-            show_one(b"refused", number as u64);
-        }
+        Err(refusal) => show_refused(refusal),
     }
 }
 
@@ -148,73 +126,57 @@ fn show_read(file: &[u8], nodes: &mut [u16], rules: &mut [u16], words: bool) {
 // Prints the first words where they are asked for, and whether the others are still marked.
 fn show_lent(nodes: &[u16], rules: &[u16], n: usize, r: usize, words: bool) {
     if words {
-        show_words(b" | nodes", nodes, n);
-        show_words(b" | rules", rules, r);
+        show_first(b" | nodes", nodes, n);
+        show_first(b" | rules", rules, r);
     }
     let kept = filled(nodes, n, MARKER) && filled(rules, r, MARKER);
     stored_cases::show_either(kept, b" | kept | check ", b" | changed | check ");
 }
 
 // Prints a text and the first n words, or all where there are fewer.
-fn show_words(text: &[u8], words: &[u16], n: usize) {
-    let end = n.min(words.len());
+fn show_first(text: &[u8], words: &[u16], n: usize) {
     io::write_all(1, text);
-    show_each(&words[0..end]);
+    show_each(front(words, n));
 }
 
 // How many node words a read wrote.
-fn nodes_written(answer: FileRead) -> usize
+fn nodes_written(answer: Result<Contents, Refusal>) -> usize
     ensures { result ≡ nodes_written answer }
 {
     match answer {
-        FileRead::Read {
-            nodes,
-            rules,
-            keywords,
-            start,
-            mode,
-        } => nodes.min(512) * 4,
-        FileRead::Refused(number) => 0,
+        Ok(contents) => contents.nodes.min(512) * 4,
+        Err(_) => 0,
     }
 }
 
 // How many rule words it wrote.
-fn rules_written(answer: FileRead) -> usize
+fn rules_written(answer: Result<Contents, Refusal>) -> usize
     ensures { result ≡ rules_written answer }
 {
     match answer {
-        FileRead::Read {
-            nodes,
-            rules,
-            keywords,
-            start,
-            mode,
-        } => rules,
-        FileRead::Refused(number) => 0,
+        Ok(contents) => contents.rules,
+        Err(_) => 0,
     }
 }
 
 // Prints `read` with the counts, the start node and the start mode, or `refused` with the number.
-fn show_answer(answer: FileRead) {
+fn show_answer(answer: Result<Contents, Refusal>) {
     match answer {
-        FileRead::Read {
-            nodes,
-            rules,
-            keywords,
-            start,
-            mode,
-        } => {
+        Ok(contents) => {
             let numbers = [
-                nodes as u64,
-                rules as u64,
-                keywords as u64,
-                start as u64,
-                mode as u64,
+                contents.nodes as u64,
+                contents.rules as u64,
+                contents.keywords as u64,
+                contents.start as u64,
+                contents.mode as u64,
             ];
             show(b"read", &numbers);
         }
-        FileRead::Refused(number) => {
-            show_one(b"refused", number as u64);
-        }
+        Err(refusal) => show_refused(refusal),
     }
+}
+
+// Prints `refused` with the number.
+fn show_refused(refusal: Refusal) {
+    show_one(b"refused", refusal.number() as u64);
 }
