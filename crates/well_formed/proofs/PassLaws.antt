@@ -1,11 +1,10 @@
 -- Passes over cells: a pass starts, looks at one cell more, and ends; one that found a cell leaves fewer missing.
 use Prim.Native.Nat.{◌<◌, ◌≤◌}
 use mathlib.Core.Path.{◌≡◌, refl, sym, fun_ext, ◌∙◌}
-use mathlib.Core.Bool.{Bool, true, false, not, ◌&&◌, ◌||◌, true≢false, false≢true}
+use mathlib.Core.Bool.{Bool, true, false, ◌||◌, true≢false, false≢true}
 use mathlib.Core.List.{List}
 use mathlib.Core.Logic.{◌⊎◌, inl, inr, ⊎_elim}
-use borrow.Author.Tests.{not-true}
-use Rattle.table.proofs.Every.{and_left, and_right, both_false}
+use Rattle.table.proofs.Every.{both_false}
 use Rattle.table.proofs.Orders.{le_or_lt}
 use Rattle.well_formed.specs.InternalPasses.{Pass, Finished}
 use Rattle.well_formed.proofs.RoundLaws.{one_of}
@@ -22,16 +21,17 @@ pub not_so : (a : Bool) → (a ≡ true → ⊥) → a ≡ false
 not_so true f = absurd (f refl)
 not_so false f = refl
 
-both_not : (a b : Bool) → (a && not b) ≡ false → a ≡ true → b ≡ true
-both_not true true e p = refl
-both_not true false e p = absurd (true≢false e)
-both_not false b e p = absurd (false≢true p)
-
--- Cells p' are p with c set if b holds.
-pub record Change {C : Type 0} (p p' : C → Bool) (c : C) (b : Bool) : Type 0 where
+-- Cells p' are p with those cells of At set that b names; whether one of them was not set.
+pub record Change {C : Type 0} (p p' : C → Bool) (At : C → Type 0) (b : C → Bool) (fresh : Bool) : Type 0 where
   pub stays : (d : C) → p d ≡ true → p' d ≡ true
-  pub only : (d : C) → p' d ≡ true → (p d ≡ true) ⊎ ((d ≡ c) × (b ≡ true))
-  pub set_now : b ≡ true → p' c ≡ true
+  pub only : (d : C) → p' d ≡ true → (p d ≡ true) ⊎ (At d × (b d ≡ true))
+  pub set_now : (d : C) → At d → b d ≡ true → p' d ≡ true
+  pub none : fresh ≡ false → (d : C) → At d → b d ≡ true → p d ≡ true
+  pub one : fresh ≡ true → (d : C) × At d × (b d ≡ true) × (p d ≡ false)
+
+-- All of them were set before.
+pub unchanged : {C : Type 0} (p : C → Bool) (At : C → Type 0) (b : C → Bool) → ((d : C) → At d → b d ≡ true → p d ≡ true) → Change p p At b false
+unchanged p At b k = record { stays = λ d e. e; only = λ d e. inl e; set_now = k; none = λ f. k; one = λ e. absurd (false≢true e) }
 
 module _ {C : Type 0} (True Below : C → Type 0) (step : (C → Bool) → C → Bool) where
   -- A pass that has looked at nothing.
@@ -48,47 +48,44 @@ module _ {C : Type 0} (True Below : C → Type 0) (step : (C → Bool) → C →
   looked_also f h = record { true_ones = h.true_ones; kept = h.kept; same = h.same; closed = λ e c l. h.closed e c (f c l); new = h.new }
 
   module _ {Looked : C → Type 0} {p₀ p : C → Bool} {found : Bool} (h : Pass True Below step Looked p₀ p found)
-      (c : C) (below : Below c) (b : Bool) (t : b ≡ true → True c) (now : found ≡ false → step p₀ c ≡ true → b ≡ true)
-      {p' : C → Bool} (x : Change p p' c b) where
-    abbrev fresh : Bool
-    fresh = b && not (p c)
-
-    true_then : (d : C) → (p d ≡ true) ⊎ ((d ≡ c) × (b ≡ true)) → True d
+      (At : C → Type 0) (b : C → Bool) (below : (d : C) → At d → Below d) (t : (d : C) → At d → b d ≡ true → True d)
+      (now : found ≡ false → (d : C) → At d → step p₀ d ≡ true → b d ≡ true)
+      {p' : C → Bool} {fresh : Bool} (x : Change p p' At b fresh) where
+    true_then : (d : C) → (p d ≡ true) ⊎ (At d × (b d ≡ true)) → True d
     true_then d (inl e) = h.true_ones d e
-    true_then d (inr e) = rw e.0 (t e.1)
+    true_then d (inr e) = t d e.0 e.1
 
-    known_then : fresh ≡ false → (d : C) → (p d ≡ true) ⊎ ((d ≡ c) × (b ≡ true)) → p d ≡ true
+    known_then : fresh ≡ false → (d : C) → (p d ≡ true) ⊎ (At d × (b d ≡ true)) → p d ≡ true
     known_then f d (inl e) = e
-    known_then f d (inr e) = rw e.0 (both_not b (p c) f e.1)
+    known_then f d (inr e) = x.none f d e.0 e.1
 
     same_then : (found || fresh) ≡ false → (d : C) → p' d ≡ p₀ d
     same_then f d =
         let g = both_false found fresh f in
         same_truth (p' d) (p d) (λ e. known_then g.1 d (x.only d e)) (x.stays d) ∙ h.same g.0 d
 
-    closed_then : (found || fresh) ≡ false → (d : C) → Looked d ⊎ (d ≡ c) → step p₀ d ≡ true → p₀ d ≡ true
+    closed_then : (found || fresh) ≡ false → (d : C) → Looked d ⊎ At d → step p₀ d ≡ true → p₀ d ≡ true
     closed_then f d (inl l) e = h.closed (both_false found fresh f).0 d l e
-    closed_then f d (inr q) e =
+    closed_then f d (inr a) e =
         let g = both_false found fresh f in
-        let s : step p₀ c ≡ true = rw q at e in
-        rw q (sym (h.same g.0 c) ∙ both_not b (p c) g.1 (now g.0 s))
+        sym (h.same g.0 d) ∙ x.none g.1 d a (now g.0 d a e)
 
     new_then : (found ≡ true) ⊎ (fresh ≡ true) → (d : C) × Below d × (p₀ d ≡ false) × (p' d ≡ true)
     new_then (inl e) = let w = h.new e in (w.0, w.1, w.2, x.stays w.0 w.3)
     new_then (inr e) =
-        let n = not-true (p c) (and_right b (not (p c)) e) in
-        (c, below, not_so (p₀ c) (λ k. true≢false (sym (h.kept c k) ∙ n)), x.set_now (and_left b (not (p c)) e))
+        let w = x.one e in
+        (w.0, below w.0 w.1, not_so (p₀ w.0) (λ k. true≢false (sym (h.kept w.0 k) ∙ w.3)), x.set_now w.0 w.1 w.2)
 
-    -- The pass looks at c.
-    pub looked : Pass True Below step (λ d. Looked d ⊎ (d ≡ c)) p₀ p' (found || (b && not (p c)))
-    looked =
-        record {
+    -- The pass looks at the cells of At.
+    pub looked : {found' : Bool} → found' ≡ (found || fresh) → Pass True Below step (λ d. Looked d ⊎ At d) p₀ p' found'
+    looked q =
+        rw q (record {
           true_ones = λ d e. true_then d (x.only d e);
           kept = λ d e. x.stays d (h.kept d e);
           same = same_then;
           closed = closed_then;
           new = λ e. new_then (one_of found fresh e);
-        }
+        })
 
   -- A pass over every cell that found none is the last.
   pub last_pass :

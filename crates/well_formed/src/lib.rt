@@ -11,6 +11,7 @@ ghost use Rattle.table.specs.Checks.{table_answer};
 ghost use Rattle.table.specs.Form.{node_count};
 ghost use Rattle.well_formed.specs.Check.{numbers, check_answer, Means, is_well, verdict_from};
 
+use form_facts::Facts;
 use table::Refusal;
 
 // Whether a table and its rules pass, or what turns them down: the first of 3, 4 and 5 that fails, or the lowest node that
@@ -29,24 +30,21 @@ fn judge(nodes: &[u16], rules: &[u16]) -> Result<(), Refusal>
     ensures { numbers result
         ≡ verdict_from (is_well nodes.now rules.now) 0 (node_count nodes.now) }
 {
-    let mut nothing = [false; 512];
-    let mut something = [false; 512];
-    let mut fails = [false; 512];
-    facts::find(nodes, rules, &mut nothing, &mut something, &mut fails);
+    let mut cells = [Facts::default(); 512];
+    facts::find(nodes, rules, &mut cells);
     let mut found = [false; 512];
-    well::find(nodes, rules, &nothing, &mut found);
-    lowest(nodes, &found)
+    well::find(nodes, rules, &cells, &mut found);
+    lowest(nodes.len() / 4, &found)
 }
 
-// The lowest node that is not among those found, or that the grammar passes.
-fn lowest(nodes: &[u16], found: &[bool]) -> Result<(), Refusal>
-    requires { node_count nodes.now ≤ 512 }
-    ensures { numbers result
-        ≡ verdict_from (λ (n : ℕ). get_or found.now n false) 0 (node_count nodes.now) }
+// The lowest of so many nodes that is not among those found, or that the grammar passes.
+fn lowest(count: usize, found: &[bool; 512]) -> Result<(), Refusal>
+    requires { count ≤ 512 }
+    ensures { numbers result ≡ verdict_from (λ (n : ℕ). get_or found.now n false) 0 count }
 {
-    let count = nodes.len() / 4;
     for n in 0..count {
-        if !cells::has(found, n) {
+        let well = found[n];
+        if !well {
             return Err(Refusal::IllFormed(n as u16));
         }
     }

@@ -1,23 +1,17 @@
 -- `well_formed::facts::gives` meets its contract.
-use mathlib.Core.Path.{ap, ◌∙◌}
-use native.Mathlib.Omega.{arith}
-use Prim.Native.Nat.{◌*◌, ◌+◌}
-use Rattle.well_formed.proofs.FormLaws.{node_gives}
-use Rattle.well_formed.specs.InternalPasses.{known, three}
+use Rattle.std.proofs.Common.{ap, ◌∙◌}
+use Rattle.table.specs.Form.{b_of}
 use Rattle.form_facts.specs.OneForm.{fact_of}
+use Rattle.form_facts.specs.declared.Facts.{Facts}
+use Rattle.well_formed.specs.InternalPasses.{known}
+use Rattle.well_formed.proofs.CellLaws.{none_is, cell_is}
+use Rattle.well_formed.proofs.FormLaws.{node_gives}
 use Rattle.well_formed.proofs.facts.gives.Goals as goal
-
-pub overflow_cast-nodes : goal.overflow_cast-nodes
-overflow_cast-nodes c = omega (arith, c.type_inv.nodes (c.args.n * 4 + 2))
 
 pub returns : goal.returns
 returns c =
     λ x.
     c.facts_by_form.ensures x
-    ∙ node_gives c.args.nodes.now c.args.rules.now c.args.n
-    (known (three c.args.nothing.now c.args.something.now c.args.fails.now))
-    (fact_of c.facts_at-first.result) (fact_of c.facts_at-second.result)
-    (λ y.
-    c.facts_at-first.ensures y
-    ∙ ap (known (three c.args.nothing.now c.args.something.now c.args.fails.now) y)
-    c.first_child-child.ensures) c.facts_at-second.ensures x
+    ∙ node_gives c.args.nodes.now c.args.rules.now c.args.n (known c.args.cells.now) (fact_of c.cell-first.result) (fact_of c.cell-second.result)
+    (λ y. ap (λ (f : Facts). fact_of f y) (cell_is c.args.cells.now c.first_child-child.result c.cell-first.ensures (none_is _ c.default.ensures)) ∙ ap (known c.args.cells.now y) c.first_child-child.ensures)
+    (λ y. ap (λ (f : Facts). fact_of f y) (cell_is c.args.cells.now (b_of c.args.nodes.now c.args.n) c.cell-second.ensures (none_is _ c.default-2.ensures))) x

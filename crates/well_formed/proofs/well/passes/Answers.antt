@@ -1,21 +1,17 @@
 -- `well_formed::well::passes` meets its contract.
-use mathlib.Core.Path.{ap, ◌∙◌}
-use mathlib.Core.Bool.{false}
-use native.Mathlib.Omega.{arith}
-use Prim.Native.Nat.{ℕ, ◌*◌, ◌+◌}
-use lib.ListN.{get_or}
+use Rattle.std.proofs.Common.{ℕ, false, ap, ◌∙◌, get_or}
+use Rattle.form_facts.specs.declared.Facts.{Facts}
+use Rattle.well_formed.specs.Facts.{nothing}
+use Rattle.well_formed.specs.InternalPasses.{known}
+use Rattle.well_formed.proofs.CellLaws.{none_is, cell_is}
 use Rattle.well_formed.proofs.FormLaws.{node_passes}
 use Rattle.well_formed.proofs.well.passes.Goals as goal
-
-pub overflow_cast-nodes : goal.overflow_cast-nodes
-overflow_cast-nodes c = omega (arith, c.type_inv.nodes (c.args.n * 4 + 2))
 
 pub returns : goal.returns
 returns c =
     c.well_by_form.ensures
-    ∙ node_passes c.args.nodes.now c.args.rules.now c.args.n
-    (λ m. get_or c.args.nothing.now m false) (λ m. get_or c.args.well.now m false) c.has.result
-    c.has-2.result c.has-3.result
-    (c.has.ensures ∙ ap (λ (m : ℕ). get_or c.args.well.now m false) c.first_child-child.ensures)
-    (c.has-2.ensures ∙ ap (λ (m : ℕ). get_or c.args.nothing.now m false) c.first_child-child.ensures)
-    c.has-3.ensures
+    ∙ node_passes c.args.nodes.now c.args.rules.now c.args.n (known c.args.cells.now nothing) (λ m. get_or c.args.well.now m false)
+    c.cell-first.result c.cell-facts.result.nothing c.cell-second.result
+    (c.cell-first.ensures ∙ ap (λ (m : ℕ). get_or c.args.well.now m false) c.first_child-child.ensures)
+    (ap (λ (f : Facts). f.nothing) (cell_is c.args.cells.now c.first_child-child.result c.cell-facts.ensures (none_is _ c.default.ensures)) ∙ ap (known c.args.cells.now nothing) c.first_child-child.ensures)
+    c.cell-second.ensures
