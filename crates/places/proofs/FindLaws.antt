@@ -16,7 +16,9 @@ use Rattle.byte_class.specs.declared.Class.{Class}
 use Rattle.byte_class.specs.declared.Class.TheVariants.{Break, Tab, Blank, Single, Digit, Run, Continuation, Refused}
 use Rattle.places.specs.Columns.{column_by, column_after, column_over}
 use Rattle.places.specs.Places.{run_class, in_run, run_length}
-use Rattle.places.specs.Moves.{Position, position, Move, move, move_by, next_place, next_in, next_within}
+use Rattle.places.specs.Moves.{position, move, move_by, next_place, next_in, next_within}
+use Rattle.places.specs.declared.Position.{Position}
+use Rattle.places.specs.declared.Move.{Move}
 use Rattle.places.specs.InternalFind.{passed_by, passed_over, Room, Skipped, RunEnd}
 
 -- The bytes from an offset on.

@@ -5,7 +5,8 @@ use Rattle.byte_class.specs.declared.Class.{Class}
 use Rattle.byte_class.specs.declared.Class.TheVariants.{Break, Tab, Blank, Single, Digit, Run, Continuation, Refused}
 use Rattle.places.specs.Columns.{column_over}
 use Rattle.places.specs.Places.{run_length}
-use Rattle.places.specs.Moves.{Position, next_in}
+use Rattle.places.specs.Moves.{next_in}
+use Rattle.places.specs.declared.Position.{Position}
 
 -- A byte that begins and ends no token.
 abbrev pub passed_by : Class → Bool → Bool

@@ -7,8 +7,8 @@ use Rattle.byte_class.specs.declared.Class.{Class}
 use Rattle.byte_class.specs.declared.Class.TheVariants.{Break, Tab, Blank, Single, Digit, Run, Continuation, Refused}
 use Rattle.places.specs.Columns.{column_after, column_over}
 use Rattle.places.specs.Places.{run_length}
-pub use Rattle.places.specs.declared.Position.{Position}
-pub use Rattle.places.specs.declared.Move.{Move}
+use Rattle.places.specs.declared.Position.{Position}
+use Rattle.places.specs.declared.Move.{Move}
 
 -- The position at an offset, a column and a mark.
 abbrev pub position : ℕ → ℕ → Bool → Position

@@ -1,22 +1,25 @@
 -- The place that a move finds lies in the text.
 use Prim.Native.Nat.{ℕ, suc, ◌+◌, ◌≤◌}
-use mathlib.Core.Path.{◌≡◌, sym, subst}
+use mathlib.Core.Path.{◌≡◌}
 use mathlib.Core.Bool.{Bool, true, false, cond}
 use mathlib.Core.List.{List, [], ◌∷◌}
-use mathlib.Core.Option.{Option, some, none}
+use Rattle.std.proofs.Common.{Option, Some, None}
 use lib.ListN.{length, drop, length-drop}
 use native.Mathlib.Omega.{arith}
 use Rattle.byte_class.specs.Bytes.{class_of}
 use Rattle.byte_class.specs.declared.Class.{Class}
 use Rattle.byte_class.specs.declared.Class.TheVariants.{Break, Tab, Blank, Single, Digit, Run, Continuation, Refused}
 use Rattle.places.specs.Columns.{column_after}
-use Rattle.places.specs.Places.{Place, in_run, run_length}
-use Rattle.places.specs.Moves.{Position, Move, move_by, next_place, next_in, move_of}
-use Rattle.places.specs.declared.Found.{Found}
+use Rattle.places.specs.Places.{in_run, run_length}
+use Rattle.places.specs.declared.Place.{Place}
+use Rattle.places.specs.Moves.{move_by, next_place, next_in}
+use Rattle.places.specs.declared.Position.{Position}
+use Rattle.places.specs.declared.Move.{Move}
 
-abbrev inside_of : Option Place → ℕ → Type 0
-inside_of none end = Unit
-inside_of (some p) end = p.offset + p.length ≤ end
+-- What is found ends at an offset or before.
+abbrev pub inside_of : Option Place → ℕ → Type 0
+inside_of None end = Unit
+inside_of (Some p) end = p.offset + p.length ≤ end
 
 -- A run is no longer than the bytes.
 pub run_within : (bytes : List ℕ) → run_length bytes ≤ length bytes
@@ -57,19 +60,7 @@ inside_bytes (b ∷ bytes) o c m =
     (inside_same (next_place bytes (o + 1) (column_after b c) m).found (o + 1 + length bytes) (o + suc (length bytes)) (omega arith)
     (inside_bytes bytes (o + 1) (column_after b c) m))
 
--- The place that was found.
-abbrev pub place_of : Found → Place
-place_of f = record { ends = f.ends; column = f.column; offset = f.offset; length = f.length }
-
-pub found_inside :
-    (text : List ℕ) (p : Position)
-    → p.offset ≤ length text
-    → (f : Found)
-    → move_of f ≡ next_in text p
-    → f.any ≡ true
-    → f.offset + f.length ≤ length text
-found_inside text p w f e h =
-    subst (λ (a : Bool). inside_of (cond a (some (place_of f)) none) (length text)) h
-    (subst (λ (v : Move). inside_of v.found (length text)) (sym e)
-    (inside_same (next_in text p).found (p.offset + length (drop p.offset text)) (length text)
-    (omega (arith, length-drop p.offset text)) (inside_bytes (drop p.offset text) p.offset p.column p.mark)))
+pub found_inside : (text : List ℕ) (p : Position) → p.offset ≤ length text → inside_of (next_in text p).found (length text)
+found_inside text p w =
+    inside_same (next_in text p).found (p.offset + length (drop p.offset text)) (length text)
+    (omega (arith, length-drop p.offset text)) (inside_bytes (drop p.offset text) p.offset p.column p.mark)

@@ -1,22 +1,12 @@
 -- What the scanner's private functions promise one another. No public promise rests on this file.
-use Rattle.std.specs.Prelude.{ℕ, ◌+◌, ◌≤◌, ◌≡◌, true, List, length}
-use Rattle.std.proofs.Math.Option.{map}
+use Rattle.std.specs.Prelude.{ℕ, ◌≡◌, Option, Result, Ok, Err, List}
 use Rattle.table.specs.Answer.{given}
-use Rattle.grammar_file.specs.File.{most_keywords}
-use Rattle.report_checks.specs.Report.{most_bytes}
-use Rattle.places.specs.Moves.{move_of}
-use Rattle.places.specs.declared.Found.{Found}
-use Rattle.scanner.specs.Tokens.{token_of}
-use Rattle.scanner.specs.Steps.{position_of, numbers}
-use Rattle.scanner.specs.declared.Step.{Step}
+use Rattle.table.specs.Refusals.{turned_down}
+use Rattle.table.specs.declared.refusals.Refusal.{Refusal}
+use Rattle.scanner.specs.declared.Token.{Token}
+use Rattle.scanner.specs.Steps.{Position, next_in, step_answer}
 
--- A place that was found in a report within the limits.
-pub record Ready (text : List ℕ) (keywords : ℕ) (f : Found) : Type 0 where
-  pub few : keywords ≤ most_keywords
-  pub short : length text ≤ most_bytes
-  pub inside : f.any ≡ true → f.offset + f.length ≤ length text
-
--- The step that hands such a place out: its token, and the position behind it.
-pub record HandsOut (keywords : List (List ℕ)) (text : List ℕ) (f : Found) (s : Step) : Type 0 where
-  pub token : numbers s.handed ≡ given (map (token_of keywords text) (move_of f).found)
-  pub reached : position_of s ≡ (move_of f).reached
+-- A step from a position on: the next token or none, and the position behind it, or why it is refused.
+abbrev pub Stepped : List ℕ → List ℕ → Position → Result (Option Token × Position) Refusal → Type 0
+Stepped file text from (Ok s) = (given s.0 ≡ step_answer file text from) × (s.1 ≡ (next_in text from).reached)
+Stepped file text from (Err r) = turned_down r ≡ step_answer file text from

@@ -1,20 +1,14 @@
--- A token: the terminal, column, offset and length of a place (01, "The scanner").
+-- A token: "terminal, column, offset, length", by its place (01, "The scanner").
 use Rattle.std.specs.Prelude.{ℕ, suc, ◌+◌, Bool, cond, List, [], ◌∷◌, take, drop}
 use Rattle.spellings.specs.Spellings.{same_bytes}
 use Rattle.number_spelling.specs.Number.{is_number}
-use Rattle.places.specs.Places.{Place}
+use Rattle.places.specs.declared.Place.{Place}
+use Rattle.scanner.specs.declared.Token.{Token}
 
 -- "Terminal: 3 + k where the spelling equals keyword k ..", else 0 for a number, else 1: the keywords from k on.
 unfoldable pub terminal_from : ℕ → List (List ℕ) → List ℕ → ℕ
 terminal_from k [] s = cond (is_number s) 0 1
 terminal_from k (w ∷ keywords) s = cond (same_bytes w s) (3 + k) (terminal_from (suc k) keywords s)
-
--- A token: "terminal, column, offset, length".
-pub record Token : Type 0 where
-  pub terminal : ℕ
-  pub column : ℕ
-  pub offset : ℕ
-  pub length : ℕ
 
 -- The terminal at a place: "a token of terminal 2" at a line's end, and elsewhere that of the bytes from an offset on.
 unfoldable pub terminal_at : List (List ℕ) → List ℕ → Bool → ℕ → ℕ → ℕ

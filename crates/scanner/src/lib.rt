@@ -3,128 +3,97 @@
 
 mod terminals;
 
-ghost use Rattle.std.specs.Prelude.{◌≡◌, ◌≤◌};
+ghost use Rattle.std.specs.Prelude.{◌≡◌, ◌+◌, ◌≤◌, length};
 ghost use Rattle.file_fields.specs.Offsets.{keywords_from};
 ghost use Rattle.grammar_file.specs.File.{most_keywords};
-ghost use Rattle.places.specs.Moves.{position, move_of};
-ghost use Rattle.scanner.specs.Tokens.{terminal_at};
-ghost use Rattle.scanner.specs.Steps.{step_fails9, step_answer, standing, position_of};
+ghost use Rattle.report_checks.specs.Report.{most_bytes};
+ghost use Rattle.scanner.specs.Tokens.{token_of};
+ghost use Rattle.scanner.specs.Steps.{step_answer, standing};
 ghost use Rattle.scanner.specs.Steps.{numbers as step_numbers};
-ghost use Rattle.scanner.specs.InternalFind.{Ready, HandsOut};
+ghost use Rattle.scanner.specs.InternalFind.{Stepped};
 
-use places::{Found, bytes_at, find};
-use report_checks::{Checked, first_checks};
-use table::refusals;
+use places::{Move, Place, Position, bytes_at, find};
+use report_checks::first_checks;
+use table::Refusal;
 use terminals::terminal;
 
 // The last column of a step.
 const LAST_STEP: u32 = 524280;
 
-// What a step hands out.
-#[derive(Clone, Copy)]
-pub enum Handed {
-    Token {
-        terminal: u32,
-        column: u32,
-        offset: u32,
-        length: u32,
-    },
-    Nothing,
-    Refused(u8),
-}
-
-// What a step hands out, and the offset, column and mark that it reaches.
-#[derive(Clone, Copy)]
-pub struct Step {
-    pub handed: Handed,
-    pub at: usize,
+#[derive(Clone, Copy, Debug, PartialEq, Eq)]
+pub struct Token {
+    pub terminal: u32,
     pub column: u32,
-    pub mark: bool,
+    pub offset: u32,
+    pub length: u32,
 }
 
-// The next token of a report from an offset, a column and a mark on, and the position behind it.
-pub fn next_token(file: &[u8], report: &[u8], at: usize, column: u32, mark: bool) -> Step
-    ensures handed_value { step_numbers result.handed ≡ step_answer file.now report.now (position at column mark) }
-    ensures result_value { position_of result ≡ standing (step_numbers result.handed) report.now (position at column mark) }
+// What a step hands out, a token or none, or why it is refused, and the position that it reaches.
+#[derive(Clone, Copy, Debug, PartialEq, Eq)]
+pub struct Step {
+    pub handed: Result<Option<Token>, Refusal>,
+    pub reached: Position,
+}
+
+// The next token of a report from a position on, and the position behind it; a refused step stays where it is.
+#[tactic(auto, using(crate::proofs::StepLaws::turned_stands))]
+pub fn next_token(file: &[u8], report: &[u8], from: Position) -> Step
+    ensures handed_value { step_numbers result.handed ≡ step_answer file.now report.now from }
+    ensures result_value { result.reached ≡ standing (step_numbers result.handed) report.now from }
 {
-    let first = first_checks(file, report);
-    match first {
-        Checked::Refused(n) => stay(n, at, column, mark),
-        Checked::Keywords(keywords) => {
-            if report.len() < at {
-                return stay(refusals::REPORT, at, column, mark);
-            }
-            if LAST_STEP < column {
-                return stay(refusals::REPORT, at, column, mark);
-            }
-            let f = find(report, at, column, mark);
-            if too_wide(f) {
-                return stay(refusals::COLUMN, at, column, mark);
-            }
-            hand_out(file, keywords, report, f)
-        }
+    match token_from(file, report, from) {
+        Ok((token, reached)) => Step {
+            handed: Ok(token),
+            reached,
+        },
+        Err(refusal) => Step {
+            handed: Err(refusal),
+            reached: from,
+        },
     }
 }
 
-// A refused step: the position stays.
-fn stay(number: u8, at: usize, column: u32, mark: bool) -> Step
-    ensures { result ≡ record { handed = Handed.Refused number; at = at; column = column; mark = mark } }
+// The next token from a position on, or none, and the position behind it.
+#[tactic(auto, using(crate::proofs::StepLaws::step_first))]
+fn token_from(
+    file: &[u8],
+    report: &[u8],
+    from: Position,
+) -> Result<(Option<Token>, Position), Refusal>
+    ensures { Stepped file.now report.now from result }
 {
-    Step {
-        handed: Handed::Refused(number),
-        at,
-        column,
-        mark,
+    let keywords = first_checks(file, report)?;
+    if report.len() < from.offset || LAST_STEP < from.column {
+        return Err(Refusal::Report);
     }
-}
-
-// Number 9 of a place that was found.
-fn too_wide(f: Found) -> bool
-    ensures { result ≡ step_fails9 (move_of f).found }
-{
-    if f.any {
-        table::LAST_COLUMN < f.column
-    } else {
-        false
-    }
-}
-
-// The step to a place that was found.
-fn hand_out(file: &[u8], keywords: usize, report: &[u8], f: Found) -> Step
-    requires { Ready report.now keywords f }
-    ensures { HandsOut (keywords_from file.now keywords) report.now f result }
-{
-    if !f.any {
-        return Step {
-            handed: Handed::Nothing,
-            at: f.at,
-            column: f.reached,
-            mark: f.mark,
-        };
-    }
-    let handed = Handed::Token {
-        terminal: terminal_at(file, keywords, report, f),
-        column: f.column,
-        offset: f.offset as u32,
-        length: f.length as u32,
+    let Move { found, reached } = find(report, from);
+    let Some(place) = found else {
+        return Ok((None, reached));
     };
-    Step {
-        handed,
-        at: f.at,
-        column: f.reached,
-        mark: f.mark,
+    if table::LAST_COLUMN < place.column {
+        return Err(Refusal::Column);
     }
+    let token = token_at(file, keywords, report, place);
+    Ok((Some(token), reached))
 }
 
-// The terminal of the token at a place.
-fn terminal_at(file: &[u8], keywords: usize, report: &[u8], f: Found) -> u32
-    requires { keywords ≤ most_keywords }
-    ensures { result
-        ≡ terminal_at (keywords_from file.now keywords) report.now f.ends f.offset
-        f.length }
+// The token at a place.
+#[tactic(auto, unfolding(crate::specs::Tokens::terminal_at))]
+fn token_at(file: &[u8], keywords: usize, report: &[u8], place: Place) -> Token
+    requires few { keywords ≤ most_keywords }
+    requires short { length report.now ≤ most_bytes }
+    requires inside { place.offset + place.length ≤ length report.now }
+    ensures { result ≡ token_of (keywords_from file.now keywords) report.now place }
 {
-    if f.ends {
-        return table::terminals::LINE_END;
+    let terminal = if place.ends {
+        table::terminals::LINE_END
+    } else {
+        terminal(file, keywords, bytes_at(report, place))
+    };
+    Token {
+        terminal,
+        column: place.column,
+        offset: place.offset as u32,
+        length: place.length as u32,
     }
-    terminal(file, keywords, bytes_at(report, f))
 }

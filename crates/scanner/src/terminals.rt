@@ -14,13 +14,11 @@ pub(crate) fn terminal(file: &[u8], count: usize, s: &[u8]) -> u32
     ensures { result ≡ terminal_from 0 (keywords_from file.now count) s.now }
 {
     let mut at = grammar_file::FIRST_KEYWORD;
-    let mut k = 0;
-    while k < count {
+    for k in 0..count {
         if same(value_at(file, at), s) {
             return keyword_terminal(k as u8);
         }
         at = next_at(file, at);
-        k += 1;
     }
     no_keyword(s)
 }

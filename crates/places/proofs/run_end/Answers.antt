@@ -4,7 +4,8 @@ use lib.ListN.{drop_of_length-le}
 use Rattle.byte_class.specs.Bytes.{class_of}
 use Rattle.places.specs.Columns.{column_after, column_over}
 use Rattle.places.specs.Places.{run_class, in_run, run_length}
-use Rattle.places.specs.Moves.{Position, position}
+use Rattle.places.specs.Moves.{position}
+use Rattle.places.specs.declared.Position.{Position}
 use Rattle.places.specs.InternalFind.{RunEnd}
 use Rattle.places.proofs.ClassLaws.{run_width}
 use Rattle.places.proofs.FindLaws.{from_one, room_next, run_on, run_none, run_empty}

@@ -3,7 +3,7 @@ use Rattle.std.proofs.Common.{◌≡◌, ℕ, ◌+◌, List, take, drop}
 use Rattle.places.specs.InternalFind.{Room}
 use Rattle.places.specs.Columns.{column_over}
 use Rattle.places.specs.Places.{run_length}
-use Rattle.places.specs.Moves.{Position}
+use Rattle.places.specs.declared.Position.{Position}
 use Rattle.places.proofs.run_end.Given as goal
 
 -- The run and its last column, from what is left of it.

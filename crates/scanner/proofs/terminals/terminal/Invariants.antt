@@ -1,17 +1,11 @@
 -- `scanner::terminals::terminal` meets its contract. The loop's invariant: `at` is the offset of keyword `k`, and
 -- the keywords from it on decide.
-use Prim.Native.Nat.{◌-◌, ◌≤◌}
-use mathlib.Core.Path.{◌≡◌}
-use lib.ListN.{drop}
+use Rattle.std.proofs.Common.{◌≡◌, drop}
 use Rattle.file_fields.specs.Offsets.{offset_of, keywords_from}
 use Rattle.scanner.specs.Tokens.{terminal_from}
 use Rattle.scanner.proofs.terminals.terminal.Given as goal
 
 abbrev pub invariant-loop-k : goal.invariant-loop-k
 invariant-loop-k l =
-    (l.k ≤ l.count)
-    × (l.at ≡ offset_of l.file 4 l.k)
+    (l.at ≡ offset_of l.file 4 l.k)
     × (terminal_from 0 (keywords_from l.file l.count) l.s ≡ terminal_from l.k (drop l.k (keywords_from l.file l.count)) l.s)
-
-abbrev pub decreases-loop-k : goal.decreases-loop-k
-decreases-loop-k l = l.count - l.k
