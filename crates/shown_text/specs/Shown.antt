@@ -1,6 +1,8 @@
 -- The text shown for a capture, and the numbers before it (02, Note 2).
-use Rattle.std.specs.Prelude.{ℕ, ◌+◌, ◌-◌, cond, List, [], ◌∷◌, length, get_or, take, drop}
+use Rattle.std.specs.Prelude.{ℕ, ◌+◌, ◌-◌, cond, Result, List, [], ◌∷◌, length, get_or, take, drop}
 use Rattle.table.specs.Answer.{Answer, given, refused, refused_at, refuse_if, and_then}
+use Rattle.table.specs.Refusals.{answer_by}
+use Rattle.table.specs.declared.refusals.Refusal.{Refusal}
 use Rattle.file_fields.specs.Fields.{Field, tagged}
 use Rattle.grammar_file.specs.File.{fields_of, rule_list, rule_names, name_bytes}
 use Rattle.report_checks.specs.FirstChecks.{first_answer}
@@ -9,7 +11,7 @@ use Rattle.clauses.specs.Limits.{fails11}
 pub use Rattle.capture_checks.specs.Fourteen.{token_offset, token_end, reads_tokens, last_token}
 unfoldable pub use Rattle.capture_checks.specs.Fourteen.{offsets_fall, fails14}
 use Rattle.shown_text.specs.declared.ShownPart.{ShownPart}
-use Rattle.shown_text.specs.declared.ShownPart.TheVariants.{InReport, InFile, Refused}
+use Rattle.shown_text.specs.declared.ShownPart.TheVariants.{InReport, InFile}
 
 -- Where a shown text lies: so many bytes from an offset on, in the report or in the grammar file.
 pub data Part : Type 0 where
@@ -42,11 +44,14 @@ shown_answer file report words c =
     (refuse_if (fails14 (length (rule_list (fields_of file))) (length report) words c) 14
     (given (part_shown (fields_of file) words c))))
 
--- 02's number and values for each case of `ShownPart`.
-abbrev pub numbers : ShownPart → Answer Part
-numbers (InReport o n) = given (in_report o n)
-numbers (InFile o n) = given (in_file o n)
-numbers (Refused n) = refused n
+-- Where a part lies, by the code's cases.
+abbrev pub lies_at : ShownPart → Part
+lies_at (InReport o n) = in_report o n
+lies_at (InFile o n) = in_file o n
+
+-- The answer of a call for a shown text.
+abbrev pub numbers : Result ShownPart Refusal → Answer Part
+numbers = answer_by lies_at
 
 -- "shows no bytes where that refuses"
 abbrev pub unless_refused : Answer Part → List ℕ → List ℕ

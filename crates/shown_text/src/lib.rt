@@ -10,64 +10,50 @@ ghost use Rattle.shown_text.specs.Shown.{numbers, shown_answer, shown_bytes};
 use capture_checks::{capture_wrong, token_end, token_offset};
 use columns::Capture;
 use file_fields::{offset_of, spelling_at};
-use grammar_file::{FIRST_KEYWORD, FileRead};
+use grammar_file::FIRST_KEYWORD;
 use run_limits::tokens_wrong;
-use table::refusals;
+use table::Refusal;
 
-// Where the text for a capture lies, so many bytes from an offset on, or the number of the first check that fails.
-#[derive(Clone, Copy)]
+// Where the text for a capture lies: so many bytes from an offset on.
+#[derive(Clone, Copy, Debug, PartialEq, Eq)]
 pub enum ShownPart {
     InReport { offset: usize, length: usize },
     InFile { offset: usize, length: usize },
-    Refused(u8),
 }
 
-// The number for a shown text, or where the text lies: 1 to 5 of the file, 8 of the report, 11 of the tokens, then 14.
-pub fn shown(file: &[u8], report: &[u8], tokens: &[u32], capture: Capture) -> ShownPart
+// Where a shown text lies, or the first check that fails: 1 to 5 of the file, 8 of the report, 11 of the tokens, then 14.
+pub fn shown(
+    file: &[u8],
+    report: &[u8],
+    tokens: &[u32],
+    capture: Capture,
+) -> Result<ShownPart, Refusal>
     ensures { numbers result ≡ shown_answer file.now report.now tokens.now capture }
 {
-    let read = grammar_file::check(file);
-    match read {
-        FileRead::Refused(n) => ShownPart::Refused(n),
-        FileRead::Read {
-            nodes: _,
-            rules,
-            keywords,
-            start: _,
-            mode: _,
-        } => {
-            if report_checks::refused(report) {
-                return ShownPart::Refused(refusals::REPORT);
-            }
-            if tokens_wrong(tokens) {
-                return ShownPart::Refused(refusals::TOKENS);
-            }
-            if capture_wrong(rules, report.len(), tokens, capture) {
-                return ShownPart::Refused(refusals::CAPTURE);
-            }
-            if capture.first == capture.after {
-                return in_file(file, keywords, capture.rule);
-            }
-            in_report(tokens, capture)
-        }
+    let contents = grammar_file::check(file)?;
+    if report_checks::refused(report) {
+        return Err(Refusal::Report);
     }
+    if tokens_wrong(tokens) {
+        return Err(Refusal::Tokens);
+    }
+    if capture_wrong(contents.rules, report.len(), tokens, capture) {
+        return Err(Refusal::Capture);
+    }
+    if capture.first == capture.after {
+        return Ok(in_file(file, contents.keywords, capture.rule));
+    }
+    Ok(in_report(tokens, capture))
 }
 
-// The text itself, as a part of the report or of the grammar file; empty where the number refuses.
+// The text itself, as a part of the report or of the grammar file; empty where the call is turned down.
 pub fn text<'a>(file: &'a [u8], report: &'a [u8], tokens: &[u32], capture: Capture) -> &'a [u8]
     ensures { result.now ≡ shown_bytes file.now report.now tokens.now capture }
 {
-    let part = shown(file, report, tokens, capture);
-    match part {
-        ShownPart::InReport { offset, length } => {
-            let end = offset + length;
-            &report[offset..end]
-        }
-        ShownPart::InFile { offset, length } => {
-            let end = offset + length;
-            &file[offset..end]
-        }
-        ShownPart::Refused(_) => &report[0..0],
+    match shown(file, report, tokens, capture) {
+        Ok(ShownPart::InReport { offset, length }) => &report[offset..offset + length],
+        Ok(ShownPart::InFile { offset, length }) => &file[offset..offset + length],
+        Err(_) => &[],
     }
 }
 
