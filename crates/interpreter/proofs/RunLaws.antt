@@ -1,13 +1,18 @@
 -- What a run answers and lists, over plain values: from what the walk answers, and from the words that it left.
-use Prim.Native.Nat.{ℕ, ◌+◌, ◌-◌, ◌*◌, ◌/◌, ◌≤◌, ◌<◌, ◌^◌, min}
-use mathlib.Core.Path.{◌≡◌, refl, sym, ap, ap₂, subst, ◌∙◌}
+use Prim.Native.Nat.{ℕ, ◌-◌, ◌*◌, ◌/◌, ◌≤◌, ◌<◌, ◌^◌, min}
+use mathlib.Core.Path.{◌≡◌, refl, sym, ap, subst, ◌∙◌}
 use mathlib.Core.Bool.{Bool, true, false, cond}
 use mathlib.Core.List.{List, ◌++◌}
 use lib.ListN.{length, drop}
 use lib.Dec.{leb}
 use native.Mathlib.Omega.{arith}
 use borrow.Author.Tests.{lt-ltb, le-ltb, lt-leb, le-leb}
-use Rattle.table.specs.Answer.{Answer, given, refused, refused_at, and_then}
+use Rattle.std.proofs.Common.{Ok}
+use Rattle.table.specs.Answer.{Answer, given, refused, refused_at, and_then, afterwards}
+use Rattle.table.specs.Refusals.{turned_down}
+use Rattle.table.specs.declared.refusals.Refusal.{Refusal}
+use Rattle.columns.specs.declared.Outcome.{Outcome}
+use Rattle.columns.specs.declared.Outcome.TheVariants as columns
 use Rattle.columns.specs.Intervals.{ends}
 use Rattle.columns.specs.declared.State.{State}
 use Rattle.columns.specs.declared.Start.{Start}
@@ -21,21 +26,24 @@ use Rattle.clauses.proofs.ListWords.{list_fills}
 use Rattle.theorems.proofs.Narrows.{onward}
 use Rattle.theorems.proofs.Agreement.{run_given, farthest_only, captures_only, outcome_answered, answered_within}
 use Rattle.capture_list.specs.Put.{most_count}
-use Rattle.walk.specs.WalkAnswer.{ended, numbers as walk_numbers, walk_answer, walk_after}
-use Rattle.walk.specs.declared.Answered.{Answered}
-use Rattle.walk.specs.declared.Walk.{Walk}
-use Rattle.interpreter.specs.Numbers.{failing, end_of, Looked, CapturesStand}
+use Rattle.walk.specs.WalkAnswer.{end_of as walk_end, walk_answer, walk_after}
+use Rattle.interpreter.specs.Numbers.{ran_to, end_of, Looked, Derived, CapturesStand, ListedBy}
+use Rattle.interpreter.specs.InternalRan.{Onward, ran_of}
 
--- What refuses the second of two answers refuses the first, where the second is given.
-refused_first : {A B : Type 0} {number : ℕ} (r : Answer B) (x : A) → refused number ≡ and_then r (given x) → refused number ≡ r
-refused_first (given b) x e = absurd (let z : ◌≡◌ {A = ℕ} 0 1 = cc in omega arith)
-refused_first {number = number} (refused k) x e = let q : number ≡ k = cc in ap refused q
-refused_first (refused_at k n) x e = absurd (let z : ◌≡◌ {A = ℕ} 0 1 = cc in omega arith)
+-- What refuses the second of two answers refuses the first, where the second is given; and a refusal goes on as it is.
+refused_first : (A : Type 0) {B : Type 0} (r : Refusal) (first : Answer B) (x : A) → turned_down r ≡ and_then first (given x) → turned_down r ≡ first
+refused_first A r (given b) x e = absurd (not_given r x e)
+  where
+    not_given : {A : Type 0} (r : Refusal) (x : A) → turned_down r ≡ given x → ⊥
+    not_given r x e = grind arith
+refused_first A r (refused k) x e = grind arith
+refused_first A r (refused_at k n) x e = grind arith
 
-named_first : {A B : Type 0} {number node : ℕ} (r : Answer B) (x : A) → refused_at number node ≡ and_then r (given x) → refused_at number node ≡ r
-named_first (given b) x e = absurd (let z : ◌≡◌ {A = ℕ} 0 1 = cc in omega arith)
-named_first (refused k) x e = absurd (let z : ◌≡◌ {A = ℕ} 0 1 = cc in omega arith)
-named_first {number = number} {node = node} (refused_at k n) x e = let q : number ≡ k = cc in let p : node ≡ n = cc in ap₂ refused_at q p
+turned_first : {A : Type 0} (B : Type 0) (r : Refusal) (next : Answer A) → and_then (turned_down {A = B} r) next ≡ turned_down r
+turned_first B r next = grind arith
+
+refused_if : (A : Type 0) (r : Refusal) (written lent : List ℕ) → afterwards (turned_down {A = A} r) written lent ≡ lent
+refused_if A r written lent = grind arith
 
 -- Words that stay, whether there is room or not.
 either : (b : Bool) (after lent : List ℕ) → after ≡ lent → cond b after lent ≡ lent
@@ -43,24 +51,10 @@ either true after lent e = e
 either false after lent e = refl
 
 module _ (reading : Reading) (nodes rules words : List ℕ) (start : Start) where
-  -- The walk's answer, by the case that it is: of one that lists nothing, and of one that lists.
-  pub told : {w v : Answered} → w ≡ v → ended w ≡ run_answer reading nodes rules words start → ended v ≡ run_answer reading nodes rules words start
-  told e p = sym (ap ended e) ∙ p
-
-  pub told_list :
-      {w v : Walk} → w ≡ v → walk_numbers w ≡ walk_answer reading nodes rules words start → walk_numbers v ≡ walk_answer reading nodes rules words start
-  told_list e p = sym (ap walk_numbers e) ∙ p
-
-  pub run_refused : {number : ℕ} → refused number ≡ walk_answer reading nodes rules words start → refused number ≡ run_answer reading nodes rules words start
+  -- What refuses a walk refuses a run.
+  pub run_refused : (r : Refusal) → turned_down r ≡ walk_answer reading nodes rules words start → turned_down r ≡ run_answer reading nodes rules words start
   unfolding walk_answer
-  run_refused e = refused_first (run_answer reading nodes rules words start) _ e
-
-  pub run_named :
-      {number node : ℕ}
-      → refused_at number node ≡ walk_answer reading nodes rules words start
-      → refused_at number node ≡ run_answer reading nodes rules words start
-  unfolding walk_answer
-  run_named e = named_first (run_answer reading nodes rules words start) _ e
+  run_refused r e = refused_first Listing r (run_answer reading nodes rules words start) _ e
 
   -- What an end that is answered shows; and with the number of captures.
   pub record Shown (x : Ended) : Type 0 where
@@ -115,12 +109,6 @@ module _ (reading : Reading) (nodes rules words : List ℕ) (start : Start) wher
         subst (Looked reading nodes rules words start) (sym h.end)
         (record { run = d; looked = sym (farthest_only reading nodes rules words start h.limits h.well _ d) })
 
-  pub answer_failure :
-      {m : ℕ}
-      → Shown (failing m)
-      → (given (failing m) ≡ run_answer reading nodes rules words start) × Looked reading nodes rules words start (failing m)
-  answer_failure h = (ap given h.end ∙ sym (answered h), derived h)
-
   -- What a state ends in, at a place.
   abbrev reached : State → ℕ → Ended
   reached u w = record { outcome = success (w, u.interval, u.flag); farthest = u.farthest }
@@ -133,29 +121,37 @@ module _ (reading : Reading) (nodes rules words : List ℕ) (start : Start) wher
     read : Reads start.place (u.place - start.place) u.place
     read = let l = success_onward in omega arith
 
-    pub answer_success :
-        (given (reached u (start.place + (u.place - start.place))) ≡ run_answer reading nodes rules words start)
-        × (Looked reading nodes rules words start (end_of u) × Reads start.place (u.place - start.place) u.place)
-    answer_success = (ap (λ (w : ℕ). given (reached u w)) read ∙ (ap given h.end ∙ sym (answered h)), (derived h, read))
+  -- What a run ends in, by the walk's outcome.
+  pub onward_by : (o : Outcome) → Shown (walk_end o) → Onward start.place o
+  onward_by (columns.Success u) h = success_onward u h
+  onward_by (columns.Failure m) h = tt
+
+  ran_as : (o : Outcome) → Shown (walk_end o) → ran_to start.place (ran_of start.place o) ≡ walk_end o
+  ran_as (columns.Success u) h = ap (reached u) (read u h)
+  ran_as (columns.Failure m) h = refl
+
+  pub ran_answered : (o : Outcome) → Shown (walk_end o) → given (ran_to start.place (ran_of start.place o)) ≡ run_answer reading nodes rules words start
+  ran_answered o h = ap given (ran_as o h ∙ h.end) ∙ sym (answered h)
+
+  pub ran_derived : (o : Outcome) → Shown (walk_end o) → Derived reading nodes rules words start (Ok (ran_of start.place o))
+  ran_derived (columns.Success u) h = (derived h, read u h)
+  ran_derived (columns.Failure m) h = derived h
 
   -- The lent words, and those that the walk left.
   module _ (lent : List ℕ) {l' : List ℕ} (after : l' ≡ walk_after reading nodes rules words start lent) where
     -- What refuses a run refuses one that lists, and the words are as they were.
-    pub list_refused :
-        {number : ℕ}
-        → refused number ≡ run_answer reading nodes rules words start
-        → (refused number ≡ list_answer reading nodes rules words start (length lent)) × (l' ≡ list_after reading nodes rules words start lent)
-    unfolding list_answer list_after walk_after
-    list_refused e =
-        (rw (← e) refl, rw (← e) (after ∙ either (leb (length (our_captures reading nodes rules words start)) (length lent / 4)) _ lent (rw (← e) refl)))
+    pub list_turned : (r : Refusal) → turned_down r ≡ run_answer reading nodes rules words start → turned_down r ≡ list_answer reading nodes rules words start (length lent)
+    unfolding list_answer
+    list_turned r e = rw (← e) (sym (turned_first Ended r _))
 
-    pub list_named :
-        {number node : ℕ}
-        → refused_at number node ≡ run_answer reading nodes rules words start
-        → (refused_at number node ≡ list_answer reading nodes rules words start (length lent)) × (l' ≡ list_after reading nodes rules words start lent)
-    unfolding list_answer list_after walk_after
-    list_named e =
-        (rw (← e) refl, rw (← e) (after ∙ either (leb (length (our_captures reading nodes rules words start)) (length lent / 4)) _ lent (rw (← e) refl)))
+    pub list_untouched : (r : Refusal) → turned_down r ≡ run_answer reading nodes rules words start → l' ≡ list_after reading nodes rules words start lent
+    unfolding list_after walk_after
+    list_untouched r e =
+        let q : lent ≡ afterwards (list_answer reading nodes rules words start (length lent)) (list_words (our_captures reading nodes rules words start) (length lent)) lent =
+        rw (← list_turned r e) (sym (refused_if Listing r _ lent)) in
+        after
+        ∙ either (leb (length (our_captures reading nodes rules words start)) (length lent / 4)) _ lent (rw (← e) (refused_if Ended r _ lent))
+        ∙ q
 
     module _ (short : length lent < 2 ^ 64) (m : length l' ≡ length lent) {x : Ended} {n : ℕ} (h : ShownList x n) where
       -- 13.
@@ -211,32 +207,16 @@ module _ (reading : Reading) (nodes rules words : List ℕ) (start : Start) wher
             let c = captures_only reading nodes rules words start h.shows.limits h.shows.well x.outcome f.run in
             record { derived = f; counted = exact ∙ ap length (sym c); stands = rw (c, m) slice }
 
-        pub list_given :
-            (given (record { ended = x; count = n }) ≡ list_answer reading nodes rules words start (length lent))
-            × ((l' ≡ list_after reading nodes rules words start lent) × CapturesStand reading nodes rules words start x n l')
-        list_given = (given_list, (left, stands))
+    -- The answer that lists.
+    module _ (short : length lent < 2 ^ 64) (m : length l' ≡ length lent) (o : Outcome) {n : ℕ} (h : ShownList (walk_end o) n) (k : n ≤ length l' / 4) where
+      pub list_answered :
+          given (record { ended = ran_to start.place (ran_of start.place o); count = n }) ≡ list_answer reading nodes rules words start (length lent)
+      list_answered = ap (λ (x : Ended). given (record { ended = x; count = n })) (ran_as o h.shows) ∙ given_list short m h k
+
+      pub list_left : l' ≡ list_after reading nodes rules words start lent
+      list_left = left short m h k
 
     module _ (short : length lent < 2 ^ 64) (m : length l' ≡ length lent) where
-      -- A failure lists none, so it has room.
-      pub list_failure :
-          {f : ℕ}
-          → ShownList (failing f) 0
-          → (given (record { ended = failing f; count = 0 }) ≡ list_answer reading nodes rules words start (length lent))
-          × ((l' ≡ list_after reading nodes rules words start lent) × CapturesStand reading nodes rules words start (failing f) 0 l')
-      list_failure h = list_given short m h (omega arith)
-
-      pub list_success :
-          (u : State) {n : ℕ}
-          → ShownList (end_of u) n
-          → n ≤ length l' / 4
-          → (given (record { ended = reached u (start.place + (u.place - start.place)); count = n })
-          ≡ list_answer reading nodes rules words start (length lent))
-          × ((l' ≡ list_after reading nodes rules words start lent)
-          × (CapturesStand reading nodes rules words start (end_of u) n l'
-          × Reads start.place (u.place - start.place) u.place))
-      list_success u {n} h k =
-          let x = list_given short m h k in
-          let r = read u h.shows in (
-            ap (λ (v : ℕ). given (record { ended = reached u v; count = n })) r ∙ x.0,
-            (x.1.0, (x.1.1, r)),
-          )
+      pub list_by : (o : Outcome) {n : ℕ} → ShownList (walk_end o) n → n ≤ length l' / 4 → ListedBy reading nodes rules words start (ran_of start.place o) n l'
+      list_by (columns.Success u) h k = (stands short m h k, read u h.shows)
+      list_by (columns.Failure f) h k = stands short m h k

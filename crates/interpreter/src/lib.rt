@@ -7,32 +7,33 @@ ghost use Rattle.clauses.specs.RunAnswer.{run_answer};
 ghost use Rattle.clauses.specs.Remembering.{memory_after};
 ghost use Rattle.clauses.specs.ListAnswer.{list_answer, list_after};
 ghost use Rattle.interpreter.specs.Numbers.{numbers, Derived, list_numbers, ListDerived};
+ghost use Rattle.interpreter.specs.InternalRan.{Onward, ran_of};
 
-use columns::{Reading, Start, State};
-use table::refusals;
-use walk::{Answered, Walk};
+use columns::{Outcome, Reading, Start, State};
+use table::Refusal;
 
-// What a run answers: success with the number of tokens read and the state, failure with the farthest place, the number of the
-// first check that fails, or the lowest node that is not well formed (7).
-#[derive(Clone, Copy)]
+// What a run ends in: success with the number of tokens read and the state, failure with the farthest place.
+#[derive(Clone, Copy, Debug, PartialEq, Eq)]
 pub enum Ran {
     Success(u32, State),
     Failure(u32),
-    Refused(u8),
-    IllFormed(u16),
 }
 
-// What a run that lists answers: the same, a success with the number of its captures.
-#[derive(Clone, Copy)]
-pub enum Listed {
-    Success(u32, State, usize),
-    Failure(u32),
-    Refused(u8),
-    IllFormed(u16),
+// What a run that lists ends in: the same, with the number of its captures, 0 where it failed.
+#[derive(Clone, Copy, Debug, PartialEq, Eq)]
+pub struct Listed {
+    pub ran: Ran,
+    pub captures: usize,
 }
 
 // Runs a grammar on tokens from a start by a reading. It writes nothing.
-pub fn run(nodes: &[u16], rules: &[u16], tokens: &[u32], start: Start, reading: Reading) -> Ran
+pub fn run(
+    nodes: &[u16],
+    rules: &[u16],
+    tokens: &[u32],
+    start: Start,
+    reading: Reading,
+) -> Result<Ran, Refusal>
     ensures result_value { numbers start.place result
         ≡ run_answer reading nodes.now rules.now tokens.now start }
     ensures derived { Derived reading nodes.now rules.now tokens.now start result }
@@ -50,23 +51,15 @@ pub fn remember(
     start: Start,
     reading: Reading,
     memory: &mut [u32],
-) -> Ran
+) -> Result<Ran, Refusal>
     ensures result_value { numbers start.place result
         ≡ run_answer reading nodes.now rules.now tokens.now start }
     ensures memory_after { memory.new
         ≡ memory_after reading nodes.now rules.now tokens.now start memory.old }
     ensures derived { Derived reading nodes.now rules.now tokens.now start result }
 {
-    let w = walk::run(nodes, rules, tokens, start, reading, memory);
-    match w {
-        Answered::Refused(number) => Ran::Refused(number),
-        Answered::IllFormed(node) => Ran::IllFormed(node),
-        Answered::Failure(farthest) => Ran::Failure(farthest),
-        Answered::Success(u) => {
-            let read = u.place - start.place;
-            Ran::Success(read, u)
-        }
-    }
+    let outcome = walk::run(nodes, rules, tokens, start, reading, memory)?;
+    Ok(ran_from(start.place, outcome))
 }
 
 // Runs a grammar and lists its captures in the lent words, four words each, with zeros behind them. A refused call writes
@@ -78,7 +71,7 @@ pub fn list(
     start: Start,
     reading: Reading,
     captures: &mut [u32],
-) -> Listed
+) -> Result<Listed, Refusal>
     ensures result_value { list_numbers start.place result
         ≡ list_answer reading nodes.now rules.now tokens.now start
         (length captures.old) }
@@ -87,17 +80,24 @@ pub fn list(
     ensures list_derived { ListDerived reading nodes.now rules.now tokens.now start result captures.new }
 {
     let mut memory = [0u32; 65536];
-    let w = walk::list(nodes, rules, tokens, start, reading, captures, &mut memory);
-    match w {
-        Walk::Refused(number) => Listed::Refused(number),
-        Walk::IllFormed(node) => Listed::IllFormed(node),
-        Walk::Failure(farthest) => Listed::Failure(farthest),
-        Walk::Success(u, count) => {
-            if captures.len() / 4 < count {
-                return Listed::Refused(refusals::CAPTURE_ROOM);
-            }
-            let read = u.place - start.place;
-            Listed::Success(read, u, count)
-        }
+    let whole = walk::list(nodes, rules, tokens, start, reading, captures, &mut memory)?;
+    if captures.len() / 4 < whole.captures {
+        return Err(Refusal::CaptureRoom);
+    }
+    let ran = ran_from(start.place, whole.outcome);
+    Ok(Listed {
+        ran,
+        captures: whole.captures,
+    })
+}
+
+// What a run ends in that began at a place, by the walk's outcome.
+fn ran_from(place: u32, outcome: Outcome) -> Ran
+    requires { Onward place outcome }
+    ensures { result ≡ ran_of place outcome }
+{
+    match outcome {
+        Outcome::Failure(farthest) => Ran::Failure(farthest),
+        Outcome::Success(u) => Ran::Success(u.place - place, u),
     }
 }

@@ -1,51 +1,19 @@
 -- What the walk's leaf functions show, over plain values.
-use Prim.Native.Nat.{ℕ, zero, suc, ◌+◌, ◌*◌, ◌/◌, ◌%◌, ◌≤◌, ◌<◌, ◌^◌, max}
+use Prim.Native.Nat.{ℕ, ◌+◌, ◌*◌, ◌/◌, ◌%◌, ◌≤◌, ◌<◌, ◌^◌, max}
 use mathlib.Core.Path.{◌≡◌, refl}
-use mathlib.Core.Bool.{true}
 use mathlib.Core.List.{List}
 use lib.ListN.{length, get_or}
 use native.Mathlib.Omega.{arith}
 use borrow.Author.Tests.{le-ltb, lt-ltb, eq-eqb, ne_eqb}
-use Rattle.columns.specs.Intervals.{to, inner_ends}
+use Rattle.columns.specs.Intervals.{to}
 use Rattle.columns.specs.InternalHighest.{finite}
 use Rattle.columns.specs.declared.Upper.{Upper}
 use Rattle.columns.specs.declared.Upper.TheVariants.{At}
-use Rattle.columns.specs.declared.Interval.{Interval}
 use Rattle.columns.specs.declared.State.{State}
 use Rattle.columns.specs.declared.Outcome.{Outcome}
 use Rattle.columns.specs.declared.Outcome.TheVariants.{Success, Failure}
-use Rattle.columns.specs.declared.Reading.{Reading}
-use Rattle.readings.specs.Readings.{in_force}
-use Rattle.after_child.specs.AfterChild.{with_interval, with_flag}
-use Rattle.walk.specs.InternalWalk.{child_state, with_farthest, joined_outcome, token_outcome, column_outcome}
-
--- The state of a first child.
-pub child_indent :
-    (reading : Reading) (q r : ℕ) (s : State) (c : Interval) {ρ : ℕ}
-    → q ≡ 7
-    → ρ ≡ in_force reading s.flag r
-    → c ≡ inner_ends ρ s.interval
-    → with_interval s c ≡ child_state reading q r s
-unfolding child_state
-child_indent reading q r s c e g d = rw (e, d, g) refl
-
-pub child_align : (reading : Reading) (q r : ℕ) (s : State) → q ≡ 9 → with_flag s true ≡ child_state reading q r s
-unfolding child_state
-child_align reading q r s e = rw e refl
-
-pub child_same : (reading : Reading) (q r : ℕ) (s : State) → (q ≡ 7 → ⊥) → (q ≡ 9 → ⊥) → s ≡ child_state reading q r s
-unfolding child_state
-child_same reading zero r s a b = refl
-child_same reading (suc zero) r s a b = refl
-child_same reading (suc (suc zero)) r s a b = refl
-child_same reading (suc (suc (suc zero))) r s a b = refl
-child_same reading (suc (suc (suc (suc zero)))) r s a b = refl
-child_same reading (suc (suc (suc (suc (suc zero))))) r s a b = refl
-child_same reading (suc (suc (suc (suc (suc (suc zero)))))) r s a b = refl
-child_same reading (suc (suc (suc (suc (suc (suc (suc zero))))))) r s a b = absurd (a refl)
-child_same reading (suc (suc (suc (suc (suc (suc (suc (suc zero)))))))) r s a b = refl
-child_same reading (suc (suc (suc (suc (suc (suc (suc (suc (suc zero))))))))) r s a b = absurd (b refl)
-child_same reading (suc (suc (suc (suc (suc (suc (suc (suc (suc (suc q)))))))))) r s a b = refl
+use Rattle.after_child.specs.AfterChild.{with_interval}
+use Rattle.walk.specs.InternalWalk.{with_farthest, joined_outcome, token_outcome, column_outcome}
 
 -- Room for a finite upper end to rise.
 pub room_at : {h : Upper} {x : ℕ} (d : ℕ) → h ≡ At x → finite h + d < 2 ^ 32 → x + d < 2 ^ 32

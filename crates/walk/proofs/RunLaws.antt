@@ -1,8 +1,8 @@
 -- What a walk from a start answers and lists, over plain values: by its outcome, or by the first number that applies.
 use Prim.Native.Nat.{ℕ, ◌+◌, ◌-◌, ◌*◌, ◌/◌, ◌≤◌, ◌<◌, ◌^◌, min}
-use mathlib.Core.Path.{◌≡◌, refl, sym, ap, subst, ◌∙◌}
+use mathlib.Core.Path.{◌≡◌, refl, sym, ap, ◌∙◌}
 use mathlib.Core.Bool.{Bool, true, false, cond, not as is_false, ◌||◌}
-use mathlib.Core.List.{List, [], ◌∷◌}
+use mathlib.Core.List.{List}
 use lib.ListN.{length, get_or, replicate}
 use native.Mathlib.Omega.{arith}
 use borrow.Author.Tests.{ltb-false, lt-leb, le-leb}
@@ -21,15 +21,16 @@ use Rattle.columns.specs.declared.Start.{Start}
 use Rattle.columns.specs.declared.Outcome.{Outcome}
 use Rattle.columns.specs.declared.Reading.{Reading}
 use Rattle.columns.specs.declared.Outcome.TheVariants.{Success, Failure}
-use Rattle.table.specs.Answer.{Answer, given, refused, refused_at}
-use Rattle.table.proofs.AnswerLaws.{first_refuses, first_names}
+use Rattle.table.specs.Answer.{Answer, given, refused, and_then, afterwards}
+use Rattle.table.specs.Refusals.{turned_down}
+use Rattle.table.specs.declared.refusals.Refusal.{Refusal}
 use Rattle.well_formed.specs.Check.{check_answer}
 use Rattle.well_formed.proofs.VerdictLaws.{check_means}
 use Rattle.table.specs.Words.{each_words}
 use Rattle.clauses.specs.Clauses as clauses
 use Rattle.clauses.specs.Trace.{Trace, farthest_from, listed}
 use Rattle.clauses.specs.Limits.{tokens_of, finite_over, fails11, fails12, fails16, WithinLimits}
-use Rattle.clauses.specs.RunAnswer.{EndsRun, our_outcome, our_trace, our_farthest, Ended, our_end, run_answer}
+use Rattle.clauses.specs.RunAnswer.{EndsRun, our_outcome, our_farthest, Ended, our_end, run_answer}
 use Rattle.clauses.specs.ListAnswer.{our_captures, capture_words}
 use Rattle.clauses.specs.Remembering.{memory_after}
 use Rattle.clauses.proofs.ListWords.{list_fills}
@@ -37,14 +38,15 @@ use Rattle.clauses.proofs.MemoryWords.{memory_given}
 use Rattle.theorems.proofs.Agreement.{outcome_only, farthest_only, captures_only, outcome_answered}
 use Rattle.theorems.proofs.LimitLaws.{begins}
 use Rattle.capture_list.specs.Put.{most_count, cleared_from}
-use Rattle.capture_list.specs.InternalList.{so_far, Room, Leaves, lists, keeps}
+use Rattle.capture_list.specs.declared.Counts.{Counts}
+use Rattle.capture_list.specs.InternalList.{with_counts, Room, Leaves, lists, keeps}
 use Rattle.capture_list.proofs.ClearLaws.{list_is}
 use Rattle.memory.proofs.MemoryLaws.{nothing_kept}
-use Rattle.walk.specs.declared.Whole.{Whole}
-use Rattle.walk.specs.InternalWalk.{state_of, outcome_of, farthest_of, weight, Checked, Ready, Walked}
+use Rattle.walk.specs.declared.Walk.{Walk}
+use Rattle.walk.specs.InternalWalk.{outcome_of, farthest_of, weight, Checked, Ready, Walked}
 use Rattle.walk.specs.InternalRemembering.{Remembering}
-use Rattle.walk.specs.InternalRun.{Admitted, Counted, WholeWalkFrom}
-use Rattle.walk.specs.WalkAnswer.{walk_answer, walk_after}
+use Rattle.walk.specs.InternalRun.{Admitted, Counted, WholeWalk, WholeWalkFrom}
+use Rattle.walk.specs.WalkAnswer.{end_of, walk_answer, walk_after}
 use Rattle.walk.proofs.WalkLaws.{weight_most}
 
 -- A finite upper end of a start within the limits is at most the last column.
@@ -64,19 +66,19 @@ upper_in Endless e = omega arith
 
 -- From an empty list, with a count k: where that is 0, the count and the words of what is listed.
 count_left :
-    {t : Trace} {k : ℕ} {l c' l' : List ℕ} {u : State}
-    → Leaves t (0 ∷ k ∷ []) l c' l' (Success u)
+    {t : Trace} {k : ℕ} {c' : Counts} {l l' : List ℕ} {u : State}
+    → Leaves t (with_counts 0 k) l c' l' (Success u)
     → k ≡ 0
-    → so_far c' ≡ min (length (t.captures 0)) most_count
+    → c'.so_far ≡ min (length (t.captures 0)) most_count
 count_left (lists x) e = omega (arith, x.count, e)
 
-long_left : {t : Trace} {k : ℕ} {l c' l' : List ℕ} {o : Outcome} → Leaves t (0 ∷ k ∷ []) l c' l' o → length l' ≡ length l
+long_left : {t : Trace} {k : ℕ} {c' : Counts} {l l' : List ℕ} {o : Outcome} → Leaves t (with_counts 0 k) l c' l' o → length l' ≡ length l
 long_left (lists x) = x.keeps.long
 long_left (keeps x) = x.long
 
 words_left :
-    {t : Trace} {k : ℕ} {l c' l' : List ℕ} {o : Outcome}
-    → Leaves t (0 ∷ k ∷ []) l c' l' o
+    {t : Trace} {k : ℕ} {c' : Counts} {l l' : List ℕ} {o : Outcome}
+    → Leaves t (with_counts 0 k) l c' l' o
     → k ≡ 0
     → length (listed (outcome_of o) t) * 4 ≤ length l
     → (i : ℕ)
@@ -91,29 +93,25 @@ cleared_all : (m : List ℕ) → cleared_from 0 m ≡ replicate (length m) 0
 unfolding cleared_from
 cleared_all m = let e : length m - 0 ≡ length m = omega arith in ap (λ (k : ℕ). replicate k 0) e
 
-pub remembers_by :
-    {v reading : Reading} {nodes rules words m : List ℕ}
-    → v ≡ reading
-    → Remembering v nodes rules words m
-    → Remembering reading nodes rules words m
-remembers_by {nodes = nodes} {rules = rules} {words = words} {m = m} e h = subst (λ (u : Reading). Remembering u nodes rules words m) e h
-
 pub remembers_cleared :
     {reading : Reading} {nodes rules words : List ℕ} (m : List ℕ) {m' : List ℕ} → m' ≡ cleared_from 0 m → Remembering reading nodes rules words m'
 remembers_cleared m e = rw (e, cleared_all m) (nothing_kept _ (length m))
+
+-- A refusal goes on as it is, and leaves a lent slice as it was.
+turned_first : {A : Type 0} (B : Type 0) (r : Refusal) (next : Answer A) → and_then (turned_down {A = B} r) next ≡ turned_down r
+turned_first B r next = grind arith
+
+untouched : (A : Type 0) (written lent : List ℕ) (r : Refusal) → afterwards (turned_down {A = A} r) written lent ≡ lent
+untouched A written lent r = grind arith
 
 module _ (reading : Reading) (nodes rules words : List ℕ) (start : Start) where
   abbrev Answered : Answer Ended → Type 0
   Answered v = v ≡ run_answer reading nodes rules words start
 
   -- The grammar is refused.
-  pub check_refuses : {number : ℕ} → refused number ≡ check_answer nodes rules → Answered (refused number)
+  pub check_refuses : (r : Refusal) → turned_down r ≡ check_answer nodes rules → Answered (turned_down r)
   unfolding run_answer
-  check_refuses e = first_refuses _ e
-
-  pub check_names : {number node : ℕ} → refused_at number node ≡ check_answer nodes rules → Answered (refused_at number node)
-  unfolding run_answer
-  check_names e = first_names _ e
+  check_refuses r e = rw (← e) (sym (turned_first Unit r _))
 
   -- 11 and 12.
   pub refused_11 : check_answer nodes rules ≡ given tt → fails11 words ≡ true → Answered (refused 11)
@@ -138,22 +136,18 @@ module _ (reading : Reading) (nodes rules words : List ℕ) (start : Start) wher
   unwritten true lent after e = sym e
   unwritten false lent after e = refl
 
-  module _ (lent : List ℕ) where
-    pub walk_refused :
-        {number : ℕ}
-        → Answered (refused number)
-        → (refused number ≡ walk_answer reading nodes rules words start) × (lent ≡ walk_after reading nodes rules words start lent)
-    unfolding walk_answer walk_after
-    walk_refused e =
-        (rw (← e) refl, unwritten (leb (length (our_captures reading nodes rules words start)) (length lent / 4)) lent _ (rw (← e) refl))
+  module _ (lent : List ℕ) (r : Refusal) (e : Answered (turned_down r)) where
+    pub walk_refused : turned_down r ≡ walk_answer reading nodes rules words start
+    unfolding walk_answer
+    walk_refused = rw (← e) (sym (turned_first Ended r _))
 
-    pub walk_named :
-        {number node : ℕ}
-        → Answered (refused_at number node)
-        → (refused_at number node ≡ walk_answer reading nodes rules words start) × (lent ≡ walk_after reading nodes rules words start lent)
-    unfolding walk_answer walk_after
-    walk_named e =
-        (rw (← e) refl, unwritten (leb (length (our_captures reading nodes rules words start)) (length lent / 4)) lent _ (rw (← e) refl))
+    pub list_refused : lent ≡ walk_after reading nodes rules words start lent
+    unfolding walk_after
+    list_refused = unwritten (leb (length (our_captures reading nodes rules words start)) (length lent / 4)) lent _ (rw (← e) (untouched _ _ lent r))
+
+    pub memory_refused : lent ≡ memory_after reading nodes rules words start lent
+    unfolding memory_after
+    memory_refused = rw (← e) (sym (untouched _ _ lent r))
 
   module _ (admitted : Admitted reading nodes rules words start) where
     limits : WithinLimits reading nodes rules words start
@@ -180,7 +174,7 @@ module _ (reading : Reading) (nodes rules words : List ℕ) (start : Start) wher
         let w = weight_most nodes rules words start.node from checked b.node in
         record { checked = checked; node = b.node; place = b.place; some = b.some; room = omega arith }
 
-    pub begin_room : {k : ℕ} → k ≤ most_count → {l : List ℕ} → length l < 2 ^ 64 → Room (weight nodes rules words start.node from) (0 ∷ k ∷ []) l
+    pub begin_room : {k : ℕ} → k ≤ most_count → {l : List ℕ} → length l < 2 ^ 64 → Room (weight nodes rules words start.node from) (with_counts 0 k) l
     begin_room c h =
         let b = begins nodes words start admitted.start_right in
         let w = weight_most nodes rules words start.node from checked b.node in
@@ -194,8 +188,8 @@ module _ (reading : Reading) (nodes rules words : List ℕ) (start : Start) wher
     answered = sym (outcome_answered reading nodes rules words start limits checked.well)
 
     -- What a whole walk shows, from what the expression walk shows.
-    module _ {k : ℕ} {l : List ℕ} {o : Outcome} {c' l' : List ℕ}
-        (d : Walked reading nodes rules words start.mode (form nodes start.node) from (0 ∷ k ∷ []) l o c' l') where
+    module _ {k : ℕ} {l : List ℕ} {o : Outcome} {c' : Counts} {l' : List ℕ}
+        (d : Walked reading nodes rules words start.mode (form nodes start.node) from (with_counts 0 k) l o c' l') where
       same : listed (outcome_of o) d.shown ≡ our_captures reading nodes rules words start
       same =
           ap (listed (outcome_of o)) (sym d.gives.derived.shows)
@@ -208,7 +202,7 @@ module _ (reading : Reading) (nodes rules words : List ℕ) (start : Start) wher
           ∙ farthest_only reading nodes rules words start limits checked.well (outcome_of o) d.gives.derived.run
 
       whole : (n : ℕ) → (k ≡ 0 → n ≡ min (length (listed (outcome_of o) d.shown)) most_count)
-          → WholeWalkFrom reading nodes rules words start k l (record { outcome = o; count = n }) l'
+          → WholeWalkFrom reading nodes rules words start k l (record { outcome = o; captures = n }) l'
       whole n e =
           record {
             run = d.gives.derived.run;
@@ -223,70 +217,46 @@ module _ (reading : Reading) (nodes rules words : List ℕ) (start : Start) wher
             };
           }
 
-    -- By a reading that is the run's.
     pub whole_failed :
-        {v : Reading} {k : ℕ} {l : List ℕ} {o : Outcome} {c' l' : List ℕ} (m : ℕ)
-        → v ≡ reading
-        → Walked v nodes rules words start.mode (form nodes start.node) from (0 ∷ k ∷ []) l o c' l'
+        {k : ℕ} {l : List ℕ} {o : Outcome} {c' : Counts} {l' : List ℕ} (m : ℕ)
+        → Walked reading nodes rules words start.mode (form nodes start.node) from (with_counts 0 k) l o c' l'
         → o ≡ Failure m
-        → WholeWalkFrom reading nodes rules words start k l (record { outcome = Failure m; count = 0 }) l'
-    whole_failed {v} {k} {l} {o} {c'} {l'} m p d e =
-        let f : Walked reading nodes rules words start.mode (form nodes start.node) from (0 ∷ k ∷ []) l (Failure m) c' l' = rw (e, p) at d in
+        → WholeWalkFrom reading nodes rules words start k l (record { outcome = Failure m; captures = 0 }) l'
+    whole_failed {k} {l} {o} {c'} {l'} m d e =
+        let f : Walked reading nodes rules words start.mode (form nodes start.node) from (with_counts 0 k) l (Failure m) c' l' = rw e at d in
         whole f 0 (λ z. omega arith)
 
     pub whole_read :
-        {v : Reading} {k : ℕ} {l : List ℕ} {o : Outcome} {c' l' : List ℕ} (u : State)
-        → v ≡ reading
-        → Walked v nodes rules words start.mode (form nodes start.node) from (0 ∷ k ∷ []) l o c' l'
+        {k : ℕ} {l : List ℕ} {o : Outcome} {c' : Counts} {l' : List ℕ} (u : State)
+        → Walked reading nodes rules words start.mode (form nodes start.node) from (with_counts 0 k) l o c' l'
         → o ≡ Success u
-        → WholeWalkFrom reading nodes rules words start k l (record { outcome = Success u; count = so_far c' }) l'
-    whole_read {v} {k} {l} {o} {c'} {l'} u p d e =
-        let f : Walked reading nodes rules words start.mode (form nodes start.node) from (0 ∷ k ∷ []) l (Success u) c' l' = rw (e, p) at d in
-        whole f (so_far c') (count_left f.left)
+        → WholeWalkFrom reading nodes rules words start k l (record { outcome = Success u; captures = c'.so_far }) l'
+    whole_read {k} {l} {o} {c'} {l'} u d e =
+        let f : Walked reading nodes rules words start.mode (form nodes start.node) from (with_counts 0 k) l (Success u) c' l' = rw e at d in
+        whole f c'.so_far (count_left f.left)
 
-    -- What a walk answers, by its outcome, its farthest place and its count.
-    given_walk :
-        {n m : ℕ} {o : clauses.Outcome Interval}
-        → o ≡ our_outcome reading nodes rules words start
-        → m ≡ our_farthest reading nodes rules words start
-        → Counted reading nodes rules words start n
-        → given (record { ended = record { outcome = o; farthest = m }; count = n }) ≡ walk_answer reading nodes rules words start
+    -- What an outcome says, with a derivation and its farthest place.
+    end_is :
+        (o : Outcome)
+        → EndsRun reading nodes rules words start (outcome_of o)
+        → farthest_of o ≡ our_farthest reading nodes rules words start
+        → end_of o ≡ our_end reading nodes rules words start
+    end_is (Success u) d e = rw (settled (outcome_of (Success u)) d, e) refl
+    end_is (Failure m) d e = rw (settled (outcome_of (Failure m)) d, e) refl
+
+    pub walk_answered :
+        {l : List ℕ} {w : Walk} {l' : List ℕ}
+        → WholeWalk reading nodes rules words start l w l'
+        → given (record { ended = end_of w.outcome; count = w.captures }) ≡ walk_answer reading nodes rules words start
     unfolding walk_answer
-    given_walk e m c = rw (← answered, e, m, c) refl
+    walk_answered {w = w} d = rw (← answered, end_is w.outcome d.run d.farthest, d.count) refl
 
-    module _ {k : ℕ} {l : List ℕ} {w : Whole} {l' : List ℕ} (d : WholeWalkFrom reading nodes rules words start k l w l') where
-      outcome : (o : Outcome) → w.outcome ≡ o → outcome_of o ≡ our_outcome reading nodes rules words start
-      outcome o e = settled (outcome_of o) (subst (λ (v : Outcome). EndsRun reading nodes rules words start (outcome_of v)) e d.run)
-
-      looked_to : (o : Outcome) → w.outcome ≡ o → farthest_of o ≡ our_farthest reading nodes rules words start
-      looked_to o e = sym (ap farthest_of e) ∙ d.farthest
-
-      -- A failure lists none.
-      none : (m : ℕ) → w.outcome ≡ Failure m → Counted reading nodes rules words start 0
-      none m e =
-          let q = ap (λ (o : clauses.Outcome Interval). length (listed o (our_trace reading nodes rules words start))) (outcome (Failure m) e) in
-          omega arith
-
-      pub walk_failure :
-          (m : ℕ)
-          → w.outcome ≡ Failure m
-          → given (record { ended = record { outcome = clauses.failure; farthest = m }; count = 0 }) ≡ walk_answer reading nodes rules words start
-      walk_failure m e = given_walk (outcome (Failure m) e) (looked_to (Failure m) e) (none m e)
-
-      pub walk_success :
-          (u : State)
-          → w.outcome ≡ Success u
-          → k ≡ 0
-          → given (record { ended = record { outcome = clauses.success (state_of u); farthest = u.farthest }; count = w.count })
-          ≡ walk_answer reading nodes rules words start
-      walk_success u e z = given_walk (outcome (Success u) e) (looked_to (Success u) e) (d.whole z).count
-
-      -- What a walk answers that lists nothing.
-      pub run_failure : (m : ℕ) → w.outcome ≡ Failure m → Answered (given (record { outcome = clauses.failure; farthest = m }))
-      run_failure m e = rw (outcome (Failure m) e, looked_to (Failure m) e) answered
-
-      pub run_success : (u : State) → w.outcome ≡ Success u → Answered (given (record { outcome = clauses.success (state_of u); farthest = u.farthest }))
-      run_success u e = rw (outcome (Success u) e, looked_to (Success u) e) answered
+    -- What a walk answers that lists nothing.
+    pub run_answered :
+        {k : ℕ} {l : List ℕ} {w : Walk} {l' : List ℕ}
+        → WholeWalkFrom reading nodes rules words start k l w l'
+        → Answered (given (end_of w.outcome))
+    run_answered {w = w} d = rw (end_is w.outcome d.run d.farthest) answered
 
     -- The slice that is remembered in, cleared.
     pub memory_cleared : (m m' : List ℕ) {m'' : List ℕ} → length m' ≡ length m → m'' ≡ cleared_from 0 m' → m'' ≡ memory_after reading nodes rules words start m
@@ -329,7 +299,7 @@ module _ (reading : Reading) (nodes rules words : List ℕ) (start : Start) wher
             filled lent refl (λ i b. absurd (omega (arith, exact))) y
 
         pub listed_there :
-            {w : Whole} {l' l'' : List ℕ}
+            {w : Walk} {l' l'' : List ℕ}
             → WholeWalkFrom reading nodes rules words start 0 lent w l'
             → l'' ≡ cleared_from (n * 4) l'
             → l'' ≡ walk_after reading nodes rules words start lent

@@ -1,6 +1,8 @@
 -- What the walk tells of the lent slice that it remembers in. No public promise rests on this file.
-use Rattle.std.specs.Prelude.{ℕ, ◌≡◌, Bool, true, List, ◌⊎◌}
+use Rattle.std.specs.Prelude.{ℕ, ◌≡◌, Bool, true, Option, Some, None, List, ◌⊎◌}
 use Rattle.table.specs.Form.{form}
+use Rattle.table.specs.Kinds.{word_of}
+use Rattle.table.specs.declared.kinds.Kind.{Kind}
 use Rattle.columns.specs.declared.Interval.{Interval}
 use Rattle.columns.specs.declared.State.{State}
 use Rattle.columns.specs.declared.Outcome.{Outcome}
@@ -10,8 +12,6 @@ use Rattle.clauses.specs.Trace.{Trace}
 use Rattle.capture_list.specs.Put.{quiet_in}
 use Rattle.memory.specs.Memory.{recalled, kept}
 use Rattle.memory.specs.InternalRemembers.{Remembers}
-use Rattle.memory.specs.declared.Known.{Known}
-use Rattle.memory.specs.declared.Known.TheVariants.{Is, Nothing}
 use Rattle.walk.specs.InternalWalk.{Gives}
 
 -- An outcome of a node n in mode τ at place w with interval I and flag b has a derivation, and its farthest place is that of
@@ -28,15 +28,15 @@ Remembering reading nodes rules words memory = Remembers (Derives reading nodes 
 
 -- An outcome of what is walked first in a node of kind q may be used again, with so many captures so far: a success only where
 -- nothing is listed.
-abbrev pub Usable : ℕ → ℕ → Outcome → Type 0
-Usable q count (Success u) = quiet_in q count ≡ true
+abbrev pub Usable : Kind → ℕ → Outcome → Type 0
+Usable q count (Success u) = quiet_in (word_of q) count ≡ true
 Usable q count (Failure farthest) = Unit
 
 -- What is found for node n in mode τ from a state: a remembered outcome that may be used, or nothing, always.
-abbrev pub Recalls : List ℕ → ℕ → ℕ → ℕ → State → ℕ → Known → Type 0
-Recalls memory q n τ s count (Is x) =
-    (recalled memory n τ s.place s.interval s.flag ≡ Is x) × Usable q count x
-Recalls memory q n τ s count Nothing = Unit
+abbrev pub Recalls : List ℕ → Kind → ℕ → ℕ → State → ℕ → Option Outcome → Type 0
+Recalls memory q n τ s count (Some x) =
+    (recalled memory n τ s.place s.interval s.flag ≡ Some x) × Usable q count x
+Recalls memory q n τ s count None = Unit
 
 -- The slice once an outcome from a state was to be remembered: it is kept, or nothing is.
 abbrev pub Stored : List ℕ → ℕ → ℕ → State → Outcome → List ℕ → Type 0

@@ -1,8 +1,11 @@
 -- What the walk's functions tell one another. No public promise rests on this file.
-use Rattle.std.specs.Prelude.{ℕ, zero, suc, ◌+◌, ◌-◌, ◌*◌, ◌%◌, ◌≤◌, ◌<◌, ◌^◌, max, ◌≡◌, true, false, cond, List, length, eqb}
+use Rattle.std.specs.Prelude.{ℕ, ◌+◌, ◌-◌, ◌*◌, ◌%◌, ◌≤◌, ◌<◌, ◌^◌, max, ◌≡◌, true, false, cond, List, length}
 use Rattle.table.specs.Limits.{most_nodes, relation_count, most_tokens, most_column}
 use Rattle.table.specs.Answer.{given}
 use Rattle.table.specs.Checks.{table_answer}
+use Rattle.table.specs.Kinds.{word_of}
+use Rattle.table.specs.declared.kinds.Kind.{Kind}
+use Rattle.table.specs.declared.kinds.Kind.TheVariants.{Terminal, Indent, Align}
 use Rattle.table.specs.Form.{Form, kind_of, node_count, stands_for}
 use Rattle.columns.specs.Relations.{amount}
 use Rattle.columns.specs.Lawful.{Some}
@@ -23,6 +26,7 @@ use Rattle.clauses.specs.Limits.{tokens_of, fails11}
 use Rattle.readings.specs.Readings.{in_force}
 use Rattle.after_child.specs.AfterChild.{with_interval, with_flag}
 use Rattle.capture_list.specs.Put.{puts_back}
+use Rattle.capture_list.specs.declared.Counts.{Counts}
 use Rattle.capture_list.specs.InternalList.{Lists, Leaves}
 
 -- The declared states and outcomes as those of the clauses.
@@ -39,19 +43,10 @@ farthest_of (Success s) = s.farthest
 farthest_of (Failure farthest) = farthest
 
 -- The state in which the first child of a node of a kind is walked, by a reading.
-unfoldable pub child_state : Reading → ℕ → ℕ → State → State
-child_state reading zero r s = s  -- 0 empty
-child_state reading (suc zero) r s = s  -- 1 terminal
-child_state reading (suc (suc zero)) r s = s  -- 2 rule
-child_state reading (suc (suc (suc zero))) r s = s  -- 3 sequence
-child_state reading (suc (suc (suc (suc zero)))) r s = s  -- 4 choice
-child_state reading (suc (suc (suc (suc (suc zero))))) r s = s  -- 5 not
-child_state reading (suc (suc (suc (suc (suc (suc zero)))))) r s = s  -- 6 repeat
-child_state reading (suc (suc (suc (suc (suc (suc (suc zero))))))) r s =  -- 7 indent
-    with_interval s (inner_ends (in_force reading s.flag r) s.interval)
-child_state reading (suc (suc (suc (suc (suc (suc (suc (suc zero)))))))) r s = s  -- 8 position
-child_state reading (suc (suc (suc (suc (suc (suc (suc (suc (suc zero))))))))) r s = with_flag s true  -- 9 align
-child_state reading (suc (suc (suc (suc (suc (suc (suc (suc (suc (suc k)))))))))) r s = s  -- over 9
+unfoldable pub child_state : Reading → Kind → ℕ → State → State
+child_state reading Indent r s = with_interval s (inner_ends (in_force reading s.flag r) s.interval)
+child_state reading Align r s = with_flag s true
+child_state reading kind r s = s
 
 -- A state with another farthest place.
 abbrev pub with_farthest : State → ℕ → State
@@ -118,14 +113,16 @@ pub record Ready (nodes rules words : List ℕ) (n : ℕ) (s : State) : Type 0 w
   pub room : highest s.interval + most_amount * weight nodes rules words n s ≤ most_end
 
 -- The node that is walked first in a node n of a kind: a terminal's own, else its first child a.
-abbrev pub first_node : ℕ → ℕ → ℕ → ℕ
-first_node q n a = cond (eqb q 1) n a
+abbrev pub first_node : Kind → ℕ → ℕ → ℕ
+first_node Terminal n a = n
+first_node kind n a = a
 
 -- What the walk of that node asks. For a terminal it is the node itself.
-pub record ReadyFirst (reading : Reading) (nodes rules words : List ℕ) (n q r : ℕ) (s : State) : Type 0 where
-  pub ready : Ready nodes rules words n (child_state reading q r s)
-  pub terminal : q ≡ 1 → kind_of nodes n ≡ 1
-  pub room : highest s.interval + rise (in_force reading s.flag r) < 2 ^ 32
+pub record ReadyFirst (reading : Reading) (nodes rules words : List ℕ) (n : ℕ) (q : Kind) (r : ℕ) (s : State) : Type 0
+  where
+    pub ready : Ready nodes rules words n (child_state reading q r s)
+    pub terminal : q ≡ Terminal → kind_of nodes n ≡ 1
+    pub room : highest s.interval + rise (in_force reading s.flag r) < 2 ^ 32
 
 -- What the rule walk asks.
 pub record ReadyRule (nodes rules words : List ℕ) (x : ℕ) (s : State) : Type 0 where
@@ -139,15 +136,15 @@ pub record Gives (reading : Reading) (nodes rules words : List ℕ) (τ : ℕ) (
   pub looked : farthest_of o ≡ t.farthest s.farthest
 
 -- What the expression walk and the rule walk show: an outcome with its trace, whose captures are in the list.
-pub record Walked (reading : Reading) (nodes rules words : List ℕ) (τ : ℕ) (f : Form) (s : State) (counts list : List ℕ)
-    (o : Outcome) (counts' list' : List ℕ) : Type 0 where
+pub record Walked (reading : Reading) (nodes rules words : List ℕ) (τ : ℕ) (f : Form) (s : State) (counts : Counts) (list : List ℕ)
+    (o : Outcome) (counts' : Counts) (list' : List ℕ) : Type 0 where
   pub shown : Trace
   pub gives : Gives reading nodes rules words τ f s o shown
   pub left : Leaves shown counts list counts' list' o
 
 -- What the walk of what is walked first in a node of kind q shows: its captures, unless they are put back.
-pub record WalkedFirst (q : ℕ) (reading : Reading) (nodes rules words : List ℕ) (τ : ℕ) (f : Form) (s : State)
-    (counts list : List ℕ) (o : Outcome) (counts' list' : List ℕ) : Type 0 where
+pub record WalkedFirst (q : Kind) (reading : Reading) (nodes rules words : List ℕ) (τ : ℕ) (f : Form) (s : State)
+    (counts : Counts) (list : List ℕ) (o : Outcome) (counts' : Counts) (list' : List ℕ) : Type 0 where
   pub shown : Trace
   pub gives : Gives reading nodes rules words τ f s o shown
-  pub left : Lists (cond (puts_back q o) (dropped shown) shown) counts list counts' list'
+  pub left : Lists (cond (puts_back (word_of q) o) (dropped shown) shown) counts list counts' list'

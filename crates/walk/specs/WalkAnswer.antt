@@ -1,35 +1,29 @@
 -- What a walk answers and leaves in the lent words: what a run and a run that lists are made of.
-use Rattle.std.specs.Prelude.{ℕ, ◌/◌, min, cond, List, length, leb}
-use Rattle.table.specs.Answer.{Answer, given, refused, refused_at, and_then, afterwards}
+use Rattle.std.specs.Prelude.{ℕ, ◌/◌, min, cond, Result, List, length, leb}
+use Rattle.table.specs.Answer.{Answer, given, and_then, afterwards}
+use Rattle.table.specs.Refusals.{answer_by}
+use Rattle.table.specs.declared.refusals.Refusal.{Refusal}
 use Rattle.columns.specs.declared.Start.{Start}
 use Rattle.columns.specs.declared.Reading.{Reading}
+use Rattle.columns.specs.declared.Outcome.{Outcome}
+use Rattle.columns.specs.declared.Outcome.TheVariants.{Success, Failure}
 use Rattle.clauses.specs.Clauses.{success, failure}
 use Rattle.clauses.specs.RunAnswer.{Ended, our_end, run_answer}
 use Rattle.clauses.specs.ListAnswer.{our_captures, Listing, list_words}
 use Rattle.capture_list.specs.Put.{most_count}
-use Rattle.walk.specs.declared.Answered.{Answered}
-use Rattle.walk.specs.declared.Answered.TheVariants as walk
 use Rattle.walk.specs.declared.Walk.{Walk}
-use Rattle.walk.specs.declared.Walk.TheVariants.{Success, Failure, Refused, IllFormed}
 
--- The number and the values for each case of `Answered`.
-abbrev pub ended : Answered → Answer Ended
-ended (walk.Success s) = given (record { outcome = success (s.place, s.interval, s.flag); farthest = s.farthest })
-ended (walk.Failure farthest) = given (record { outcome = failure; farthest = farthest })
-ended (walk.Refused number) = refused number
-ended (walk.IllFormed node) = refused_at 7 node
+-- What an outcome says a run ends in.
+abbrev pub end_of : Outcome → Ended
+end_of (Success s) = record { outcome = success (s.place, s.interval, s.flag); farthest = s.farthest }
+end_of (Failure farthest) = record { outcome = failure; farthest = farthest }
 
--- The same for each case of `Walk`.
-abbrev pub numbers : Walk → Answer Listing
-numbers (Success s n) =
-    given
-    (record {
-      ended = record { outcome = success (s.place, s.interval, s.flag); farthest = s.farthest };
-      count = n;
-    })
-numbers (Failure farthest) = given (record { ended = record { outcome = failure; farthest = farthest }; count = 0 })
-numbers (Refused number) = refused number
-numbers (IllFormed node) = refused_at 7 node
+-- The answer of a walk that gives its outcome, and of one that gives the number of captures too.
+abbrev pub ended : Result Outcome Refusal → Answer Ended
+ended = answer_by end_of
+
+abbrev pub numbers : Result Walk Refusal → Answer Listing
+numbers = answer_by (λ w. record { ended = end_of w.outcome; count = w.captures })
 
 -- The numbers of a run, then what it ends in and the number of its captures, counted as far as the count goes.
 unfoldable pub walk_answer : Reading → List ℕ → List ℕ → List ℕ → Start → Answer Listing

@@ -2,16 +2,15 @@
 // a node, as a sequence's second part or a repeat's next round, is the loop's next turn; the first child of every other form
 // is walked by one call, or by none if it is a terminal. So a nested call needs little of the stack.
 //
-// The reading is a flag, set for 2014: an indent that does not count by it is walked as one by equal. Captures go into a lent
-// list. counts[0] is the number of captures around, counts[1] the number so far: a failure may leave it too high, and the walk
-// of a first child puts it back. The farthest place is never put back. Once the count has stopped nothing is listed: so from
-// the start in a run without a list, and inside a not.
+// An indent that does not count by the reading is walked as one by equal. Captures go into a lent list, with the counts of
+// those around and those so far: a failure may leave the second too high, and the walk of a first child puts it back. The
+// farthest place is never put back. Once the count has stopped nothing is listed: so from the start in a run without a list,
+// and inside a not.
 //
 // A nested call of a first child is remembered in a lent slice: its outcome is looked up before and kept after it. It begins as
 // if nothing was tried, so that the outcome does not hang on the farthest place before, which is joined to it afterwards.
 ghost use Rattle.std.specs.Prelude.{◌≡◌, ◌+◌};
 ghost use Rattle.table.specs.Form.{form, stands_for, rule as rule_form};
-ghost use Rattle.readings.specs.Readings.{reading_of};
 ghost use Rattle.capture_list.specs.InternalList.{Room};
 ghost use Rattle.walk.specs.InternalWalk.{child_state, first_node, weight, Ready, ReadyFirst, ReadyRule};
 ghost use Rattle.walk.specs.InternalWalk.{Walked, WalkedFirst};
@@ -20,11 +19,10 @@ ghost use Rattle.walk.specs.InternalRemembering.{Remembering};
 use crate::remembering::{pays, recall, remember};
 use crate::states::{anew, entered, joined, token, untried};
 use after_child::{aligned, failed, left};
-use capture_list::{hush, more, put, puts_back};
-use columns::{Capture, Outcome, State};
-use memory::Known;
+use capture_list::{Counts, hush, more, put, puts_back};
+use columns::{Capture, Outcome, Reading, State};
 use readings::in_force;
-use table::kinds;
+use table::Kind;
 
 // The outcome of a node in a mode from a state.
 #[cycle(expression_first_rule)]
@@ -34,89 +32,80 @@ pub(crate) fn expression(
     tokens: &[u32],
     list: &mut [u32],
     memory: &mut [u32],
-    by_2014: bool,
+    reading: Reading,
     mut mode: u16,
     mut node: u16,
-    counts: &mut [usize; 2],
+    counts: &mut Counts,
     mut s: State,
 ) -> Outcome
     requires ready { Ready nodes.now rules.now tokens.now node s }
     requires room { Room (weight nodes.now rules.now tokens.now node s) counts.old list.old }
-    requires remembering { Remembering (reading_of by_2014) nodes.now rules.now tokens.now memory.old }
-    ensures walked { Walked (reading_of by_2014) nodes.now rules.now tokens.now mode
+    requires remembering { Remembering reading nodes.now rules.now tokens.now memory.old }
+    ensures walked { Walked reading nodes.now rules.now tokens.now mode
         (form nodes.now node) s counts.old list.old result
         counts.new list.new }
-    ensures remembering_2 { Remembering (reading_of by_2014) nodes.now rules.now tokens.now memory.new }
+    ensures remembering_2 { Remembering reading nodes.now rules.now tokens.now memory.new }
 {
     loop {
         let at = (node as usize) * 4;
-        let kind = nodes[at];
+        let Ok(kind) = Kind::try_from(nodes[at]) else {
+            unreachable!()
+        };
         let a = nodes[at + 1];
         let b = nodes[at + 2];
         let r = nodes[at + 3];
         match kind {
-            kinds::EMPTY => {
-                return Outcome::Success(s);
-            }
-            kinds::RULE => {
+            Kind::Empty => return Outcome::Success(s),
+            Kind::Rule => {
                 let again = anew(s);
                 return rule(
-                    nodes, rules, tokens, list, memory, by_2014, mode, a, counts, again,
+                    nodes, rules, tokens, list, memory, reading, mode, a, counts, again,
                 );
             }
-            kinds::POSITION => {
+            Kind::Position => {
                 mode = r;
                 node = a;
             }
             _ => {
                 let c = first_node(kind, node, a);
                 let x = first(
-                    nodes, rules, tokens, list, memory, by_2014, mode, c, counts, kind, r, s,
+                    nodes, rules, tokens, list, memory, reading, mode, c, counts, kind, r, s,
                 );
                 match x {
                     Outcome::Failure(farthest) => {
                         let back = failed(s, farthest);
                         match kind {
-                            kinds::CHOICE => {
+                            Kind::Choice => {
                                 s = back;
                                 node = b;
                             }
-                            kinds::NOT => {
-                                return Outcome::Success(back);
-                            }
-                            kinds::REPEAT => {
-                                return Outcome::Success(back);
-                            }
-                            _ => {
-                                return Outcome::Failure(farthest);
-                            }
+                            Kind::Not | Kind::Repeat => return Outcome::Success(back),
+                            _ => return Outcome::Failure(farthest),
                         }
                     }
                     Outcome::Success(u) => {
                         match kind {
-                            kinds::TERMINAL => {
-                                return Outcome::Success(u);
-                            }
-                            kinds::SEQUENCE => {
+                            Kind::Terminal => return Outcome::Success(u),
+                            Kind::Sequence => {
                                 s = u;
                                 node = b;
                             }
-                            kinds::CHOICE => { // the first alternative
+                            Kind::Choice => { // the first alternative
                                 return Outcome::Success(u);
                             }
-                            kinds::NOT => {
+                            Kind::Not => {
                                 return Outcome::Failure(u.farthest); // a not of what succeeds
                             }
-                            kinds::REPEAT => { // a round was read
+                            Kind::Repeat => { // a round was read
                                 s = u; // the next round
                             }
-                            kinds::INDENT => {
-                                let q = in_force(by_2014, s.flag, r);
+                            Kind::Indent => {
+                                let q = in_force(reading, s.flag, r);
                                 let v = left(q, s, u);
                                 return Outcome::Success(v);
                             }
                             _ => {
-                                let v = aligned(by_2014, s, u);
+                                let v = aligned(reading, s, u);
                                 return Outcome::Success(v);
                             }
                         }
@@ -128,10 +117,13 @@ pub(crate) fn expression(
 }
 
 // The node that is walked first: a terminal's own, else the first child.
-fn first_node(kind: u16, node: u16, a: u16) -> u16
+fn first_node(kind: Kind, node: u16, a: u16) -> u16
     ensures { result ≡ first_node kind node a }
 {
-    if kind == kinds::TERMINAL { node } else { a }
+    match kind {
+        Kind::Terminal => node,
+        _ => a,
+    }
 }
 
 // The outcome of the node that is walked first in a node of a kind: a terminal needs no nested call, and is read in this
@@ -144,52 +136,47 @@ fn first(
     tokens: &[u32],
     list: &mut [u32],
     memory: &mut [u32],
-    by_2014: bool,
+    reading: Reading,
     mode: u16,
     node: u16,
-    counts: &mut [usize; 2],
-    kind: u16,
+    counts: &mut Counts,
+    kind: Kind,
     r: u16,
     s: State,
 ) -> Outcome
-    requires ready_first { ReadyFirst (reading_of by_2014) nodes.now rules.now tokens.now node kind r s }
-    requires room { Room (weight nodes.now rules.now tokens.now node (child_state (reading_of by_2014) kind r s)) counts.old list.old }
-    requires remembering { Remembering (reading_of by_2014) nodes.now rules.now tokens.now memory.old }
-    ensures walked_first { WalkedFirst kind (reading_of by_2014) nodes.now rules.now tokens.now mode
-        (form nodes.now node) (child_state (reading_of by_2014) kind r s) counts.old list.old result
+    requires ready_first { ReadyFirst reading nodes.now rules.now tokens.now node kind r s }
+    requires room { Room (weight nodes.now rules.now tokens.now node (child_state reading kind r s)) counts.old list.old }
+    requires remembering { Remembering reading nodes.now rules.now tokens.now memory.old }
+    ensures walked_first { WalkedFirst kind reading nodes.now rules.now tokens.now mode
+        (form nodes.now node) (child_state reading kind r s) counts.old list.old result
         counts.new list.new }
-    ensures remembering_2 { Remembering (reading_of by_2014) nodes.now rules.now tokens.now memory.new }
+    ensures remembering_2 { Remembering reading nodes.now rules.now tokens.now memory.new }
 {
     let at = (node as usize) * 4;
-    let here = entered(by_2014, kind, r, s);
-    if nodes[at] == kinds::TERMINAL {
+    let Ok(own_kind) = Kind::try_from(nodes[at]) else {
+        unreachable!()
+    };
+    let here = entered(reading, kind, r, s);
+    if let Kind::Terminal = own_kind {
         return token(tokens, nodes[at + 1], mode, here);
     }
     let inside = untried(here);
-    let count = counts[1];
-    let remembers = pays(memory, nodes[at]);
-    if remembers {
-        let k = recall(memory, kind, node, mode, here, count);
-        match k {
-            Known::Is(x) => {
-                return joined(here.farthest, x);
-            }
-            Known::Nothing => {}
-        }
+    let count = counts.so_far;
+    let remembers = pays(memory, own_kind);
+    if remembers && let Some(x) = recall(memory, kind, node, mode, here, count) {
+        return joined(here.farthest, x);
     }
-    hush(counts, kind);
+    hush(counts, kind as u16);
     let y = expression(
-        nodes, rules, tokens, list, memory, by_2014, mode, node, counts, inside,
+        nodes, rules, tokens, list, memory, reading, mode, node, counts, inside,
     );
     if remembers {
-        let there = entered(by_2014, kind, r, s);
+        let there = entered(reading, kind, r, s);
         remember(memory, kind, node, mode, there, count, y);
     }
     let x = joined(here.farthest, y);
-    if puts_back(kind, x) {
-        let around = counts[0];
-        *counts = [around, count];
-        return x;
+    if puts_back(kind as u16, x) {
+        counts.so_far = count;
     }
     x
 }
@@ -202,32 +189,32 @@ fn rule(
     tokens: &[u32],
     list: &mut [u32],
     memory: &mut [u32],
-    by_2014: bool,
+    reading: Reading,
     mode: u16,
     x: u16,
-    counts: &mut [usize; 2],
+    counts: &mut Counts,
     s: State,
 ) -> Outcome
     requires ready_rule { ReadyRule nodes.now rules.now tokens.now x s }
     requires room { Room (weight nodes.now rules.now tokens.now (stands_for rules.now x) s + 1) counts.old list.old }
-    requires remembering { Remembering (reading_of by_2014) nodes.now rules.now tokens.now memory.old }
-    ensures walked { Walked (reading_of by_2014) nodes.now rules.now tokens.now mode (rule_form x) s
+    requires remembering { Remembering reading nodes.now rules.now tokens.now memory.old }
+    ensures walked { Walked reading nodes.now rules.now tokens.now mode (rule_form x) s
         counts.old list.old result counts.new list.new }
-    ensures remembering_2 { Remembering (reading_of by_2014) nodes.now rules.now tokens.now memory.new }
+    ensures remembering_2 { Remembering reading nodes.now rules.now tokens.now memory.new }
 {
     let i = x as usize;
     let node = rules[i];
     let first = s.place;
-    let around = counts[0];
-    let n = counts[1];
+    let Counts { around, so_far: n } = *counts;
     let inside = around + 1;
-    let m = more(n);
-    *counts = [inside, m];
+    *counts = Counts {
+        around: inside,
+        so_far: more(n),
+    };
     let o = expression(
-        nodes, rules, tokens, list, memory, by_2014, mode, node, counts, s,
+        nodes, rules, tokens, list, memory, reading, mode, node, counts, s,
     );
-    let count = counts[1];
-    *counts = [around, count];
+    counts.around = around;
     match o {
         Outcome::Failure(farthest) => Outcome::Failure(farthest),
         Outcome::Success(u) => {

@@ -14,38 +14,17 @@ ghost use Rattle.walk.specs.WalkAnswer.{ended, numbers, walk_answer, walk_after}
 ghost use Rattle.walk.specs.InternalRemembering.{Remembering};
 ghost use Rattle.walk.specs.InternalRun.{Admitted, Admits, Counted, WholeWalkFrom};
 
-use capture_list::{MOST, clear};
+use capture_list::{Counts, MOST, clear};
 use columns::{Outcome, Reading, Start, State};
 use cycle::expression;
-use readings::is_by_2014;
 use run_limits::{reading_wrong, start_wrong, tokens_wrong};
-use table::refusals;
-use well_formed::Verdict;
+use table::Refusal;
 
-// What a walk gives: success with the state, failure with the farthest place, the number of the first check that fails, or the
-// lowest node that is not well formed (7).
-#[derive(Clone, Copy)]
-pub enum Answered {
-    Success(State),
-    Failure(u32),
-    Refused(u8),
-    IllFormed(u16),
-}
-
-// What a walk that lists gives: the same, a success with the number of captures.
-#[derive(Clone, Copy)]
-pub enum Walk {
-    Success(State, usize),
-    Failure(u32),
-    Refused(u8),
-    IllFormed(u16),
-}
-
-// What a walk from a start gave: its outcome, and the number of captures that it lists.
-#[derive(Clone, Copy)]
-struct Whole {
-    outcome: Outcome,
-    count: usize,
+// What a walk from a start gives: its outcome, and the number of captures that it lists, 0 where it failed.
+#[derive(Clone, Copy, Debug, PartialEq, Eq)]
+pub struct Walk {
+    pub outcome: Outcome,
+    pub captures: usize,
 }
 
 // Walks a grammar from a start, and remembers outcomes in the lent words, which are 0 afterwards. Nothing is listed.
@@ -56,31 +35,19 @@ pub fn run(
     start: Start,
     reading: Reading,
     memory: &mut [u32],
-) -> Answered
+) -> Result<Outcome, Refusal>
     ensures result_value { ended result ≡ run_answer reading nodes.now rules.now tokens.now start }
     ensures memory_after { memory.new
         ≡ memory_after reading nodes.now rules.now tokens.now start memory.old }
 {
-    match admitted(nodes, rules, tokens, start, reading) {
-        Verdict::Refused(number) => {
-            return Answered::Refused(number);
-        }
-        Verdict::IllFormed(node) => {
-            return Answered::IllFormed(node);
-        }
-        Verdict::Passes => {}
-    }
+    admitted(nodes, rules, tokens, start, reading)?;
     let mut none = [0u32; 1];
     clear(memory, 0); // whatever it held
-    let whole = walk_once(
+    let walk = walk_once(
         nodes, rules, tokens, &mut none, memory, reading, start, MOST,
     );
     clear(memory, 0); // whatever was remembered
-    let x = whole.outcome;
-    match x {
-        Outcome::Failure(farthest) => Answered::Failure(farthest),
-        Outcome::Success(u) => Answered::Success(u),
-    }
+    Ok(walk.outcome)
 }
 
 // Walks a grammar from a start, and remembers in the same way: first in a list without a place, which counts the captures.
@@ -94,33 +61,21 @@ pub fn list(
     reading: Reading,
     list: &mut [u32],
     memory: &mut [u32],
-) -> Walk
+) -> Result<Walk, Refusal>
     ensures result_value { numbers result ≡ walk_answer reading nodes.now rules.now tokens.now start }
     ensures list_after { list.new
         ≡ walk_after reading nodes.now rules.now tokens.now start list.old }
     ensures memory_after { memory.new
         ≡ memory_after reading nodes.now rules.now tokens.now start memory.old }
 {
-    match admitted(nodes, rules, tokens, start, reading) {
-        Verdict::Refused(number) => {
-            return Walk::Refused(number);
-        }
-        Verdict::IllFormed(node) => {
-            return Walk::IllFormed(node);
-        }
-        Verdict::Passes => {}
-    }
+    admitted(nodes, rules, tokens, start, reading)?;
     let mut none = [0u32; 1];
     clear(memory, 0);
-    let whole = walk_once(nodes, rules, tokens, &mut none, memory, reading, start, 0);
-    let count = whole.count;
+    let walk = walk_once(nodes, rules, tokens, &mut none, memory, reading, start, 0);
+    let count = walk.captures;
     write_list(nodes, rules, tokens, start, reading, count, list, memory);
     clear(memory, 0);
-    let x = whole.outcome;
-    match x {
-        Outcome::Failure(farthest) => Walk::Failure(farthest),
-        Outcome::Success(u) => Walk::Success(u, count),
-    }
+    Ok(walk)
 }
 
 // The same, with nothing lent to remember in.
@@ -131,7 +86,7 @@ pub fn from_start(
     start: Start,
     reading: Reading,
     list: &mut [u32],
-) -> Walk
+) -> Result<Walk, Refusal>
     ensures value { numbers result ≡ walk_answer reading nodes.now rules.now tokens.now start }
     ensures list_after { list.new
         ≡ walk_after reading nodes.now rules.now tokens.now start list.old }
@@ -141,28 +96,26 @@ pub fn from_start(
 }
 
 // Whether a run may begin: the first of 3, 4, 5, 7, 11, 12 and 16 that fails, or none.
-fn admitted(nodes: &[u16], rules: &[u16], tokens: &[u32], start: Start, reading: Reading) -> Verdict
+fn admitted(
+    nodes: &[u16],
+    rules: &[u16],
+    tokens: &[u32],
+    start: Start,
+    reading: Reading,
+) -> Result<(), Refusal>
     ensures { Admits reading nodes.now rules.now tokens.now start result }
 {
-    match well_formed::check(nodes, rules) {
-        Verdict::Refused(number) => {
-            return Verdict::Refused(number);
-        }
-        Verdict::IllFormed(node) => {
-            return Verdict::IllFormed(node);
-        }
-        Verdict::Passes => {}
-    }
+    well_formed::check(nodes, rules)?;
     if tokens_wrong(tokens) {
-        return Verdict::Refused(refusals::TOKENS);
+        return Err(Refusal::Tokens);
     }
     if start_wrong(nodes, tokens, start) {
-        return Verdict::Refused(refusals::START);
+        return Err(Refusal::Start);
     }
     if reading_wrong(nodes, start, reading) {
-        return Verdict::Refused(refusals::READING);
+        return Err(Refusal::Reading);
     }
-    Verdict::Passes
+    Ok(())
 }
 
 // Writes the list of so many captures where they fit: by another walk, unless there are none.
@@ -203,7 +156,7 @@ fn walk_once(
     reading: Reading,
     start: Start,
     counted: usize,
-) -> Whole
+) -> Walk
     requires admitted { Admitted reading nodes.now rules.now tokens.now start }
     requires counted_le_most_count { counted ≤ most_count }
     requires remembering { Remembering reading nodes.now rules.now tokens.now memory.old }
@@ -211,35 +164,36 @@ fn walk_once(
         list.new }
     ensures remembering_2 { Remembering reading nodes.now rules.now tokens.now memory.new }
 {
-    let by_2014 = is_by_2014(reading);
-    let interval = start.interval;
     let s = State {
         place: start.place,
         farthest: start.place,
-        interval,
+        interval: start.interval,
         flag: start.flag,
     };
-    let mut counts = [0, counted];
+    let mut counts = Counts {
+        around: 0,
+        so_far: counted,
+    };
     let x = expression(
         nodes,
         rules,
         tokens,
         list,
         memory,
-        by_2014,
+        reading,
         start.mode,
         start.node,
         &mut counts,
         s,
     );
     match x {
-        Outcome::Failure(farthest) => Whole {
+        Outcome::Failure(farthest) => Walk {
             outcome: Outcome::Failure(farthest),
-            count: 0,
+            captures: 0,
         },
-        Outcome::Success(u) => Whole {
+        Outcome::Success(u) => Walk {
             outcome: Outcome::Success(u),
-            count: counts[1],
+            captures: counts.so_far,
         },
     }
 }

@@ -1,52 +1,39 @@
 // What a walk remembers in a lent slice, and uses again: around a nested call, the outcome of its node.
-ghost use Rattle.walk.specs.InternalRemembering.{Recalls, Stored};
+ghost use Rattle.std.specs.Prelude.{◌≡◌, true};
+ghost use Rattle.walk.specs.InternalRemembering.{Usable, Recalls, Stored};
 
 use capture_list::quiet;
 use columns::{Outcome, State};
-use memory::{Known, keep, look};
-use table::kinds;
+use memory::{keep, look};
+use table::Kind;
 
 // Whether it pays to remember the outcomes of a node of a kind, and there is a slot: sequences and choices try two parts and
 // repeats many, rules and positions lead to such. It changes the time alone, so it promises nothing.
-pub(crate) fn pays(memory: &[u32], kind: u16) -> bool {
-    if memory.len() < memory::SLOT {
-        return false;
-    }
-    match kind {
-        kinds::RULE => true,
-        kinds::SEQUENCE => true,
-        kinds::CHOICE => true,
-        kinds::REPEAT => true,
-        kinds::POSITION => true,
-        _ => false,
-    }
+pub(crate) fn pays(memory: &[u32], kind: Kind) -> bool {
+    memory.len() >= memory::SLOT
+        && matches!(
+            kind,
+            Kind::Rule | Kind::Sequence | Kind::Choice | Kind::Repeat | Kind::Position
+        )
 }
 
 // The remembered outcome of what is walked first in a node of a kind, from a state, with so many captures so far: a success
 // only where nothing is listed.
 pub(crate) fn recall(
     memory: &[u32],
-    kind: u16,
+    kind: Kind,
     node: u16,
     mode: u16,
     s: State,
     count: usize,
-) -> Known
+) -> Option<Outcome>
     ensures { Recalls memory.now kind node mode s count result }
 {
-    let k = look(memory, node, mode, s);
-    match k {
-        Known::Nothing => Known::Nothing,
-        Known::Is(x) => match x {
-            Outcome::Failure(farthest) => Known::Is(Outcome::Failure(farthest)),
-            Outcome::Success(u) => {
-                if quiet(kind, count) {
-                    Known::Is(Outcome::Success(u))
-                } else {
-                    Known::Nothing
-                }
-            }
-        },
+    let x = look(memory, node, mode, s)?;
+    if serves(kind, count, x) {
+        Some(x)
+    } else {
+        None
     }
 }
 
@@ -54,7 +41,7 @@ pub(crate) fn recall(
 // where nothing is listed, as it cannot be used elsewhere and would take the slot of an outcome that can.
 pub(crate) fn remember(
     memory: &mut [u32],
-    kind: u16,
+    kind: Kind,
     node: u16,
     mode: u16,
     s: State,
@@ -69,9 +56,11 @@ pub(crate) fn remember(
 }
 
 // Whether an outcome can be used again where it was found, with so many captures so far.
-fn serves(kind: u16, count: usize, x: Outcome) -> bool {
+fn serves(kind: Kind, count: usize, x: Outcome) -> bool
+    ensures { result ≡ true → Usable kind count x }
+{
     match x {
         Outcome::Failure(_) => true,
-        Outcome::Success(_) => quiet(kind, count),
+        Outcome::Success(_) => quiet(kind as u16, count),
     }
 }

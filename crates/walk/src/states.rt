@@ -1,39 +1,33 @@
 // States: where the first child of a form begins, states and outcomes written anew, and one token.
-ghost use Rattle.std.specs.Prelude.{◌≡◌, ◌+◌, ◌<◌, ◌^◌, max};
+ghost use Rattle.std.specs.Prelude.{◌≡◌, ◌+◌, ◌<◌, ◌^◌};
 ghost use Rattle.columns.specs.Intervals.{plus as plus_end, inner_ends};
 ghost use Rattle.columns.specs.InternalHighest.{finite, highest, rise};
-ghost use Rattle.readings.specs.Readings.{reading_of, in_force};
+ghost use Rattle.readings.specs.Readings.{in_force};
 ghost use Rattle.walk.specs.InternalWalk.{child_state, with_farthest, joined_outcome, ReadyToken, token_outcome};
 ghost use Rattle.walk.specs.InternalWalk.{column_outcome};
 
-use columns::{Interval, Outcome, State, Upper};
+use columns::{Interval, Outcome, Reading, State, Upper};
 use intervals::{after_token, amount, fits};
 use readings::in_force;
-use table::{kinds, relations};
+use table::{Kind, relations};
 
 // The state in which the first child of a node is walked: an indent's in its inner set, an align's with the flag set.
-pub(crate) fn entered(by_2014: bool, kind: u16, r: u16, s: State) -> State
-    requires { highest s.interval + rise (in_force (reading_of by_2014) s.flag r) < 2 ^ 32 }
-    ensures { result ≡ child_state (reading_of by_2014) kind r s }
+#[tactic(auto, unfolding(crate::specs::InternalWalk::child_state))]
+pub(crate) fn entered(reading: Reading, kind: Kind, r: u16, s: State) -> State
+    requires { highest s.interval + rise (in_force reading s.flag r) < 2 ^ 32 }
+    ensures { result ≡ child_state reading kind r s }
 {
     let c = s.interval;
     match kind {
-        kinds::INDENT => {
-            let q = in_force(by_2014, s.flag, r);
+        Kind::Indent => {
+            let q = in_force(reading, s.flag, r);
             let narrowed = inner(q, c);
             State {
-                place: s.place,
-                farthest: s.farthest,
                 interval: narrowed,
-                flag: s.flag,
+                ..s
             }
         }
-        kinds::ALIGN => State {
-            place: s.place,
-            farthest: s.farthest,
-            interval: c,
-            flag: true,
-        },
+        Kind::Align => State { flag: true, ..s },
         _ => s,
     }
 }
@@ -120,13 +114,7 @@ pub(crate) fn anew(s: State) -> State
 pub(crate) fn untried(s: State) -> State
     ensures { result ≡ with_farthest s 0 }
 {
-    let interval = s.interval;
-    anew(State {
-        place: s.place,
-        farthest: 0,
-        interval,
-        flag: s.flag,
-    })
+    anew(State { farthest: 0, ..s })
 }
 
 // An outcome from a state in which nothing was tried, with what was tried before joined to what it tried. Its state is written
@@ -135,16 +123,11 @@ pub(crate) fn joined(farthest: u32, x: Outcome) -> Outcome
     ensures { result ≡ joined_outcome farthest x }
 {
     match x {
-        Outcome::Failure(tried) => Outcome::Failure(farther(farthest, tried)),
-        Outcome::Success(u) => {
-            let interval = u.interval;
-            Outcome::Success(anew(State {
-                place: u.place,
-                farthest: farther(farthest, u.farthest),
-                interval,
-                flag: u.flag,
-            }))
-        }
+        Outcome::Failure(tried) => Outcome::Failure(farthest.max(tried)),
+        Outcome::Success(u) => Outcome::Success(anew(State {
+            farthest: farthest.max(u.farthest),
+            ..u
+        })),
     }
 }
 
@@ -153,7 +136,7 @@ pub(crate) fn token(tokens: &[u32], terminal: u16, mode: u16, s: State) -> Outco
     requires { ReadyToken tokens.now }
     ensures { result ≡ token_outcome tokens.now mode terminal s }
 {
-    let farthest = farther(s.farthest, s.place);
+    let farthest = s.farthest.max(s.place);
     let at = (s.place as usize) * 4;
     if tokens.len() <= at {
         return Outcome::Failure(farthest); // past the last token
@@ -162,13 +145,6 @@ pub(crate) fn token(tokens: &[u32], terminal: u16, mode: u16, s: State) -> Outco
         return Outcome::Failure(farthest);
     }
     at_column(mode, s, farthest, tokens[at + 1])
-}
-
-// The larger of two places.
-fn farther(m: u32, w: u32) -> u32
-    ensures { result ≡ max m w }
-{
-    if m < w { w } else { m }
 }
 
 // That terminal at a column, with the farthest place given.

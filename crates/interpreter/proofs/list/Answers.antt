@@ -1,77 +1,35 @@
 -- `interpreter::list` meets its contract.
-use native.Mathlib.Omega.{arith}
-use Rattle.interpreter.proofs.RunLaws.{told_list, run_refused, run_named, shown_list, success_onward}
-use Rattle.interpreter.proofs.RunLaws.{list_refused, list_named, list_13, list_failure, list_success}
+use Rattle.std.proofs.Common.{arith}
+use Rattle.std.proofs.lemmas.Result.{err_from_is_err_and}
+use Rattle.interpreter.proofs.RunLaws.{run_refused, list_turned, list_untouched, shown_list, onward_by, list_13, list_answered, list_left, list_by}
 use Rattle.interpreter.proofs.list.Goals as goal
 
-pub returns-then-captures-count : goal.returns-then-captures-count
-returns-then-captures-count c =
-    let x =
-    list_13 c.args.reading c.args.nodes.now c.args.rules.now c.args.tokens.now c.args.start
-    c.args.captures.now c.list-w.ensures.list_after (omega arith) c.list-w.auto.list
-    (shown_list _ _ _ _ _ (told_list _ _ _ _ _ c.in-Success.is c.list-w.ensures.result_value)) (omega (arith, c.if-captures-count.true)) in
-    record {
-      result_value = x.0;
-      captures_after = x.1;
-      list_derived = tt;
-    }
+pub returns-in_err-whole-clause-result_value : goal.returns-in_err-whole-clause-result_value
+returns-in_err-whole-clause-result_value c =
+    let p = err_from_is_err_and c.from_residual.result c.from_residual.ensures.1 in
+    rw (p.1, p.2) (list_turned c.args.reading c.args.nodes.now c.args.rules.now c.args.tokens.now c.args.start c.args.captures.now c.list.ensures.list_after _ (run_refused _ _ _ _ _ _ c.in_err-whole.ensures.result_value))
 
-pub overflow_sub-read : goal.overflow_sub-read
-overflow_sub-read c =
-    omega (
-      arith,
-      success_onward c.args.reading c.args.nodes.now c.args.rules.now c.args.tokens.now c.args.start
-          c.in-Success.u (shown_list _ _ _ _ _ (told_list _ _ _ _ _ c.in-Success.is c.list-w.ensures.result_value)).shows,
-    )
+pub returns-in_err-whole-clause-captures_after : goal.returns-in_err-whole-clause-captures_after
+returns-in_err-whole-clause-captures_after c = list_untouched c.args.reading c.args.nodes.now c.args.rules.now c.args.tokens.now c.args.start c.args.captures.now c.list.ensures.list_after _ (run_refused _ _ _ _ _ _ c.in_err-whole.ensures.result_value)
 
-pub returns-in-Refused : goal.returns-in-Refused
-returns-in-Refused c =
-    let x =
-    list_refused c.args.reading c.args.nodes.now c.args.rules.now c.args.tokens.now c.args.start
-    c.args.captures.now c.list-w.ensures.list_after
-    (run_refused _ _ _ _ _ (told_list _ _ _ _ _ c.in-Refused.is c.list-w.ensures.result_value)) in
-    record {
-      result_value = x.0;
-      captures_after = x.1;
-      list_derived = tt;
-    }
+pub returns-then-captures-whole-clause-result_value : goal.returns-then-captures-whole-clause-result_value
+returns-then-captures-whole-clause-result_value c =
+    (list_13 c.args.reading c.args.nodes.now c.args.rules.now c.args.tokens.now c.args.start c.args.captures.now c.list.ensures.list_after (omega arith) c.list.auto.list (shown_list _ _ _ _ _ c.in_ok-whole.ensures.result_value) (omega (arith, c.if-captures-whole.true))).0
 
-pub returns-in-IllFormed : goal.returns-in-IllFormed
-returns-in-IllFormed c =
-    let x =
-    list_named c.args.reading c.args.nodes.now c.args.rules.now c.args.tokens.now c.args.start
-    c.args.captures.now c.list-w.ensures.list_after
-    (run_named _ _ _ _ _ (told_list _ _ _ _ _ c.in-IllFormed.is c.list-w.ensures.result_value)) in
-    record {
-      result_value = x.0;
-      captures_after = x.1;
-      list_derived = tt;
-    }
+pub returns-then-captures-whole-clause-captures_after : goal.returns-then-captures-whole-clause-captures_after
+returns-then-captures-whole-clause-captures_after c =
+    (list_13 c.args.reading c.args.nodes.now c.args.rules.now c.args.tokens.now c.args.start c.args.captures.now c.list.ensures.list_after (omega arith) c.list.auto.list (shown_list _ _ _ _ _ c.in_ok-whole.ensures.result_value) (omega (arith, c.if-captures-whole.true))).1
 
-pub returns-in-Failure : goal.returns-in-Failure
-returns-in-Failure c =
-    record {
-      result_value = (list_failure c.args.reading c.args.nodes.now c.args.rules.now c.args.tokens.now c.args.start
-          c.args.captures.now c.list-w.ensures.list_after (omega arith) c.list-w.auto.list
-          (shown_list _ _ _ _ _ (told_list _ _ _ _ _ c.in-Failure.is c.list-w.ensures.result_value))).0;
-      captures_after = (list_failure c.args.reading c.args.nodes.now c.args.rules.now c.args.tokens.now c.args.start
-          c.args.captures.now c.list-w.ensures.list_after (omega arith) c.list-w.auto.list
-          (shown_list _ _ _ _ _ (told_list _ _ _ _ _ c.in-Failure.is c.list-w.ensures.result_value))).1.0;
-      list_derived = (list_failure c.args.reading c.args.nodes.now c.args.rules.now c.args.tokens.now c.args.start
-          c.args.captures.now c.list-w.ensures.list_after (omega arith) c.list-w.auto.list
-          (shown_list _ _ _ _ _ (told_list _ _ _ _ _ c.in-Failure.is c.list-w.ensures.result_value))).1.1;
-    }
+pub ran_from-ran-requires : goal.ran_from-ran-requires
+ran_from-ran-requires c = onward_by c.args.reading c.args.nodes.now c.args.rules.now c.args.tokens.now c.args.start c.in_ok-whole.whole.outcome (shown_list _ _ _ _ _ c.in_ok-whole.ensures.result_value).shows
 
-pub returns-else-captures-count : goal.returns-else-captures-count
-returns-else-captures-count c =
-    record {
-      result_value = (list_success c.args.reading c.args.nodes.now c.args.rules.now c.args.tokens.now c.args.start
-          c.args.captures.now c.list-w.ensures.list_after (omega arith) c.list-w.auto.list
-          c.in-Success.u (shown_list _ _ _ _ _ (told_list _ _ _ _ _ c.in-Success.is c.list-w.ensures.result_value)) (omega (arith, c.if-captures-count.false))).0;
-      captures_after = (list_success c.args.reading c.args.nodes.now c.args.rules.now c.args.tokens.now c.args.start
-          c.args.captures.now c.list-w.ensures.list_after (omega arith) c.list-w.auto.list
-          c.in-Success.u (shown_list _ _ _ _ _ (told_list _ _ _ _ _ c.in-Success.is c.list-w.ensures.result_value)) (omega (arith, c.if-captures-count.false))).1.0;
-      list_derived = (list_success c.args.reading c.args.nodes.now c.args.rules.now c.args.tokens.now c.args.start
-          c.args.captures.now c.list-w.ensures.list_after (omega arith) c.list-w.auto.list
-          c.in-Success.u (shown_list _ _ _ _ _ (told_list _ _ _ _ _ c.in-Success.is c.list-w.ensures.result_value)) (omega (arith, c.if-captures-count.false))).1.1;
-    }
+pub returns-clause-result_value : goal.returns-clause-result_value
+returns-clause-result_value c =
+    rw c.ran_from-ran.ensures (list_answered c.args.reading c.args.nodes.now c.args.rules.now c.args.tokens.now c.args.start c.args.captures.now c.list.ensures.list_after (omega arith) c.list.auto.list c.in_ok-whole.whole.outcome (shown_list _ _ _ _ _ c.in_ok-whole.ensures.result_value) (omega (arith, c.if-captures-whole.false)))
+
+pub returns-clause-captures_after : goal.returns-clause-captures_after
+returns-clause-captures_after c = list_left c.args.reading c.args.nodes.now c.args.rules.now c.args.tokens.now c.args.start c.args.captures.now c.list.ensures.list_after (omega arith) c.list.auto.list c.in_ok-whole.whole.outcome (shown_list _ _ _ _ _ c.in_ok-whole.ensures.result_value) (omega (arith, c.if-captures-whole.false))
+
+pub returns-clause-list_derived : goal.returns-clause-list_derived
+returns-clause-list_derived c =
+    rw c.ran_from-ran.ensures (list_by c.args.reading c.args.nodes.now c.args.rules.now c.args.tokens.now c.args.start c.args.captures.now c.list.ensures.list_after (omega arith) c.list.auto.list c.in_ok-whole.whole.outcome (shown_list _ _ _ _ _ c.in_ok-whole.ensures.result_value) (omega (arith, c.if-captures-whole.false)))

@@ -4,7 +4,7 @@ use Prim.Native.Nat.{◌*◌, ◌+◌}
 use mathlib.Core.Bool.{cond}
 use lib.Dec.{eqb}
 use Rattle.table.specs.Form.{stands_for}
-use Rattle.readings.specs.Readings.{reading_of}
+use Rattle.table.specs.Kinds.{word_of}
 use Rattle.walk.specs.InternalWalk.{child_state, weight}
 use Rattle.walk.proofs.WalkLaws.{Kept, Walk}
 use Rattle.walk.proofs.cycle.+expression_first_rule.Given as goal
@@ -15,17 +15,17 @@ decreases-expression l = 2 * weight l.nodes.now l.rules.now l.tokens.now l.node 
 -- A terminal is walked at its own node, which weighs no less, but no call follows.
 abbrev pub decreases-first : goal.decreases-first
 decreases-first l =
-    cond (eqb l.kind 1) 0
-    (2 * weight l.nodes.now l.rules.now l.tokens.now l.node (child_state (reading_of l.by_2014) l.kind l.r l.s) + 2)
+    cond (eqb (word_of l.kind) 1) 0
+    (2 * weight l.nodes.now l.rules.now l.tokens.now l.node (child_state l.reading l.kind l.r l.s) + 2)
 
 abbrev pub decreases-rule : goal.decreases-rule
 decreases-rule l = 2 * weight l.nodes.now l.rules.now l.tokens.now (stands_for l.rules.now l.x) l.s + 2
 
-abbrev pub invariant-expression-loop-again : goal.invariant-expression-loop-again
-invariant-expression-loop-again l =
-    Walk (reading_of l.by_2014) l.nodes l.rules l.tokens l.initial.mode l.initial.node l.initial.s l.initial.counts l.initial.list
+abbrev pub invariant-expression-loop-kind : goal.invariant-expression-loop-kind
+invariant-expression-loop-kind l =
+    Walk l.reading l.nodes l.rules l.tokens l.initial.mode l.initial.node l.initial.s l.initial.counts l.initial.list
     l.mode l.node l.s l.counts l.list
-    × Kept (reading_of l.by_2014) l.nodes l.rules l.tokens l.initial.memory l.memory
+    × Kept l.reading l.nodes l.rules l.tokens l.initial.memory l.memory
 
-abbrev pub decreases-expression-loop-again : goal.decreases-expression-loop-again
-decreases-expression-loop-again l = weight l.nodes l.rules l.tokens l.node l.s
+abbrev pub decreases-expression-loop-kind : goal.decreases-expression-loop-kind
+decreases-expression-loop-kind l = weight l.nodes l.rules l.tokens l.node l.s
