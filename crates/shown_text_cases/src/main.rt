@@ -14,6 +14,7 @@ use stored_cases::{
     CASES, MOST_RECORDS, PART, TOKEN_WORDS, byte, label, load, part, quad, show, show_one, stored,
     triple, zeros,
 };
+use table::Refusal;
 
 // The kinds of calls.
 const SHOWN: usize = b's' as usize;
@@ -35,13 +36,11 @@ fn main(rt: HostRuntime) {
 // Goes through the records.
 fn records(cases: &[u8], file: &mut [u8], report: &mut [u8], text: &mut [u8]) {
     let mut at = 0;
-    let mut left = MOST_RECORDS;
-    while left > 0 {
+    for _ in 0..MOST_RECORDS {
         if at >= cases.len() {
             return;
         }
         at = record(cases, at, file, report, text);
-        left -= 1;
     }
 }
 
@@ -76,6 +75,14 @@ fn with_tokens<'a>(
     end
 }
 
+// What a text is asked for, but for the tokens.
+#[derive(Clone, Copy)]
+struct Asked<'a> {
+    file: &'a [u8],
+    report: &'a [u8],
+    capture: Capture,
+}
+
 // Makes the call that a header tells of, over stored words of tokens, and prints its answer.
 fn call<'a>(header: &[u8], file: &'a [u8], report: &'a [u8], tokens: &[u8]) {
     let capture = Capture {
@@ -85,7 +92,14 @@ fn call<'a>(header: &[u8], file: &'a [u8], report: &'a [u8], tokens: &[u8]) {
         around: quad(header, 14),
     };
     match byte(header, 0) {
-        SHOWN => lend(file, report, tokens, capture),
+        SHOWN => lend(
+            Asked {
+                file,
+                report,
+                capture,
+            },
+            tokens,
+        ),
         _ => {
             io::write_all(1, b"no such call");
         }
@@ -93,32 +107,26 @@ fn call<'a>(header: &[u8], file: &'a [u8], report: &'a [u8], tokens: &[u8]) {
 }
 
 // Makes a call with words for its tokens, at most 16,500 of them.
-fn lend<'a>(file: &'a [u8], report: &'a [u8], tokens: &[u8], capture: Capture) {
+fn lend(asked: Asked, tokens: &[u8]) {
     let mut words = zeros::<u32, TOKEN_WORDS>();
     let n = (tokens.len() / 4).min(TOKEN_WORDS);
-    show_in(file, report, tokens, capture, &mut words[0..n]);
+    show_in(asked, tokens, &mut words[0..n]);
 }
 
 // Prints the answers of both calls over the tokens, in the words lent for them.
-fn show_in<'a>(
-    file: &'a [u8],
-    report: &'a [u8],
-    tokens: &[u8],
-    capture: Capture,
-    words: &mut [u32],
-) {
+fn show_in(asked: Asked, tokens: &[u8], words: &mut [u32]) {
     load(tokens, words);
-    show_place(shown_text::shown(file, report, words, capture));
-    show_text(shown_text::text(file, report, words, capture));
+    show_place(shown_text::shown(asked.file, asked.report, words, asked.capture));
+    show_text(shown_text::text(asked.file, asked.report, words, asked.capture));
 }
 
 // Prints where a text lies, by its offset and length, or `refused` with the number.
-fn show_place(place: ShownPart) {
+fn show_place(place: Result<ShownPart, Refusal>) {
     match place {
-        ShownPart::InReport { offset, length } => show_two(b"report", offset, length),
-        ShownPart::InFile { offset, length } => show_two(b"file", offset, length),
-        ShownPart::Refused(number) => {
-            show_one(b"refused", number as u64);
+        Ok(ShownPart::InReport { offset, length }) => show_two(b"report", offset, length),
+        Ok(ShownPart::InFile { offset, length }) => show_two(b"file", offset, length),
+        Err(refusal) => {
+            show_one(b"refused", refusal.number() as u64);
         }
     }
 }
@@ -143,32 +151,21 @@ fn show_text(text: &[u8]) {
 // Prints bytes between quotes.
 fn show_quoted(text: &[u8]) {
     io::write_all(1, b" \"");
-    let mut i = 0;
-    while i < text.len() {
-        show_byte(text[i]);
-        i += 1;
+    for byte in text {
+        show_byte(*byte);
     }
     io::write_all(1, b"\"");
 }
 
 // Prints a byte. Those that a report may have and that would move on a line, and the backslash, are two characters.
 fn show_byte(byte: u8) {
-    match byte {
-        b'\t' => {
-            io::write_all(1, b"\\t");
-        }
-        b'\n' => {
-            io::write_all(1, b"\\n");
-        }
-        b'\r' => {
-            io::write_all(1, b"\\r");
-        }
-        b'\\' => {
-            io::write_all(1, b"\\\\");
-        }
-        _ => {
-            let one = [byte];
-            io::write_all(1, &one);
-        }
-    }
+    let one = [byte];
+    let shown: &[u8] = match byte {
+        b'\t' => b"\\t",
+        b'\n' => b"\\n",
+        b'\r' => b"\\r",
+        b'\\' => b"\\\\",
+        _ => &one,
+    };
+    io::write_all(1, shown);
 }
