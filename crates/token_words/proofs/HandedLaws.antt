@@ -3,8 +3,7 @@ use Prim.Native.Nat.{ℕ, zero, suc, ◌+◌, ◌-◌, ◌*◌, ◌≤◌}
 use mathlib.Core.Path.{◌≡◌, refl, sym, ap, ap₂, ◌∙◌}
 use mathlib.Core.Bool.{Bool, true, false}
 use mathlib.Core.List.{List, [], ◌∷◌, map}
-use mathlib.Core.Option
-use mathlib.Core.Option.{Option, some, none}
+use Rattle.std.proofs.Common.{Option, Some, None, option_map}
 use lib.ListN.{length}
 use lib.Dec.{ltb}
 use native.Mathlib.Nat.{le_trans}
@@ -15,11 +14,13 @@ use Rattle.table.proofs.Every.{both_false}
 use Rattle.table.specs.Answer.{Answer, given, refused, refused_at, refuse_if, and_then}
 use Rattle.table.proofs.AnswerLaws.{first_refuses, first_names, first_passes}
 use Rattle.grammar_file.specs.File.{Contents, keywords, fields_of, file_answer}
-use Rattle.places.specs.Places.{Place}
+use Rattle.places.specs.declared.Place.{Place}
 use Rattle.token_words.specs.Places.{places}
-use Rattle.scanner.specs.Tokens.{Token, token_of}
+use Rattle.scanner.specs.Tokens.{token_of}
+use Rattle.scanner.specs.declared.Token.{Token}
 use Rattle.token_words.specs.Scan.{tokens, fails8, fails9, fails10, over_column, scan_tokens, scan_answer}
-use Rattle.places.specs.Moves.{Position, position, next_in}
+use Rattle.places.specs.Moves.{position, next_in}
+use Rattle.places.specs.declared.Position.{Position}
 use Rattle.scanner.specs.Steps.{step_fails8, step_fails9, step_answer, standing, hand_on, handed_out}
 use Rattle.places.specs.InternalFind.{Room}
 use Rattle.token_words.proofs.PlaceLaws.{listed, places_from, onward, places_from_lem}
@@ -68,12 +69,12 @@ module _ (file text : List ℕ) (later : (next : Answer (Option Token)) → and_
   tok : Place → Token
   tok = token_of (keywords (fields_of file)) text
 
-  step_given : (p : Position) → Standing text p → step_fails9 (next_in text p).found ≡ false → step_answer file text p ≡ given (Option.map tok (next_in text p).found)
+  step_given : (p : Position) → Standing text p → step_fails9 (next_in text p).found ≡ false → step_answer file text p ≡ given (option_map tok (next_in text p).found)
   unfolding step_answer tok
   step_given p s h =
       let short = short_report text (sym pass) in
       later _
-      ∙ ap₂ (λ (a b : Bool). refuse_if a 8 (refuse_if b 9 (given (Option.map tok (next_in text p).found))))
+      ∙ ap₂ (λ (a b : Bool). refuse_if a 8 (refuse_if b 9 (given (option_map tok (next_in text p).found))))
       (step_passes8 text p pass s.room.within (omega (arith, s.low, s.room.within))) h
 
   -- One step more, by what it finds.
@@ -81,14 +82,14 @@ module _ (file text : List ℕ) (later : (next : Answer (Option Token)) → and_
       → ((q : Position) → Standing text q → length (places_from text q) ≤ n → handed_out n file text q ≡ map tok (places_from text q))
       → (o : Option Place) → (next_in text p).found ≡ o → handed_out (suc n) file text p ≡ map tok (places_from text p)
   unfolding handed_out step_fails9
-  by_found n p s h again none e =
+  by_found n p s h again None e =
       let on = onward text p s.room in
       let none_left : places_from text p ≡ [] =
       on.list ∙ ap (λ (o : Option Place). listed o (places_from text (next_in text p).reached)) e in
       ap (λ (a : Answer (Option Token)). hand_on a (handed_out n file text (standing a text p)))
-      (step_given p s (ap step_fails9 e) ∙ ap (λ (o : Option Place). given (Option.map tok o)) e)
+      (step_given p s (ap step_fails9 e) ∙ ap (λ (o : Option Place). given (option_map tok o)) e)
       ∙ ap (map tok) (sym none_left)
-  by_found n p s h again (some q) e =
+  by_found n p s h again (Some q) e =
       let on = onward text p s.room in
       let to : Position = (next_in text p).reached in
       let more : places_from text p ≡ q ∷ places_from text to =
@@ -96,7 +97,7 @@ module _ (file text : List ℕ) (later : (next : Answer (Option Token)) → and_
       let thin = thin_next q (places_from text to) (ap over_column (sym more) ∙ s.thin) in
       let there : Standing text to = record { room = on.room; low = le_trans on.wide s.low; thin = thin.1 } in
       ap (λ (a : Answer (Option Token)). hand_on a (handed_out n file text (standing a text p)))
-      (step_given p s (ap step_fails9 e ∙ thin.0) ∙ ap (λ (o : Option Place). given (Option.map tok o)) e)
+      (step_given p s (ap step_fails9 e ∙ thin.0) ∙ ap (λ (o : Option Place). given (option_map tok o)) e)
       ∙ ap (λ (l : List Token). tok q ∷ l) (again to there (omega (arith, h, ap length more)))
       ∙ ap (map tok) (sym more)
 

@@ -1,159 +1,190 @@
--- What a place that was found says of the places that are left, for loops that go from place to place.
-use Prim.Native.Nat.{ℕ, ◌+◌, ◌*◌, ◌≤◌, ◌<◌}
-use mathlib.Core.Path.{◌≡◌, refl, sym, ap, subst, ◌∙◌}
-use mathlib.Core.Bool.{Bool, true, false, cond, ◌||◌, or_assoc, or-false}
-use mathlib.Core.List.{List, [], ◌∷◌, ◌++◌, map, map-append, append_assoc, append-nil}
-use mathlib.Core.Option.{Option, some, none}
-use lib.ListN.{length, drop, set, length-append, length-map}
-use lib.Dec.{ltb}
-use native.Mathlib.Omega.{arith}
-use Rattle.table.specs.Limits.{most_column}
-use Rattle.file_fields.proofs.Lists.{four_more, length_written}
+-- Loops that go from place to place: what is left at a move, counting the places, and writing their tokens.
+use Rattle.std.proofs.Common.{◌≡◌, ℕ, ◌+◌, ◌*◌, ◌≤◌, ◌<◌, Bool, true, false, ◌||◌, Option, Some, None, List, [], ◌∷◌, ◌++◌, map, length, drop, refl, sym, ap, subst, ◌∙◌, append_assoc, arith, length-append}
+use mathlib.Core.List.{map-append, append-nil}
+use lib.ListN.{length-map}
+use lib.Seq.{drop-drop}
+use borrow.Rule.Slice.PartMut.{put_mid}
+use Rattle.std.proofs.lemmas.List.{take_at, drop_at}
+use borrow.Author.Tests.{lt-ltb, le-ltb}
 use Rattle.table.specs.Words.{each_words}
 use Rattle.table.proofs.Words.{words_append, length_words}
-use Rattle.places.specs.Places.{Place}
-use Rattle.token_words.specs.Places.{places}
-use Rattle.scanner.specs.Tokens.{Token, token_of, terminal_at}
-use Rattle.token_words.specs.Scan.{tokens, token_words, words_of, over_column}
-use Rattle.places.specs.Moves.{Position, position, next_within, move_of}
+use Rattle.file_fields.proofs.Lists.{length_written}
+use Rattle.places.specs.declared.Place.{Place}
+use Rattle.places.specs.declared.Move.{Move}
+use Rattle.places.specs.declared.Position.{Position}
+use Rattle.places.specs.Moves.{position, next_within}
 use Rattle.places.specs.InternalFind.{Room}
-use Rattle.token_words.specs.InternalScan.{Measured}
-use Rattle.places.specs.declared.Found.{Found}
 use Rattle.places.proofs.FindLaws.{with_room}
-use Rattle.scanner.proofs.InsideLaws.{place_of, found_inside}
-use Rattle.token_words.proofs.PlaceLaws.{listed, falls_of, places_from, left, Onward, onward, places_from_lem}
+use Rattle.scanner.specs.declared.Token.{Token}
+use Rattle.scanner.specs.Tokens.{token_of}
+use Rattle.scanner.proofs.InsideLaws.{inside_of, found_inside}
+use Rattle.token_words.specs.Places.{places}
+use Rattle.token_words.specs.Scan.{tokens, token_words, words_of, over_column, fails9}
+use Rattle.token_words.proofs.PlaceLaws.{listed, places_from, onward, places_from_lem, few_places}
 
--- The position behind a place that was found.
-abbrev pub behind : Found → Position
-behind f = position f.at f.reached f.mark
+-- What is left at a move: the place that it found, and those from the position behind it on.
+abbrev pub ahead : List ℕ → Move → List Place
+ahead text v = listed v.found (places_from text v.reached)
 
-module _ (text : List ℕ) (p : Position) (r : Room text p.offset p.column) (f : Found) (e : move_of f ≡ next_within text p) where
-  on : Onward text p (move_of f)
-  on = subst (Onward text p) (sym (e ∙ with_room text p r)) (onward text p r)
+-- A move in a text: there is room where it goes, and what it found lies inside.
+pub record Going (text : List ℕ) (v : Move) : Type 0 where
+  pub room : Room text v.reached.offset v.reached.column
+  pub inside : inside_of v.found (length text)
 
-  pub room_behind : Room text f.at f.reached
-  room_behind = on.room
+module _ (text : List ℕ) where
+  -- From a position with room on.
+  going : (p : Position) → Room text p.offset p.column → {v : Move} → v ≡ next_within text p → Going text v × (ahead text v ≡ places_from text p)
+  going p r {v} e =
+      let on = onward text p r in
+      subst (λ (m : Move). Going text m × (ahead text m ≡ places_from text p)) (sym (e ∙ with_room text p r))
+      (record { room = on.room; inside = found_inside text p r.within }, sym on.list)
 
-  pub no_more : f.any ≡ false → places_from text p ≡ []
-  no_more h = on.list ∙ ap (λ (a : Bool). listed (cond a (some (place_of f)) none) (places_from text (behind f))) h
+  -- From the start on.
+  pub going_start : length text ≤ 65535 → {v : Move} → v ≡ next_within text (position 0 0 false) → Going text v × (ahead text v ≡ places text)
+  going_start h e =
+      let g = going (position 0 0 false) (record { within = omega arith; fits = omega arith }) e in
+      (g.0, g.1 ∙ sym (places_from_lem text))
 
-  module _ (h : f.any ≡ true) where
-    there : {A : Type 0} (g : Option Place → A) → g (move_of f).found ≡ g (some (place_of f))
-    there g = ap (λ (a : Bool). g (cond a (some (place_of f)) none)) h
+  -- Nothing is left.
+  pub none_left : (v : Move) → v.found ≡ None → ahead text v ≡ []
+  none_left v n = ap (λ (o : Option Place). listed o (places_from text v.reached)) n
 
-    pub one_more : places_from text p ≡ place_of f ∷ places_from text (behind f)
-    one_more = on.list ∙ there (λ o. listed o (places_from text (behind f)))
+  -- A place, and the next move.
+  module _ {v w : Move} {q : Place} (g : Going text v) (f : v.found ≡ Some q) (e : w ≡ next_within text v.reached) where
+    pub goes_on : Going text w
+    goes_on = (going v.reached g.room e).0
 
-    pub lies_inside : f.offset + f.length ≤ length text
-    lies_inside = found_inside text p r.within f (e ∙ with_room text p r) h
+    pub one_more : ahead text v ≡ q ∷ ahead text w
+    one_more =
+        ap (λ (o : Option Place). listed o (places_from text v.reached)) f
+        ∙ ap (λ (l : List Place). q ∷ l) (sym (going v.reached g.room e).1)
 
-    pub less_left : left text (behind f) < left text p
-    less_left = subst (λ (a : Bool). falls_of (cond a (some (place_of f)) none) (left text (behind f)) (left text p)) h on.falls
+  pub lies_inside : {v : Move} {q : Place} → Going text v → v.found ≡ Some q → q.offset + q.length ≤ length text
+  lies_inside g f = subst (λ (o : Option Place). inside_of o (length text)) f g.inside
 
--- Counting the places, and looking for a column over the last.
-pub record Counting (text : List ℕ) (count : ℕ) (over : Bool) (p : Position) : Type 0 where
-  pub room : Room text p.offset p.column
-  pub total : count + length (places_from text p) ≡ length (places text)
-  pub wide : (over || over_column (places_from text p)) ≡ over_column (places text)
-  pub fits : count + left text p ≤ 2 * length text
+  -- Counting the places, and looking for a column over the last.
+  pub record Counting (n : ℕ) (v : Move) : Type 0 where
+    pub going : Going text v
+    pub total : n + length (ahead text v) ≡ length (places text)
+    pub wide : over_column (ahead text v) ≡ fails9 text
 
-pub counting_start : (text : List ℕ) → length text ≤ 65535 → Counting text 0 false (position 0 0 false)
-unfolding left
-counting_start text h =
-    record {
-      room = record { within = omega arith; fits = omega arith };
-      total = rw (← places_from_lem text) (omega arith);
-      wide = ap over_column (sym (places_from_lem text));
-      fits = omega arith;
-    }
+  pub counting_start : length text ≤ 65535 → {v : Move} → v ≡ next_within text (position 0 0 false) → Counting 0 v
+  unfolding fails9
+  counting_start h e =
+      let g = going_start h e in
+      record { going = g.0; total = omega (arith, ap length g.1); wide = ap over_column g.1 }
 
-module _ (text : List ℕ) (count : ℕ) (over : Bool) (p : Position) (k : Counting text count over p) (f : Found) (e : move_of f ≡ next_within text p) where
-  pub counting_ends : f.any ≡ false → Measured text (record { count = count; over = over })
-  unfolding over_column
-  counting_ends h =
-      let none_left = no_more text p k.room f e h in
-      record {
-        count = omega (arith, k.total, ap length none_left);
-        over = sym (or-false over) ∙ ap (λ (l : List Place). over || over_column l) (sym none_left) ∙ k.wide;
-      }
-
-  module _ (h : f.any ≡ true) where
-    pub counting_less : left text (behind f) < left text p
-    counting_less = less_left text p k.room f e h
-
-    pub counting_next : {wider : Bool} → wider ≡ (over || ltb most_column f.column) → Counting text (count + 1) wider (behind f)
+  module _ {n : ℕ} {v : Move} (k : Counting n v) where
+    pub counting_ends : v.found ≡ None → (n ≡ length (places text)) × (fails9 text ≡ false)
     unfolding over_column
-    counting_next q =
-        let more = one_more text p k.room f e h in
-        record {
-          room = room_behind text p k.room f e;
-          total = omega (arith, k.total, ap length more);
-          wide =
-              ap (λ (b : Bool). b || over_column (places_from text (behind f))) q
-              ∙ or_assoc over (ltb most_column f.column) (over_column (places_from text (behind f)))
-              ∙ ap (λ (l : List Place). over || over_column l) (sym more)
-              ∙ k.wide;
-          fits = omega (arith, k.fits, counting_less);
-        }
+    counting_ends z = (omega (arith, k.total, ap length (none_left v z)), sym (ap over_column (sym (none_left v z)) ∙ k.wide))
 
--- Writing the tokens: what was written, and the places that are left.
-pub record Writing (keywords : List (List ℕ)) (text old : List ℕ) (p : Position) (to : ℕ) (out : List ℕ) : Type 0 where
-  pub done : List Place
-  pub room : Room text p.offset p.column
-  pub all : done ++ places_from text p ≡ places text
-  pub at : to ≡ length done * 4
-  pub words : out ≡ words_of (map (token_of keywords text) done) ++ drop to old
+    module _ {w : Move} {q : Place} (f : v.found ≡ Some q) (e : w ≡ next_within text v.reached) where
+      counting_more : over_column (q ∷ ahead text w) ≡ fails9 text
+      counting_more = ap over_column (sym (one_more k.going f e)) ∙ k.wide
 
-module _ (keywords : List (List ℕ)) (text old : List ℕ) where
-  pub writing_start : length text ≤ 65535 → Writing keywords text old (position 0 0 false) 0 old
-  unfolding each_words
-  writing_start h = record { done = []; room = record { within = omega arith; fits = omega arith }; all = sym (places_from_lem text); at = refl; words = refl }
+      pub counting_less : length (ahead text w) < length (ahead text v)
+      counting_less = omega (arith, ap length (one_more k.going f e))
 
-  module _ (p : Position) (to : ℕ) (out : List ℕ) (k : Writing keywords text old p to out) where
-    total : length (places text) ≡ length k.done + length (places_from text p)
-    total = ap length (sym k.all) ∙ length-append k.done (places_from text p)
+      pub counting_next : q.column ≤ 65535 → Counting (n + 1) w
+      unfolding over_column
+      counting_next b =
+          record {
+            going = goes_on k.going f e;
+            total = omega (arith, k.total, ap length (one_more k.going f e));
+            wide = sym (ap (λ (t : Bool). t || over_column (ahead text w)) (le-ltb 65535 q.column b)) ∙ counting_more;
+          }
 
-    front : length (words_of (map (token_of keywords text) k.done)) ≡ to
-    front = length_words token_words (λ t. refl) (map (token_of keywords text) k.done) ∙ ap (λ (n : ℕ). n * 4) (length-map k.done (token_of keywords text)) ∙ sym k.at
+    module _ {q : Place} (f : v.found ≡ Some q) where
+      counted : n + 1 + length (places_from text v.reached) ≡ length (places text)
+      counted = omega (arith, k.total, ap (λ (o : Option Place). length (listed o (places_from text v.reached))) f)
 
-    pub out_length : length (places text) * 4 ≤ length old → length out ≡ length old
-    out_length h = ap length k.words ∙ length_written (words_of (map (token_of keywords text) k.done)) old to front (omega (arith, total, k.at))
+      pub counting_fits : n ≤ length text
+      counting_fits = omega (arith, counted, few_places text)
 
-    module _ (f : Found) (e : move_of f ≡ next_within text p) where
-      pub writing_ends : f.any ≡ false → out ≡ words_of (tokens keywords text) ++ drop (length (places text) * 4) old
+      pub counting_over : 65535 < q.column → fails9 text ≡ true
+      unfolding over_column
+      counting_over b =
+          sym
+          (sym (ap (λ (t : Bool). t || over_column (places_from text v.reached)) (lt-ltb 65535 q.column b))
+          ∙ sym (ap (λ (o : Option Place). over_column (listed o (places_from text v.reached))) f)
+          ∙ k.wide)
+
+  -- Four words written behind the first ones.
+  put_more : (p old ys : List ℕ) (to n : ℕ) → length p ≡ to → n ≡ 4 → put_mid to n (p ++ drop to old) ys ≡ (p ++ ys) ++ drop (to + 4) old
+  put_more p old ys to n e h =
+      rw (h, take_at p (drop to old) to e, drop_at p (drop to old) to e, drop-drop 4 to old)
+      (sym (append_assoc p ys (drop (to + 4) old)))
+
+  -- Writing the tokens: what was written, and the places that are left.
+  module _ (keywords : List (List ℕ)) (old : List ℕ) where
+    pub record Writing (v : Move) (to : ℕ) (out : List ℕ) : Type 0 where
+      pub done : List Place
+      pub going : Going text v
+      pub all : done ++ ahead text v ≡ places text
+      pub at : to ≡ length done * 4
+      pub words : out ≡ words_of (map (token_of keywords text) done) ++ drop to old
+
+    pub writing_start : length text ≤ 65535 → {v : Move} → v ≡ next_within text (position 0 0 false) → Writing v 0 old
+    unfolding each_words
+    writing_start h e = let g = going_start h e in record { done = []; going = g.0; all = g.1; at = refl; words = refl }
+
+    module _ {v : Move} {to : ℕ} {out : List ℕ} (k : Writing v to out) where
+      front : List ℕ
+      front = words_of (map (token_of keywords text) k.done)
+
+      front_length : length (words_of (map (token_of keywords text) k.done)) ≡ to
+      front_length =
+          length_words token_words (λ t. refl) (map (token_of keywords text) k.done)
+          ∙ ap (λ (n : ℕ). n * 4) (length-map k.done (token_of keywords text))
+          ∙ sym k.at
+
+      total : length k.done + length (ahead text v) ≡ length (places text)
+      total = sym (length-append k.done (ahead text v)) ∙ ap length k.all
+
+      pub out_length : length (places text) * 4 ≤ length old → length out ≡ length old
+      out_length h =
+          ap length k.words
+          ∙ length_written (words_of (map (token_of keywords text) k.done)) old to front_length (omega (arith, total, k.at))
+
+      pub writing_ends : v.found ≡ None → out ≡ words_of (tokens keywords text) ++ drop (length (places text) * 4) old
       unfolding tokens
-      writing_ends h =
-          let none_left = no_more text p k.room f e h in
+      writing_ends z =
           let whole : k.done ≡ places text =
-          sym (append-nil k.done) ∙ ap (λ (l : List Place). k.done ++ l) (sym none_left) ∙ k.all in
+          sym (append-nil k.done) ∙ ap (λ (l : List Place). k.done ++ l) (sym (none_left v z)) ∙ k.all in
           k.words
           ∙ ap (λ (n : ℕ). words_of (map (token_of keywords text) k.done) ++ drop n old) k.at
           ∙ ap (λ (l : List Place). words_of (map (token_of keywords text) l) ++ drop (length l * 4) old) whole
 
-      module _ (h : f.any ≡ true) (fits : length (places text) * 4 ≤ length old) where
-        pub writing_room : to + 3 < length old
-        writing_room = omega (arith, total, ap length (one_more text p k.room f e h), k.at)
+      module _ {q : Place} (f : v.found ≡ Some q) where
+        pub writing_room : length (places text) * 4 ≤ length old → to + 4 ≤ length out
+        writing_room h =
+            omega (arith, total, out_length h, k.at, ap (λ (o : Option Place). length (listed o (places_from text v.reached))) f)
 
-        pub writing_next : {t : ℕ} → t ≡ terminal_at keywords text f.ends f.offset f.length
-            → Writing keywords text old (behind f) (to + 4) (set (set (set (set out to t) (to + 1) f.column) (to + 2) f.offset) (to + 3) f.length)
-        unfolding each_words
-        writing_next {t} q =
-            let tok : Place → Token = token_of keywords text in
-            record {
-              done = k.done ++ (place_of f ∷ []);
-              room = room_behind text p k.room f e;
-              all = append_assoc k.done (place_of f ∷ []) (places_from text (behind f))
-                  ∙ ap (λ (l : List Place). k.done ++ l) (sym (one_more text p k.room f e h))
-                  ∙ k.all;
-              at = simp length-append (omega (arith, k.at));
-              words = ap
-                  (λ (l : List ℕ).
-                  set (set (set (set l to t) (to + 1) f.column) (to + 2) f.offset) (to + 3) f.length)
-                  k.words
-                  ∙ four_more (words_of (map tok k.done)) old to t f.column f.offset f.length front
-                  writing_room
-                  ∙ ap (λ (l : List ℕ). l ++ drop (to + 4) old)
-                  (ap (λ (u : ℕ). words_of (map tok k.done) ++ (u ∷ f.column ∷ f.offset ∷ f.length ∷ [])) q
-                  ∙ sym (words_append token_words (map tok k.done) (tok (place_of f) ∷ []))
-                  ∙ ap words_of (sym (map-append tok k.done (place_of f ∷ []))));
-            }
+        module _ {w : Move} (e : w ≡ next_within text v.reached) where
+          pub writing_less : length (ahead text w) < length (ahead text v)
+          writing_less = omega (arith, ap length (one_more k.going f e))
+
+          pub writing_next :
+              {ys : List ℕ}
+              → ys ≡ token_words (token_of keywords text q)
+              → {n : ℕ}
+              → n ≡ 4
+              → Writing w (to + 4) (put_mid to n out ys)
+          unfolding each_words
+          writing_next {ys} y {n} z =
+              let tok : Place → Token = token_of keywords text in
+              record {
+                done = k.done ++ (q ∷ []);
+                going = goes_on k.going f e;
+                all = append_assoc k.done (q ∷ []) (ahead text w)
+                    ∙ ap (λ (l : List Place). k.done ++ l) (sym (one_more k.going f e))
+                    ∙ k.all;
+                at = simp length-append (omega (arith, k.at));
+                words = ap (λ (l : List ℕ). put_mid to n l ys) k.words
+                    ∙ put_more (words_of (map tok k.done)) old ys to n front_length z
+                    ∙ ap (λ (l : List ℕ). (words_of (map tok k.done) ++ l) ++ drop (to + 4) old) y
+                    ∙ ap (λ (l : List ℕ). l ++ drop (to + 4) old)
+                    (sym (words_append token_words (map tok k.done) (tok q ∷ []))
+                    ∙ ap words_of (sym (map-append tok k.done (q ∷ []))));
+              }

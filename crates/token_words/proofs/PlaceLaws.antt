@@ -1,10 +1,10 @@
 -- The places of a text, one by one: the definition by offsets, a walk through the bytes, and the next place from a position.
-use Prim.Native.Nat.{ℕ, zero, suc, ◌+◌, ◌-◌, ◌*◌, ◌≤◌, ◌<◌}
+use Prim.Native.Nat.{ℕ, zero, suc, ◌+◌, ◌-◌, ◌*◌, ◌≤◌}
 use mathlib.Core.Path.{◌≡◌, refl, sym, ap, ap₂, ◌∙◌}
 use mathlib.Core.Bool.{Bool, true, false, true≢false, false≢true}
 use mathlib.Core.List.{List, [], ◌∷◌, ◌++◌, append_assoc}
-use mathlib.Core.Option.{Option, some, none}
-use lib.ListN.{length, get_or, take, drop, length-drop, drop_of_length-le}
+use Rattle.std.proofs.Common.{Option, Some, None}
+use lib.ListN.{length, get_or, take, drop, length-append, length-drop, drop_of_length-le}
 use lib.Seq.{drop-drop}
 use native.Mathlib.Nat.{le_of_eq, add-zero}
 use native.Mathlib.Numerals.{add-one}
@@ -14,9 +14,12 @@ use Rattle.byte_class.specs.declared.Class.{Class}
 use Rattle.byte_class.specs.declared.Class.TheVariants.{Break, Tab, Blank, Single, Digit, Run, Continuation, Refused}
 use Rattle.file_fields.proofs.FieldLaws.{from_one}
 use Rattle.places.specs.Columns.{column_by, column_after, column_at, column_over}
-use Rattle.places.specs.Places.{Place, run_class, in_run, run_length}
+use Rattle.places.specs.Places.{run_class, in_run, run_length}
+use Rattle.places.specs.declared.Place.{Place}
 use Rattle.token_words.specs.Places.{mid_run, mark_by, mark_after, had_token, line_end, spelling, place_by, place_at, places_at, places}
-use Rattle.places.specs.Moves.{Position, position, Move, next_place, next_in}
+use Rattle.places.specs.Moves.{position, next_place, next_in}
+use Rattle.places.specs.declared.Position.{Position}
+use Rattle.places.specs.declared.Move.{Move}
 use Rattle.places.specs.InternalFind.{passed_by, passed_over, Room}
 use Rattle.places.proofs.FindLaws.{column_grows, over_move, run_move, break_move, single_move, run_more, run_none}
 use Rattle.scanner.proofs.InsideLaws.{run_within}
@@ -157,32 +160,17 @@ run_skip (b ∷ bytes) o c = by_test (in_run b) refl (run_skip bytes (o + 1) (co
 
 -- A place in front of places, if there is one.
 abbrev pub listed : Option Place → List Place → List Place
-listed none ps = []
-listed (some p) ps = p ∷ ps
-
-abbrev pub bit : Bool → ℕ
-bit true = 1
-bit false = 0
-
--- A number falls where a place was found.
-abbrev pub falls_of : Option Place → ℕ → ℕ → Type 0
-falls_of none less more = Unit
-falls_of (some p) less more = less < more
+listed None ps = []
+listed (Some p) ps = p ∷ ps
 
 -- What a move through some bytes from a position on is: it goes some bytes on, and the places of the bytes are what it
--- found and those of the bytes that are left. Columns grow by 8 a byte at most, and fewer bytes or a mark less are left
--- behind a place.
+-- found and those of the bytes that are left. Columns grow by 8 a byte at most.
 pub record Goes (bytes : List ℕ) (o c : ℕ) (m : Bool) (v : Move) : Type 0 where
   pub steps : ℕ
   pub reached : v.reached.offset ≡ o + steps
   pub within : steps ≤ length bytes
   pub wide : v.reached.column + 8 * (length bytes - steps) ≤ c + 8 * length bytes
   pub list : places_of bytes o c m false ≡ listed v.found (places_of (drop steps bytes) (o + steps) v.reached.column v.reached.mark false)
-  pub falls : falls_of v.found (2 * (length bytes - steps) + bit v.reached.mark) (2 * length bytes + bit m)
-
-falls_more : (f : Option Place) (a b x y : ℕ) → a ≡ b → x ≤ y → falls_of f a x → falls_of f b y
-falls_more none a b x y e l h = tt
-falls_more (some p) a b x y e l h = omega arith
 
 -- A byte that is passed over.
 goes_over :
@@ -210,9 +198,6 @@ goes_over b bytes o c m e g =
           (λ (j : ℕ).
           listed v.found (places_of (drop g.steps bytes) j v.reached.column v.reached.mark false))
           on;
-      falls = falls_more v.found (2 * (length bytes - g.steps) + bit v.reached.mark)
-          (2 * (suc (length bytes) - suc g.steps) + bit v.reached.mark) (2 * length bytes + bit m)
-          (2 * suc (length bytes) + bit m) (omega arith) (omega arith) g.falls;
     })
 
 -- The columns of a run grow by 8 a byte at most.
@@ -244,7 +229,6 @@ goes_run b bytes o c m e =
           (run_skip bytes (o + 1) (column_after b c)
           ∙ ap (λ (j : ℕ). places_of (drop n bytes) j (column_over (take n bytes) (column_after b c)) true false)
           on);
-      falls = omega (arith, w);
     })
 
 -- A line's end by a break, and a single byte.
@@ -265,7 +249,6 @@ goes_break b bytes o c m e p =
       list =
           ap₂ (λ (l : List Place) (k : Bool). l ++ places_of bytes (o + 1) (column_after b c) k (in_run b)) q.0 q.1
           ∙ ap₂ (λ (t : Bool) (d : ℕ). line_end true c o ++ places_of bytes (o + 1) d false t) q.2 q.3;
-      falls = omega arith;
     })
 
 goes_single :
@@ -286,14 +269,13 @@ goes_single b bytes o c m e k p =
       list =
           ap₂ (λ (l : List Place) (t : Bool). l ++ places_of bytes (o + 1) (column_after b c) t (in_run b)) q.0 q.1
           ∙ ap (λ (t : Bool). spelling c o 1 ++ places_of bytes (o + 1) (column_after b c) true t) e;
-      falls = omega arith;
     })
 
 -- The end of the text.
 goes_end : (o c : ℕ) (m : Bool) → Goes [] o c m (next_place [] o c m)
 unfolding places_of next_place
-goes_end o c true = record { steps = 0; reached = sym (add-zero o); within = omega arith; wide = omega arith; list = refl; falls = omega arith }
-goes_end o c false = record { steps = 0; reached = sym (add-zero o); within = omega arith; wide = omega arith; list = refl; falls = tt }
+goes_end o c true = record { steps = 0; reached = sym (add-zero o); within = omega arith; wide = omega arith; list = refl }
+goes_end o c false = record { steps = 0; reached = sym (add-zero o); within = omega arith; wide = omega arith; list = refl }
 
 -- Every move goes so.
 goes_first : (b : ℕ) (bytes : List ℕ) (o c : ℕ) (m : Bool) (over run brk : Bool) → passed_over b m ≡ over → in_run b ≡ run → passed_over b false ≡ brk
@@ -307,22 +289,18 @@ goes : (bytes : List ℕ) (o c : ℕ) (m : Bool) → Goes bytes o c m (next_plac
 goes [] o c m = goes_end o c m
 goes (b ∷ bytes) o c m = goes_first b bytes o c m (passed_over b m) (in_run b) (passed_over b false) refl refl refl (goes bytes (o + 1) (column_after b c) m)
 
--- The places of a text from a position on, and how much is left there.
+-- The places of a text from a position on.
 unfoldable pub places_from : List ℕ → Position → List Place
 places_from text p = places_of (drop p.offset text) p.offset p.column p.mark false
-
-unfoldable pub left : List ℕ → Position → ℕ
-left text p = 2 * (length text - p.offset) + bit p.mark
 
 -- A move from a position in a text with room.
 pub record Onward (text : List ℕ) (p : Position) (v : Move) : Type 0 where
   pub room : Room text v.reached.offset v.reached.column
   pub wide : v.reached.column + 8 * (length text - v.reached.offset) ≤ p.column + 8 * (length text - p.offset)
   pub list : places_from text p ≡ listed v.found (places_from text v.reached)
-  pub falls : falls_of v.found (left text v.reached) (left text p)
 
 pub onward : (text : List ℕ) (p : Position) → Room text p.offset p.column → Onward text p (next_in text p)
-unfolding places_from left
+unfolding places_from
 onward text p r =
     let o : ℕ = p.offset in
     let v : Move = next_in text p in
@@ -343,12 +321,37 @@ onward text p r =
           (drop-drop g.steps o text)
           ∙ ap (λ (j : ℕ). listed v.found (places_of (drop j text) j v.reached.column v.reached.mark false))
           (sym at);
-      falls = falls_more v.found (2 * (length (drop o text) - g.steps) + bit v.reached.mark)
-          (2 * (length text - v.reached.offset) + bit v.reached.mark) (2 * length (drop o text) + bit p.mark)
-          (2 * (length text - o) + bit p.mark) (omega (arith, r.within, g.within)) (omega arith) g.falls;
     }
 
 -- From the start a text has its places.
 pub places_from_lem : (text : List ℕ) → places text ≡ places_from text (position 0 0 false)
 unfolding places_from
 places_from_lem text = places_walked text
+
+-- A text has at most one place a byte and one at its end.
+one_most : (k : Class) (had mid : Bool) (c o n : ℕ) → length (place_by k had mid c o n) ≤ 1
+one_most Break true mid c o n = omega arith
+one_most Break false mid c o n = omega arith
+one_most Tab had mid c o n = omega arith
+one_most Blank had mid c o n = omega arith
+one_most Single had mid c o n = omega arith
+one_most Digit had true c o n = omega arith
+one_most Digit had false c o n = omega arith
+one_most Run had true c o n = omega arith
+one_most Run had false c o n = omega arith
+one_most Continuation had true c o n = omega arith
+one_most Continuation had false c o n = omega arith
+one_most Refused had mid c o n = omega arith
+
+places_at_most : (text : List ℕ) (i n : ℕ) → length (places_at text i n) ≤ n
+unfolding places_at place_at
+places_at_most text i zero = omega arith
+places_at_most text i (suc n) =
+    let one = one_most (class_of (get_or text i 0)) (had_token text i) (mid_run text i) (column_at text i) i (run_length (drop i text)) in
+    simp length-append (omega (arith, one, places_at_most text (suc i) n))
+
+pub few_places : (text : List ℕ) → length (places text) ≤ length text + 1
+unfolding places
+few_places text =
+    let one = one_most Break (had_token text (length text)) false (column_at text (length text)) (length text) 0 in
+    simp length-append (omega (arith, one, places_at_most text 0 (length text)))

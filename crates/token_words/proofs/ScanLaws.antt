@@ -1,26 +1,19 @@
 -- What a whole scan answers, check by check.
-use Prim.Native.Nat.{ℕ, ◌*◌, ◌/◌, ◌≤◌, ◌<◌}
-use mathlib.Core.Path.{◌≡◌, refl, sym, ap, ap₂, ◌∙◌}
-use mathlib.Core.Bool.{Bool, true, false, ◌||◌, or-true}
-use mathlib.Core.List.{List, ◌++◌}
-use lib.ListN.{length, drop, length-map}
-use lib.Dec.{ltb}
-use native.Mathlib.Omega.{arith}
+use Rattle.std.proofs.Common.{◌≡◌, ℕ, ◌*◌, ◌/◌, ◌≤◌, ◌<◌, Bool, true, false, ◌||◌, List, ◌++◌, length, drop, ltb, refl, sym, ap, ap₂, ◌∙◌, arith}
+use mathlib.Core.Bool.{or-true}
+use lib.ListN.{length-map}
 use borrow.Author.Tests.{lt-ltb, le-ltb}
-use Rattle.table.specs.Limits.{most_tokens}
 use Rattle.table.proofs.Words.{length_words}
+use Rattle.table.specs.Limits.{most_tokens}
 use Rattle.table.specs.Answer.{Answer, given, refused, refused_at, refuse_if, and_then, afterwards}
-use Rattle.table.proofs.AnswerLaws.{first_refuses, first_passes}
+use Rattle.table.specs.Refusals.{turned_down}
+use Rattle.table.specs.declared.refusals.Refusal.{Refusal}
+use Rattle.table.proofs.AnswerLaws.{first_passes}
 use Rattle.grammar_file.specs.File.{Contents, keywords, fields_of, file_answer}
-use Rattle.token_words.specs.Places.{places}
+use Rattle.report_checks.specs.FirstChecks.{first_answer, Passed}
 use Rattle.scanner.specs.Tokens.{token_of}
+use Rattle.token_words.specs.Places.{places}
 use Rattle.token_words.specs.Scan.{tokens, token_words, words_of, fails8, fails9, fails10, scan_tokens, scan_answer}
-use Rattle.report_checks.specs.FirstChecks.{first_answer, Passed, Checks}
-use Rattle.report_checks.specs.declared.Checked.{Checked}
-use Rattle.report_checks.specs.declared.Checked.TheVariants.{Refused as NotChecked}
-use Rattle.report_checks.proofs.CheckLaws.{refused_of}
-use Rattle.token_words.specs.InternalScan.{Measured}
-use Rattle.token_words.specs.declared.Tally.{Tally}
 
 -- What is answered behind the checks that a scan begins with.
 first_then :
@@ -31,46 +24,49 @@ first_then (given x) false next = refl
 first_then (refused n) b next = refl
 first_then (refused_at n node) b next = refl
 
+-- A first part that turns down, and what is written then.
+turned_first : {A : Type 0} (B : Type 0) (r : Refusal) (next : Answer A) → turned_down r ≡ and_then (turned_down {A = B} r) next
+turned_first B r next = grind arith
+
+pub turned_keeps : (r : Refusal) (words old : List ℕ) → old ≡ afterwards (turned_down {A = ℕ} r) words old
+turned_keeps r words old = grind arith
+
 -- A whole scan.
 module _ (file text : List ℕ) (lent : ℕ) where
-  pub scan_first : {o : Checked} {n : ℕ} → Checks file text o → o ≡ NotChecked n → refused n ≡ scan_answer file text lent
+  pub scan_first : (r : Refusal) → turned_down r ≡ first_answer file text → turned_down r ≡ scan_answer file text lent
   unfolding scan_answer first_answer
-  scan_first h told = first_refuses _ (refused_of h told) ∙ first_then (file_answer file) (fails8 text) _
+  scan_first r e =
+      let later = refuse_if (fails9 text) 9 (refuse_if (fails10 text lent) 10 (given (length (places text)))) in
+      turned_first Unit r later ∙ ap (λ (a : Answer Unit). and_then a later) e ∙ first_then (file_answer file) (fails8 text) later
 
-  many_tokens : most_tokens < length (places text) → fails10 text lent ≡ true
-  unfolding fails10
-  many_tokens h = ap (λ (b : Bool). b || ltb lent (length (places text) * 4)) (lt-ltb most_tokens (length (places text)) h)
-
-  few_words : lent / 4 < length (places text) → fails10 text lent ≡ true
-  unfolding fails10
-  few_words h =
-      ap (λ (b : Bool). ltb most_tokens (length (places text)) || b)
-      (lt-ltb lent (length (places text) * 4) (omega arith))
-      ∙ or-true (ltb most_tokens (length (places text)))
-
-  enough_words : length (places text) ≤ most_tokens → length (places text) ≤ lent / 4 → fails10 text lent ≡ false
-  unfolding fails10
-  enough_words h k = ap₂ ◌||◌ (le-ltb most_tokens (length (places text)) h) (le-ltb lent (length (places text) * 4) (omega arith))
-
-  module _ {k : ℕ} (h : Passed file text k) {m : Tally} (d : Measured text m) where
+  module _ {k : ℕ} (h : Passed file text k) where
     -- The further checks, by what each says.
-    scan_by : (b c : Bool) → m.over ≡ b → fails10 text lent ≡ c → refuse_if b 9 (refuse_if c 10 (given (length (places text)))) ≡ scan_answer file text lent
-    unfolding scan_answer first_answer fails9
-    scan_by b c q r =
-        rw (← sym d.over ∙ q, ← r) (first_passes _ h.passes ∙ first_then (file_answer file) (fails8 text) _)
+    scan_by : {b c : Bool} → fails9 text ≡ b → fails10 text lent ≡ c → refuse_if b 9 (refuse_if c 10 (given (length (places text)))) ≡ scan_answer file text lent
+    unfolding scan_answer first_answer
+    scan_by q r = rw (← q, ← r) (first_passes _ h.passes ∙ first_then (file_answer file) (fails8 text) _)
 
-    pub scan_9 : m.over ≡ true → refused 9 ≡ scan_answer file text lent
-    scan_9 e = scan_by true _ e refl
+    pub scan_9 : fails9 text ≡ true → refused 9 ≡ scan_answer file text lent
+    scan_9 e = scan_by e refl
 
-    module _ (e : m.over ≡ false) where
-      pub scan_many : most_tokens < m.count → refused 10 ≡ scan_answer file text lent
-      scan_many w = scan_by false true e (many_tokens (rw (← d.count) w))
+    module _ {m : ℕ} (d : (m ≡ length (places text)) × (fails9 text ≡ false)) where
+      pub scan_many : most_tokens < m → refused 10 ≡ scan_answer file text lent
+      unfolding fails10
+      scan_many w = scan_by d.1 (ap (λ (b : Bool). b || ltb lent (length (places text) * 4)) (lt-ltb most_tokens (length (places text)) (rw (← d.0) w)))
 
-      pub scan_short : lent / 4 < m.count → refused 10 ≡ scan_answer file text lent
-      scan_short w = scan_by false true e (few_words (rw (← d.count) w))
+      pub scan_short : lent / 4 < m → refused 10 ≡ scan_answer file text lent
+      unfolding fails10
+      scan_short w =
+          scan_by d.1
+          (ap (λ (b : Bool). ltb most_tokens (length (places text)) || b)
+          (lt-ltb lent (length (places text) * 4) (omega (arith, d.0)))
+          ∙ or-true (ltb most_tokens (length (places text))))
 
-      pub scan_on : m.count ≤ most_tokens → m.count ≤ lent / 4 → given m.count ≡ scan_answer file text lent
-      scan_on a b = ap given d.count ∙ scan_by false false e (enough_words (rw (← d.count) a) (rw (← d.count) b))
+      pub scan_on : m ≤ most_tokens → m ≤ lent / 4 → given m ≡ scan_answer file text lent
+      unfolding fails10
+      scan_on a b =
+          ap given d.0
+          ∙ scan_by d.1
+          (ap₂ ◌||◌ (le-ltb most_tokens (length (places text)) (rw (← d.0) a)) (le-ltb lent (length (places text) * 4) (omega (arith, d.0))))
 
 -- The lent words after a scan.
 pub words_after : (file text : List ℕ) (ks : List (List ℕ)) → keywords (fields_of file) ≡ ks → (old : List ℕ) {out : List ℕ} (n : ℕ)

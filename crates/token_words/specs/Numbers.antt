@@ -1,10 +1,9 @@
 -- What a whole scan answers, as numbers (01, "The scanner" and "Turned-down calls").
-use Rattle.std.specs.Prelude.{ℕ}
-use Rattle.table.specs.Answer.{Answer, given, refused}
-use Rattle.token_words.specs.declared.Scanned.{Scanned}
-use Rattle.token_words.specs.declared.Scanned.TheVariants.{Tokens, Refused}
+use Rattle.std.specs.Prelude.{ℕ, Result}
+use Rattle.table.specs.Answer.{Answer}
+use Rattle.table.specs.Refusals.{answer_by}
+use Rattle.table.specs.declared.refusals.Refusal.{Refusal}
 
--- 01's number and value for each case of `Scanned`.
-abbrev pub numbers : Scanned → Answer ℕ
-numbers (Tokens n) = given n
-numbers (Refused n) = refused n
+-- 01's number, or the number of tokens, for what a scan answers.
+abbrev pub numbers : Result ℕ Refusal → Answer ℕ
+numbers = answer_by (λ n. n)

@@ -5,7 +5,8 @@ use Rattle.byte_class.specs.Bytes.{class_of}
 use Rattle.byte_class.specs.declared.Class.{Class}
 use Rattle.byte_class.specs.declared.Class.TheVariants.{Break, Tab, Blank, Single, Digit, Run, Continuation, Refused}
 use Rattle.places.specs.Columns.{column_at}
-use Rattle.places.specs.Places.{Place, in_run, run_length}
+use Rattle.places.specs.Places.{in_run, run_length}
+use Rattle.places.specs.declared.Place.{Place}
 
 -- Whether the byte before an offset belongs to a run, so that no run begins there.
 unfoldable pub mid_run : List ℕ → ℕ → Bool

@@ -6,8 +6,9 @@ use Rattle.table.specs.Limits.{most_tokens, most_column}
 use Rattle.table.specs.Answer.{Answer, given, refuse_if, and_then}
 use Rattle.grammar_file.specs.File.{keywords, fields_of, file_answer}
 pub use Rattle.report_checks.specs.Report.{fails8}
-use Rattle.places.specs.Places.{Place}
-use Rattle.scanner.specs.Tokens.{Token, token_of}
+use Rattle.places.specs.declared.Place.{Place}
+use Rattle.scanner.specs.Tokens.{token_of}
+use Rattle.scanner.specs.declared.Token.{Token}
 use Rattle.token_words.specs.Places.{places}
 
 -- The tokens of a text.

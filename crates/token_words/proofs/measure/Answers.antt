@@ -1,30 +1,24 @@
 -- `token_words::measure` meets its contract.
-use native.Mathlib.Omega.{arith}
-use borrow.Author.Tests.{not-true, not-false}
-use Rattle.places.specs.Moves.{position}
-use Rattle.token_words.proofs.LoopLaws.{counting_start, counting_ends, counting_less, counting_next}
+use Rattle.std.proofs.Common.{refl, arith}
+use Rattle.token_words.proofs.LoopLaws.{counting_start, counting_ends, counting_over, counting_fits, counting_less, counting_next}
 use Rattle.token_words.proofs.measure.Goals as goal
 
-pub loop-f-init : goal.loop-f-init
-loop-f-init c = counting_start c.args.report.now c.requires
+pub loop-next-init : goal.loop-next-init
+loop-next-init c = counting_start c.args.report.now c.requires c.find-next.ensures
 
-pub returns-then-not-f : goal.returns-then-not-f
-returns-then-not-f c =
-    counting_ends c.args.report.now c.loop-f.count c.loop-f.over
-    (position c.loop-f.at c.loop-f.column c.loop-f.mark) c.loop-f.invariant c.find-f.result c.find-f.ensures
-    (not-true _ c.if-not-f.true)
+pub returns-then-place-gt-LAST_COLUMN : goal.returns-then-place-gt-LAST_COLUMN
+returns-then-place-gt-LAST_COLUMN c =
+    (refl, counting_over c.args.report.now c.loop-next.invariant c.in-Some.is c.if-place-gt-LAST_COLUMN.true)
 
-pub overflow_add-count : goal.overflow_add-count
-overflow_add-count c = omega (arith, c.loop-f.invariant.fits, c.requires)
+pub overflow_add-n : goal.overflow_add-n
+overflow_add-n c = omega (arith, counting_fits c.args.report.now c.loop-next.invariant c.in-Some.is)
 
-pub loop-f-smaller : goal.loop-f-smaller
-loop-f-smaller c =
-    counting_less c.args.report.now c.loop-f.count c.loop-f.over
-    (position c.loop-f.at c.loop-f.column c.loop-f.mark) c.loop-f.invariant c.find-f.result c.find-f.ensures
-    (not-false _ c.if-not-f.false)
+pub loop-next-smaller : goal.loop-next-smaller
+loop-next-smaller c = counting_less c.args.report.now c.loop-next.invariant c.in-Some.is c.find-next-in-Some.ensures
 
-pub loop-f-preserved : goal.loop-f-preserved
-loop-f-preserved c =
-    counting_next c.args.report.now c.loop-f.count c.loop-f.over
-    (position c.loop-f.at c.loop-f.column c.loop-f.mark) c.loop-f.invariant c.find-f.result c.find-f.ensures
-    (not-false _ c.if-not-f.false) c.wider-over.ensures
+pub loop-next-preserved : goal.loop-next-preserved
+loop-next-preserved c =
+    counting_next c.args.report.now c.loop-next.invariant c.in-Some.is c.find-next-in-Some.ensures c.if-place-gt-LAST_COLUMN.false
+
+pub returns : goal.returns
+returns c = counting_ends c.args.report.now c.loop-next.invariant c.in_default.is

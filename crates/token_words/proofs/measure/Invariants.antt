@@ -1,11 +1,10 @@
 -- `token_words::measure` meets its contract.
-use Rattle.places.specs.Moves.{position}
-use Rattle.token_words.proofs.LoopLaws.{Counting}
-use Rattle.token_words.proofs.PlaceLaws.{left}
+use Rattle.std.proofs.Common.{length}
+use Rattle.token_words.proofs.LoopLaws.{ahead, Counting}
 use Rattle.token_words.proofs.measure.Given as goal
 
-abbrev pub invariant-loop-f : goal.invariant-loop-f
-invariant-loop-f l = Counting l.report l.count l.over (position l.at l.column l.mark)
+abbrev pub invariant-loop-next : goal.invariant-loop-next
+invariant-loop-next l = Counting l.report l.n l.next
 
-abbrev pub decreases-loop-f : goal.decreases-loop-f
-decreases-loop-f l = left l.report (position l.at l.column l.mark)
+abbrev pub decreases-loop-next : goal.decreases-loop-next
+decreases-loop-next l = length (ahead l.report l.next)
