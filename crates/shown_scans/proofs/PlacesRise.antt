@@ -10,7 +10,8 @@ use Rattle.byte_class.specs.Bytes.{class_of}
 use Rattle.byte_class.specs.declared.Class.{Class}
 use Rattle.byte_class.specs.declared.Class.TheVariants.{Break, Tab, Blank, Single, Digit, Run, Continuation, Refused}
 use Rattle.places.specs.Columns.{column_at}
-use Rattle.places.specs.Places.{Place, run_length}
+use Rattle.places.specs.declared.Place.{Place}
+use Rattle.places.specs.Places.{run_length}
 use Rattle.token_words.specs.Places.{mid_run, had_token, line_end, place_by, place_at, places_at, places}
 use Rattle.scanner.proofs.InsideLaws.{run_within}
 

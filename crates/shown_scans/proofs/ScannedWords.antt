@@ -13,8 +13,9 @@ use Rattle.table.proofs.Every.{both_false}
 use Rattle.table.proofs.Words.{length_words}
 use Rattle.number_spelling.specs.Number.{is_number}
 use Rattle.spellings.specs.Spellings.{same_bytes}
-use Rattle.places.specs.Places.{Place}
-use Rattle.scanner.specs.Tokens.{Token, token_of, terminal_from, terminal_at}
+use Rattle.places.specs.declared.Place.{Place}
+use Rattle.scanner.specs.declared.Token.{Token}
+use Rattle.scanner.specs.Tokens.{token_of, terminal_from, terminal_at}
 use Rattle.token_words.specs.Scan.{token_words, words_of, over_column}
 use Rattle.clauses.specs.Limits.{tokens_of, fails11}
 
