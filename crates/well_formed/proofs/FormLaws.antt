@@ -56,21 +56,23 @@ module _ (nodes rules : List ℕ) (n : ℕ) where
   abbrev child : ℕ
   child = first_child rules (kind_of nodes n) (a_of nodes n)
 
-  -- What a node gives, from the facts of its first child and of b.
+  -- What a node of kind k gives, from the facts of its first child and of b.
   pub node_gives :
-      (known : Fact → ℕ → Bool) (first second : Fact → Bool)
+      (known : Fact → ℕ → Bool) {k : ℕ} (first second : Fact → Bool)
+      → k ≡ kind_of nodes n
       → ((y : Fact) → first y ≡ known y child)
       → ((y : Fact) → second y ≡ known y (b_of nodes n))
       → (x : Fact)
-      → gives (0 ∷ []) (λ y. two (first y) (second y)) (decode (kind_of nodes n) 0 1 0) x
+      → gives (0 ∷ []) (λ y. two (first y) (second y)) (decode k 0 1 0) x
       ≡ gives rules known (form nodes n) x
   unfolding form
-  node_gives known first second e d x =
-      ap₂ (λ (f g : Fact → Bool). gives (0 ∷ []) (λ y. two (f y) (g y)) (decode (kind_of nodes n) 0 1 0) x) (fun_ext e) (fun_ext d)
-      ∙ decoded_gives rules known (kind_of nodes n) (a_of nodes n) (b_of nodes n) (relation_of nodes n) x
+  node_gives known first second q e d x =
+      rw q
+      (ap₂ (λ (f g : Fact → Bool). gives (0 ∷ []) (λ y. two (f y) (g y)) (decode (kind_of nodes n) 0 1 0) x) (fun_ext e) (fun_ext d)
+      ∙ decoded_gives rules known (kind_of nodes n) (a_of nodes n) (b_of nodes n) (relation_of nodes n) x)
 
-  -- Whether a node passes, from its first child and b.
-  pub node_passes : (may well : ℕ → Bool) (a m b : Bool) → a ≡ well child → m ≡ may child → b ≡ well (b_of nodes n)
-      → passes (0 ∷ []) (λ i. m) (two a b) (decode (kind_of nodes n) 0 1 0) ≡ passes rules may well (form nodes n)
+  -- Whether a node of kind k passes, from its first child and b.
+  pub node_passes : (may well : ℕ → Bool) {k : ℕ} (a m b : Bool) → k ≡ kind_of nodes n → a ≡ well child → m ≡ may child → b ≡ well (b_of nodes n)
+      → passes (0 ∷ []) (λ i. m) (two a b) (decode k 0 1 0) ≡ passes rules may well (form nodes n)
   unfolding form
-  node_passes may well a m b p q s = rw (p, q, s) (decoded_passes rules may well (kind_of nodes n) (a_of nodes n) (b_of nodes n) (relation_of nodes n))
+  node_passes may well a m b o p q s = rw (o, p, q, s) (decoded_passes rules may well (kind_of nodes n) (a_of nodes n) (b_of nodes n) (relation_of nodes n))

@@ -6,7 +6,7 @@ ghost use Rattle.well_formed.specs.Rounds.{gives as gives-by};
 ghost use Rattle.form_facts.specs.OneForm.{fact_of};
 ghost use Rattle.well_formed.specs.InternalPasses.{known, FactsReady, FactsPass, FactsFinished};
 
-use crate::cells::{cell, first_child};
+use crate::cells::{cell, node_at};
 use form_facts::{Facts, facts_by_form};
 
 // Every fact of every node: passes until one finds nothing.
@@ -41,12 +41,10 @@ fn gives(nodes: &[u16], rules: &[u16], cells: &[Facts], n: usize) -> Facts
     ensures { (x : Fact)
         → fact_of result x ≡ gives-by rules.now (known cells.now) (form nodes.now «n») x }
 {
-    let at = n * 4;
-    let kind = nodes[at];
-    let child = first_child(rules, kind, nodes[at + 1]);
-    let first = cell(cells, child, Facts::default());
-    let second = cell(cells, nodes[at + 2] as usize, Facts::default());
-    facts_by_form(kind, first, second)
+    let node = node_at(nodes, rules, n);
+    let first = cell(cells, node.first, Facts::default());
+    let second = cell(cells, node.second, Facts::default());
+    facts_by_form(node.kind, first, second)
 }
 
 // The facts that are among these or those.

@@ -5,7 +5,7 @@ ghost use Rattle.well_formed.specs.Facts.{nothing};
 ghost use Rattle.well_formed.specs.Rounds.{passes as passes-by};
 ghost use Rattle.well_formed.specs.InternalPasses.{known, WellReady, WellPass, WellFinished};
 
-use crate::cells::{cell, first_child};
+use crate::cells::{cell, node_at};
 use form_facts::{Facts, well_by_form};
 
 // Every well-formed node: passes until one finds none. The facts of each node are known.
@@ -38,11 +38,9 @@ fn passes(nodes: &[u16], rules: &[u16], cells: &[Facts], well: &[bool], n: usize
         ≡ passes-by rules.now (known cells.now nothing) (λ (m : ℕ). get_or well.now m false)
         (form nodes.now «n») }
 {
-    let at = n * 4;
-    let kind = nodes[at];
-    let child = first_child(rules, kind, nodes[at + 1]);
-    let facts = cell(cells, child, Facts::default());
-    let first = cell(well, child, false);
-    let second = cell(well, nodes[at + 2] as usize, false);
-    well_by_form(kind, first, facts.nothing, second)
+    let node = node_at(nodes, rules, n);
+    let facts = cell(cells, node.first, Facts::default());
+    let first = cell(well, node.first, false);
+    let second = cell(well, node.second, false);
+    well_by_form(node.kind, first, facts.nothing, second)
 }

@@ -1,6 +1,5 @@
 -- `well_formed::facts::gives` meets its contract.
 use Rattle.std.proofs.Common.{ap, ◌∙◌}
-use Rattle.table.specs.Form.{b_of}
 use Rattle.form_facts.specs.OneForm.{fact_of}
 use Rattle.form_facts.specs.declared.Facts.{Facts}
 use Rattle.well_formed.specs.InternalPasses.{known}
@@ -13,5 +12,10 @@ returns c =
     λ x.
     c.facts_by_form.ensures x
     ∙ node_gives c.args.nodes.now c.args.rules.now c.args.n (known c.args.cells.now) (fact_of c.cell-first.result) (fact_of c.cell-second.result)
-    (λ y. ap (λ (f : Facts). fact_of f y) (cell_is c.args.cells.now c.first_child-child.result c.cell-first.ensures (none_is _ c.default.ensures)) ∙ ap (known c.args.cells.now y) c.first_child-child.ensures)
-    (λ y. ap (λ (f : Facts). fact_of f y) (cell_is c.args.cells.now (b_of c.args.nodes.now c.args.n) c.cell-second.ensures (none_is _ c.default-2.ensures))) x
+    c.node_at-node.ensures.kind
+    (λ y.
+    ap (λ (f : Facts). fact_of f y) (cell_is c.args.cells.now c.node_at-node.result.first c.cell-first.ensures (none_is _ c.default.ensures))
+    ∙ ap (known c.args.cells.now y) c.node_at-node.ensures.first)
+    (λ y.
+    ap (λ (f : Facts). fact_of f y) (cell_is c.args.cells.now c.node_at-node.result.second c.cell-second.ensures (none_is _ c.default-2.ensures))
+    ∙ ap (known c.args.cells.now y) c.node_at-node.ensures.second) x
