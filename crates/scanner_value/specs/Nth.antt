@@ -1,9 +1,8 @@
 -- What a step of a value answers after others (01, "The scanner": "One value carries the report text .. and hands out tokens
 -- one by one").
-use Rattle.std.specs.Prelude.{ℕ, zero, suc, List}
-use Rattle.std.proofs.Math.Option.{Option}
+use Rattle.std.specs.Prelude.{ℕ, zero, suc, Option, List}
 use Rattle.table.specs.Answer.{Answer}
-use Rattle.scanner.specs.Tokens.{Token}
+use Rattle.scanner.specs.declared.Token.{Token}
 use Rattle.scanner.specs.Steps.{Position, step_answer, standing}
 
 -- Where a value stands after one step.
