@@ -7,34 +7,46 @@ ghost use Rattle.file_fields.specs.Offsets.{length_at, value_at, next_at, offset
 
 pub mod tags;
 
-// What stands in front of a field's value: its tag and the length of the value.
+// Fields of one tag in a row: the offset of the first, and how many there are.
 #[derive(Clone, Copy)]
-struct Head {
+pub struct Group {
+    pub at: usize,
+    pub count: usize,
+}
+
+// A field's tag, the length of its value, and the bytes behind the two, as many as there are.
+#[derive(Clone, Copy)]
+struct Head<'a> {
     tag: u8,
     length: usize,
+    rest: &'a [u8],
 }
 
 // The head of the field at an offset, or none where fewer than three bytes are left.
-fn head_at(file: &[u8], at: usize) -> Option<Head>
-    ensures { MatchOption result (length file.now < at + 3) (λ h. (at + 3 ≤ length file.now) × (h.tag ≡ get_or file.now at 0) × (h.length ≡ length_at file.now at)) }
+fn head_at(file: &[u8], at: usize) -> Option<Head<'_>>
+    ensures { MatchOption result (length file.now < at + 3)
+        (λ h. (at + 3 ≤ length file.now) × (h.tag ≡ get_or file.now at 0) × (h.length ≡ length_at file.now at)
+        × (h.rest.now ≡ drop (at + 3) file.now)) }
 {
     match file.get(at..) {
-        Some([tag, high, low, ..]) => Some(Head {
+        Some([tag, high, low, rest @ ..]) => Some(Head {
             tag: *tag,
             length: usize::from(u16::from_be_bytes([*high, *low])),
+            rest,
         }),
         _ => None,
     }
 }
 
-#[tactic(auto, unfolding(crate::specs::Offsets::value_at, crate::specs::Offsets::next_at))]
+#[tactic(auto, unfolding(crate::specs::Offsets::value_at))]
 // The value of the field at an offset, as a part of the file; what is cut short ends with the file.
 pub fn value_at(file: &[u8], at: usize) -> &[u8]
     ensures { result.now ≡ value_at file.now at }
 {
-    let end = next_at(file, at);
-    let from = at.saturating_add(3).min(end);
-    &file[from..end]
+    match head_at(file, at) {
+        Some(head) => &head.rest[..head.length.min(head.rest.len())],
+        None => &[],
+    }
 }
 
 #[tactic(auto, unfolding(crate::specs::Offsets::next_at))]
@@ -43,10 +55,7 @@ pub fn next_at(file: &[u8], at: usize) -> usize
     ensures { result ≡ next_at file.now at }
 {
     match head_at(file, at) {
-        Some(head) => {
-            let from = at + 3;
-            file.len().min(from + head.length)
-        }
+        Some(head) => at + 3 + head.length.min(head.rest.len()),
         None => file.len(),
     }
 }
@@ -58,7 +67,7 @@ pub fn right_at(file: &[u8], at: usize, tag: u8) -> bool
 {
     match head_at(file, at) {
         Some(head) => {
-            head.length <= file.len() - 3 - at && head.tag == tag && right_length(tag, head.length)
+            head.length <= head.rest.len() && head.tag == tag && right_length(tag, head.length)
         }
         None => false,
     }

@@ -7,8 +7,8 @@ ghost use Rattle.std.specs.Prelude.{◌≡◌};
 ghost use Rattle.file_shape.specs.Contents.{fields_of, fails2};
 ghost use Rattle.file_shape.specs.Shape.{Parts, Inspects};
 
+pub use file_fields::Group;
 use file_fields::{byte_in, value_at};
-pub use file_tables::Group;
 use file_tables::{check_tables, first_number};
 use runs::shape_of;
 use spellings::{right_spellings, singles_alone};
@@ -62,7 +62,11 @@ fn names_wrong(file: &[u8], s: Shape) -> bool
     requires { Parts file.now s }
     ensures { result ≡ fails2 (fields_of file.now) }
 {
-    !(right_spellings(file, FIRST_KEYWORD, s.keywords, 0)
-        && singles_alone(file, FIRST_KEYWORD, s.keywords)
-        && right_spellings(file, s.rules.at, s.rules.count, 2))
+    let keywords = Group {
+        at: FIRST_KEYWORD,
+        count: s.keywords,
+    };
+    !(right_spellings(file, keywords, 0)
+        && singles_alone(file, keywords)
+        && right_spellings(file, s.rules, 2))
 }

@@ -4,7 +4,7 @@ use Rattle.table.specs.Words.{each_words}
 use Rattle.table.specs.Answer.{given, refuse_if, afterwards}
 use Rattle.file_fields.specs.Fields.{Field, two_bytes}
 use Rattle.file_fields.specs.Offsets.{fields_from}
-use Rattle.file_tables.specs.declared.Group.{Group}
+use Rattle.file_fields.specs.declared.Group.{Group}
 
 -- "tag 3, a rule: two-byte node number, then its name"
 abbrev pub rule_node : Field → ℕ

@@ -7,15 +7,8 @@ ghost use Rattle.file_tables.specs.Tables.{written, node_words, rule_nodes, lack
 ghost use Rattle.file_fields.specs.Fields.{two_bytes};
 ghost use Rattle.table.specs.declared.refusals.Refusal.TheVariants.{Room};
 
-use file_fields::{byte_in, next_at, value_at};
+use file_fields::{Group, byte_in, next_at, value_at};
 use table::Refusal;
-
-// Fields of one tag in a row: the offset of the first, and how many there are.
-#[derive(Clone, Copy)]
-pub struct Group {
-    pub at: usize,
-    pub count: usize,
-}
 
 // The two-byte number that a value begins with, high byte first.
 pub fn first_number(value: &[u8]) -> u16

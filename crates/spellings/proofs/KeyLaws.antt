@@ -36,36 +36,28 @@ weight_small : (i : ℕ) → weight i < 256
 unfolding weight
 weight_small i = mod-lt (153 ^ i) (omega arith)
 
-pub weights_small : (i : ℕ) → i < 32 → get_or weights i 0 < 256
-weights_small i h = rw (weights_right i h) (weight_small i)
-
 -- The sum over the bytes before an index, each of which adds no more than 65,536.
-pub record Summed (s : List ℕ) (end i total : ℕ) : Type 0 where
-  pub within : i ≤ end
+pub record Summed (s : List ℕ) (i total : ℕ) : Type 0 where
+  pub within : i ≤ 32
   pub right : total ≡ sum i (part_of s)
   pub small : total ≤ i * 65536
 
-pub summed_none : {s : List ℕ} {end : ℕ} → Summed s end 0 0
+pub summed_none : {s : List ℕ} → Summed s 0 0
 unfolding sum
 summed_none = record { within = omega arith; right = refl; small = omega arith }
 
--- The byte at an index, times its weight.
-module _ {s : List ℕ} {end i total : ℕ} (m : Summed s end i total) (h : i < end) (e : end ≡ min (length s) 32) (b : get_or s i 0 < 256) where
-  weighed : get_or s i 0 * get_or weights i 0 ≡ part_of s i
-  weighed = ap (λ (w : ℕ). get_or s i 0 * w) (weights_right i (omega arith))
-
-  pub part_small : get_or s i 0 * get_or weights i 0 ≤ 65536
-  part_small = rw weighed (omega (arith, mul-le-mul_left (get_or s i 0) (le_of_lt (weight_small i))))
-
-  -- One byte more.
-  pub summed_more : Summed s end (i + 1) (total + get_or s i 0 * get_or weights i 0)
-  unfolding sum
-  summed_more =
-      record {
-        within = omega arith;
-        right = rw (add-one, weighed, m.right) refl;
-        small = omega (arith, m.small, part_small);
-      }
+-- One byte more, times its weight.
+pub summed_more : {s : List ℕ} {i total b w : ℕ} → Summed s i total → i < 32 → b < 256 → b ≡ get_or s i 0 → w ≡ get_or weights i 0 → Summed s (i + 1) (total + b * w)
+unfolding sum
+summed_more {s} {i} {total} {b} {w} m h small e f =
+    let weighed : w ≡ weight i = f ∙ weights_right i h in
+    let part : b * w ≡ part_of s i = rw (e, weighed) refl in
+    let few : b * w ≤ b * 256 = mul-le-mul_left b (rw weighed (le_of_lt (weight_small i))) in
+    record {
+      within = omega arith;
+      right = rw (add-one, part, m.right) refl;
+      small = omega (arith, m.small, few);
+    }
 
 -- What adds nothing may be left out.
 sum_rest : (f : ℕ → ℕ) (n k : ℕ) → ((i : ℕ) → n ≤ i → i < k + n → f i ≡ 0) → sum (k + n) f ≡ sum n f
@@ -75,13 +67,12 @@ sum_rest f n (suc k) z =
     rw (suc-add k n, z (k + n) (omega arith) (omega arith), add-zero (sum (k + n) f)) (sum_rest f n k (λ i a b. z i a (omega arith)))
 
 -- Bytes past the end add nothing.
-pub summed_all : {s : List ℕ} {end i total : ℕ} → Summed s end i total → end ≤ i → end ≡ min (length s) 32 → total ≡ sum 32 (part_of s)
-summed_all {s} {end} {i} {total} m h e =
-    let last : i ≡ end = omega (arith, m.within) in
-    let whole : 32 - end + end ≡ 32 = omega arith in
+pub summed_all : {s : List ℕ} {i total : ℕ} → Summed s i total → i ≡ min (length s) 32 → total ≡ sum 32 (part_of s)
+summed_all {s} {i} {total} m e =
+    let whole : 32 - i + i ≡ 32 = omega arith in
     m.right
-    ∙ rw (last, ← whole)
-    (sym (sum_rest (part_of s) end (32 - end) (λ k a b. rw (get_or-eq_default s 0 {n = k} (omega arith)) (zero-mul (weight k)))))
+    ∙ rw (← whole)
+    (sym (sum_rest (part_of s) i (32 - i) (λ k a b. rw (get_or-eq_default s 0 {n = k} (omega arith)) (zero-mul (weight k)))))
 
 -- The key of each of the first j spellings is marked.
 pub record Met (names : List (List ℕ)) (j : ℕ) (met : List Bool) : Type 0 where

@@ -1,18 +1,17 @@
 -- Spellings one by one, and what it means that two are the same.
-use Prim.Native.Nat.{ℕ, zero, suc, ◌+◌, ◌≤◌, ◌<◌}
+use Prim.Native.Nat.{ℕ, zero, suc, ◌<◌}
 use mathlib.Core.Path.{◌≡◌, refl, sym, ap, ap₂, ◌∙◌}
 use mathlib.Core.Bool.{Bool, true, false, ◌&&◌}
 use mathlib.Core.List.{List, []}
 use mathlib.Core.Logic.{◌↔◌}
-use native.Mathlib.Numerals.{add-one}
 use native.Mathlib.Omega.{arith}
 use borrow.Author.Tests.{eqb-true, eq-eqb}
 use lib.ListN.{length, get_or, drop}
 use lib.Dec.{eqb}
 use lib.Seq.{ext_get_or}
 use Rattle.table.specs.Every.{every}
-use Rattle.table.proofs.Every.{every_more, every_fails, every_at, and_left, and_right}
-use Rattle.file_fields.specs.Offsets.{value_at, next_at, offset_of, spellings_from}
+use Rattle.table.proofs.Every.{every_fails, every_at, and_left, and_right}
+use Rattle.file_fields.specs.Offsets.{value_at, offset_of, spellings_from}
 use Rattle.spellings.specs.Spellings.{same_bytes}
 use Rattle.file_fields.proofs.Offsets.{spelling_from}
 
@@ -43,65 +42,13 @@ same_self s =
 pub same_exactly : (s t : List ℕ) → (same_bytes s t ≡ true) ↔ (s ≡ t)
 same_exactly s t = (same_equal s t, λ e. rw e (same_self t))
 
--- Two spellings with different bytes at an index are not the same.
-pub bytes_apart : (s t : List ℕ) (i : ℕ) → (get_or s i 0 ≡ get_or t i 0 → ⊥) → false ≡ same_bytes s t
-bytes_apart s t i n = by_test (same_bytes s t) refl
-  where
-    by_test : (b : Bool) → same_bytes s t ≡ b → false ≡ b
-    by_test true e = absurd (n (ap (λ (x : List ℕ). get_or x i 0) (same_equal s t e)))
-    by_test false e = refl
-
--- A walk over the spellings of count fields from an offset on that stands before field i: those that it passed are
--- right by a test, which may ask for a spelling's number too.
-pub record Passed (file : List ℕ) (first count skip : ℕ) (test : ℕ → List ℕ → Bool) (i at : ℕ) : Type 0 where
-  pub within : i ≤ count
-  pub stands : at ≡ offset_of file first i
-  pub right : every i (λ k. test k (get_or (spellings_from file first count skip) k [])) ≡ true
-
-module _ {file : List ℕ} {first count skip : ℕ} {test : ℕ → List ℕ → Bool} where
-  -- Where the walk begins.
-  pub passed_none : Passed file first count skip test 0 first
-  unfolding every offset_of
-  passed_none = record { within = omega arith; stands = refl; right = refl }
-
-  -- The spelling that it stands before.
-  pub here :
-      {i at : ℕ} {s : List ℕ}
-      → Passed file first count skip test i at
-      → i < count
-      → s ≡ drop skip (value_at file at)
+module _ (file : List ℕ) (first count skip : ℕ) where
+  -- The spelling of a field, by its offset.
+  pub here : {i at : ℕ} {s : List ℕ} → at ≡ offset_of file first i → i < count → s ≡ drop skip (value_at file at)
       → get_or (spellings_from file first count skip) i [] ≡ s
-  here p h e = rw (spelling_from file first count skip _ h, ← p.stands, ← e)
+  here p h e = rw (spelling_from file first count skip _ h, ← p, ← e) refl
 
-  -- A right one is passed.
-  pub passed_more :
-      {i at next : ℕ} {s : List ℕ}
-      → Passed file first count skip test i at
-      → i < count
-      → s ≡ drop skip (value_at file at)
-      → test i s ≡ true
-      → next ≡ next_at file at
-      → Passed file first count skip test (i + 1) next
-  unfolding offset_of
-  passed_more {i} p h e t n =
-      record {
-        within = omega arith;
-        stands = rw (add-one, ← p.stands, ← n);
-        right = every_more i _ p.right (ap (test i) (here p h e) ∙ t);
-      }
-
-  -- One that is wrong is enough.
-  pub passed_fails :
-      {i at : ℕ} {s : List ℕ}
-      → Passed file first count skip test i at
-      → i < count
-      → s ≡ drop skip (value_at file at)
-      → test i s ≡ false
-      → false ≡ every count (λ k. test k (get_or (spellings_from file first count skip) k []))
-  passed_fails {i} p h e f = sym (every_fails count _ i h (ap (test i) (here p h e) ∙ f))
-
-  -- At the end all are right.
-  pub passed_all : {i at : ℕ} → Passed file first count skip test i at → count ≤ i → true ≡ every count (λ k. test k (get_or (spellings_from file first count skip) k []))
-  passed_all {i} p h =
-      let e : i ≡ count = omega arith in
-      sym (rw e at p.right)
+  -- One spelling that fails a test is enough.
+  pub one_fails : {i at : ℕ} {s : List ℕ} (test : List ℕ → Bool) → at ≡ offset_of file first i → i < count → s ≡ drop skip (value_at file at)
+      → test s ≡ false → false ≡ every count (λ k. test (get_or (spellings_from file first count skip) k []))
+  one_fails {i} test p h e f = sym (every_fails count _ i h (ap test (here p h e) ∙ f))

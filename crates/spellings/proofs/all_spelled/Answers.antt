@@ -1,23 +1,9 @@
--- `spellings::all_spelled` meets its contract. The loop's invariant: `at` is the offset of field `i`, and
--- the spellings before it are right.
-use mathlib.Core.Path.{sym, ◌∙◌}
-use borrow.Author.Tests.{not-true, not-false}
+-- `spellings::all_spelled` meets its contract.
+use Rattle.std.proofs.Common.{arith}
 use Rattle.file_fields.proofs.Offsets.{length_spellings}
-use Rattle.spellings.proofs.SpellingLaws.{passed_none, passed_more, passed_fails, passed_all}
+use Rattle.spellings.specs.Spellings.{spelled}
+use Rattle.spellings.proofs.SpellingLaws.{one_fails}
 use Rattle.spellings.proofs.all_spelled.Goals as goal
 
-pub loop-i-init : goal.loop-i-init
-loop-i-init c = passed_none
-
 pub returns-then-not-spelled : goal.returns-then-not-spelled
-returns-then-not-spelled c =
-    rw length_spellings (passed_fails c.loop-i.invariant c.loop-i-test.true c.spelling_at.ensures
-    (sym c.spelled.ensures ∙ not-true _ c.if-not-spelled.true-raw))
-
-pub loop-i-preserved : goal.loop-i-preserved
-loop-i-preserved c =
-    passed_more c.loop-i.invariant c.loop-i-test.true c.spelling_at.ensures
-    (sym c.spelled.ensures ∙ not-false _ c.if-not-spelled.false-raw) c.next_at-at.ensures
-
-pub returns : goal.returns
-returns c = rw length_spellings (passed_all c.loop-i.invariant c.loop-i-test.false)
+returns-then-not-spelled c = rw length_spellings (one_fails _ _ _ _ spelled c.loop.invariant.stands c.loop-test.true c.spelling_at.ensures (grind arith))

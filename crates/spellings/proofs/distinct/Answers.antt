@@ -1,19 +1,19 @@
--- `spellings::distinct` meets its contract. The loop's invariant: `at` is the offset of field `j`, the
--- spellings before it are distinct, and their keys are marked.
+-- `spellings::distinct` meets its contract.
 use Prim.Native.Nat.{ℕ, ◌<◌}
-use mathlib.Core.Path.{◌≡◌, sym, ap, ◌∙◌}
+use mathlib.Core.Path.{◌≡◌, refl, sym, ap, ◌∙◌}
 use mathlib.Core.List.{List}
-use mathlib.Core.Bool.{not}
+use mathlib.Core.Bool.{true, not}
 use native.Mathlib.Omega.{arith}
-use borrow.Author.Tests.{not-true, not-false}
-use Rattle.table.proofs.Every.{every_same}
-use Rattle.file_fields.specs.Offsets.{spellings_from}
+use Rattle.table.specs.Every.{every}
+use Rattle.table.proofs.Every.{every_same, every_more, every_fails}
+use Rattle.file_fields.specs.Offsets.{next_at, spellings_from, offset_of}
 use Rattle.spellings.specs.Spellings.{same_bytes, distinct}
-use Rattle.file_fields.proofs.Offsets.{length_spellings, spelling_from}
-use Rattle.spellings.proofs.SpellingLaws.{passed_none, passed_more, passed_fails, passed_all, here}
+use Rattle.file_fields.proofs.Offsets.{length_spellings, spelling_from, offset_next}
+use Rattle.spellings.proofs.SpellingLaws.{here}
 use Rattle.spellings.proofs.KeyLaws.{met_none, met_more, none_same}
 use Rattle.spellings.proofs.distinct.Invariants.{differs}
 use Rattle.spellings.proofs.distinct.Goals as goal
+use Rattle.spellings.proofs.distinct.Goals.{else-met-h-via-then-met-h+else-not-unlike, else-met-h-via-else-met-h}
 
 -- The first j names are the same where no more are looked at.
 fewer :
@@ -25,34 +25,33 @@ fewer file first count skip j s h =
     (λ i a. ap (λ (t : List ℕ). not (same_bytes t s)) (spelling_from file first count skip i (omega arith) ∙ sym (spelling_from file first j skip i a)))
 
 pub loop-j-init : goal.loop-j-init
-loop-j-init c = (passed_none, met_none)
+unfolding every offset_of
+loop-j-init c = record { stands = refl; right = refl; met = met_none }
 
-pub bounds-met-h : goal.bounds-met-h
-bounds-met-h c = c.key-h.ensures.upper_bound
-
-pub differs-requires : goal.differs-requires
-differs-requires c = λ e. sym (fewer _ _ _ _ _ _ c.loop-j-test.true) ∙ none_same _ c.loop-j.invariant.1 c.key-h.ensures.value e
-
-pub returns-then-not-differs : goal.returns-then-not-differs
+pub returns-then-not-unlike : goal.returns-then-not-unlike
 unfolding distinct
-returns-then-not-differs c =
+returns-then-not-unlike c =
     rw length_spellings
-    (passed_fails c.loop-j.invariant.0 c.loop-j-test.true c.spelling_at-s.ensures
-    (fewer _ _ _ _ _ _ c.loop-j-test.true ∙ sym c.differs.ensures ∙ not-true _ c.if-not-differs.true-raw))
-
-pub bounds-met-h-in-loop-j : goal.bounds-met-h-in-loop-j
-bounds-met-h-in-loop-j c = c.key-h.ensures.upper_bound
+    (sym (every_fails _ _ _ c.loop-j-test.true
+    (ap (differs _ c.loop-j.j) (here _ _ _ _ c.loop-j.invariant.stands c.loop-j-test.true c.spelling_at-s.ensures)
+    ∙ fewer _ _ _ _ _ _ c.loop-j-test.true
+    ∙ sym c.unlike.ensures
+    ∙ c.if-not-unlike.true)))
 
 pub loop-j-preserved : goal.loop-j-preserved
-loop-j-preserved c = (
-  passed_more c.loop-j.invariant.0 c.loop-j-test.true c.spelling_at-s.ensures
-      (fewer _ _ _ _ _ _ c.loop-j-test.true
-      ∙ sym c.differs.ensures
-      ∙ not-false _ c.if-not-differs.false-raw) c.next_at-at.ensures,
-  met_more c.loop-j.invariant.1 (here c.loop-j.invariant.0 c.loop-j-test.true c.spelling_at-s.ensures) c.key-h.ensures.value
-      c.key-h.ensures.upper_bound,
-)
+loop-j-preserved c =
+    let this = here _ _ _ _ c.loop-j.invariant.stands c.loop-j-test.true c.spelling_at-s.ensures in
+    let new : differs (spellings_from c.args.file.now c.args.group.at c.args.group.count c.args.skip) c.loop-j.j c.spelling_at-s.result.now ≡ true =
+    elim c.else-met-h.branch [
+      | else-met-h-via-then-met-h+else-not-unlike w ↦ fewer _ _ _ _ _ _ c.loop-j-test.true ∙ sym w.unlike.ensures ∙ w.if-not-unlike.false
+      | else-met-h-via-else-met-h w ↦ none_same _ c.loop-j.invariant.met c.key-h.ensures.value w.if-met-h.false
+    ] in
+    record {
+      stands = c.next_at-at.ensures ∙ ap (next_at _) c.loop-j.invariant.stands ∙ sym (offset_next _ _ _);
+      right = every_more _ _ c.loop-j.invariant.right (ap (differs _ c.loop-j.j) this ∙ new);
+      met = met_more c.loop-j.invariant.met this c.key-h.ensures.value c.key-h.ensures.upper_bound;
+    }
 
 pub returns : goal.returns
 unfolding distinct
-returns c = rw length_spellings (passed_all c.loop-j.invariant.0 c.loop-j-test.false)
+returns c = rw length_spellings (grind arith)

@@ -1,13 +1,13 @@
 -- `spellings::distinct` meets its contract. The loop's invariant: `at` is the offset of field `j`, the
 -- spellings before it are distinct, and their keys are marked.
-use Prim.Native.Nat.{ℕ, ◌-◌}
+use Prim.Native.Nat.{ℕ}
+use mathlib.Core.Path.{◌≡◌}
 use mathlib.Core.List.{List, []}
-use mathlib.Core.Bool.{Bool, not}
+use mathlib.Core.Bool.{Bool, true, not}
 use lib.ListN.{get_or}
 use Rattle.table.specs.Every.{every}
-use Rattle.file_fields.specs.Offsets.{spellings_from}
+use Rattle.file_fields.specs.Offsets.{offset_of, spellings_from}
 use Rattle.spellings.specs.Spellings.{same_bytes}
-use Rattle.spellings.proofs.SpellingLaws.{Passed}
 use Rattle.spellings.proofs.KeyLaws.{Met}
 use Rattle.spellings.proofs.distinct.Given as goal
 
@@ -17,8 +17,9 @@ differs names j s = every j (λ i. not (same_bytes (get_or names i []) s))
 
 abbrev pub invariant-loop-j : goal.invariant-loop-j
 invariant-loop-j l =
-    Passed l.file l.first l.count l.skip (differs (spellings_from l.file l.first l.count l.skip)) l.j l.at
-    × Met (spellings_from l.file l.first l.count l.skip) l.j l.met
-
-abbrev pub decreases-loop-j : goal.decreases-loop-j
-decreases-loop-j l = l.count - l.j
+    let names = spellings_from l.file l.fn.group.at l.fn.group.count l.skip in
+    record {
+      stands : l.at ≡ offset_of l.file l.fn.group.at l.j;
+      right : every l.j (λ k. differs names k (get_or names k [])) ≡ true;
+      met : Met names l.j l.met;
+    }
