@@ -52,8 +52,8 @@ fn joined(these: Facts, those: Facts) -> Facts
     ensures { (x : Fact) → fact_of result x ≡ (fact_of these x || fact_of those x) }
 {
     Facts {
-        nothing: these.nothing || those.nothing,
-        something: these.something || those.something,
-        fails: these.fails || those.fails,
+        nothing: these.nothing | those.nothing,
+        something: these.something | those.something,
+        fails: these.fails | those.fails,
     }
 }
