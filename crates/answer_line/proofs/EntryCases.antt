@@ -1,13 +1,14 @@
 -- The line of an entry by what is shown for its capture, and that it has room.
-use Prim.Native.Nat.{ℕ, suc, ◌+◌, ◌-◌, ◌*◌, ◌/◌, ◌%◌, ◌≤◌, ◌<◌}
+use Prim.Native.Nat.{ℕ, ◌+◌, ◌-◌, ◌*◌, ◌/◌, ◌%◌, ◌≤◌, ◌<◌}
 use mathlib.Core.Path.{◌≡◌, refl, sym, ap, ◌∙◌}
 use mathlib.Core.Bool.{Bool, true, false, cond, not, ◌&&◌, ◌||◌}
-use mathlib.Core.List.{List, [], ◌∷◌}
+use mathlib.Core.List.{List, []}
 use mathlib.Core.Logic.{⊎_elim}
 use lib.ListN.{length, drop, take, get_or, length-take, length-drop, get_or-eq_default}
 use lib.Dec.{eqb, leb, ltb}
 use borrow.Author.Tests.{ltb-true, ltb-false, leb-true, not-false}
 use native.Mathlib.Omega.{arith}
+use Rattle.std.specs.List.{position_or_len}
 use Rattle.table.specs.Answer.{Answer, given, refused, refused_at, refuse_if}
 use Rattle.table.specs.Every.{every}
 use Rattle.table.proofs.AnswerLaws.{second_given}
@@ -20,15 +21,17 @@ use Rattle.report_checks.specs.FirstChecks.{first_answer}
 use Rattle.columns.specs.declared.Capture.{Capture}
 use Rattle.clauses.specs.Limits.{fails11}
 use Rattle.shown_text.specs.declared.ShownPart.{ShownPart}
-use Rattle.shown_text.specs.declared.ShownPart.TheVariants.{InReport, InFile, Refused}
+use Rattle.shown_text.specs.declared.ShownPart.TheVariants.{InReport, InFile}
 use Rattle.shown_text.specs.Shown.{Part, in_report, in_file, token_offset, reads_tokens, fails14, part_shown, shown_answer, shown_bytes}
-use Rattle.shown_text.specs.Shown.{numbers}
+use Rattle.shown_text.specs.Shown.{lies_at, unless_refused}
+use Rattle.table.specs.Refusals.{turned_down}
+use Rattle.table.specs.declared.refusals.Refusal.{Refusal}
 use Rattle.capture_checks.proofs.CaptureLaws.{right_capture}
 use Rattle.shown_text.proofs.ShownLaws.{first_given}
 use Rattle.shown_text.proofs.PartLaws.{report_inside, report_cut}
 use Rattle.answer_line.specs.EntryLine.{breaks, first_line, line_of, column_of, read_bytes, unread_bytes, entry_bytes, entry_count, entry_after}
 use Rattle.answer_line.specs.InternalPut.{Puts}
-use Rattle.answer_line.proofs.PutLaws.{put_none, put_same, written_none, written_whole}
+use Rattle.answer_line.proofs.PutLaws.{put_none, put_same, written_whole}
 
 -- A name has at most 32 bytes.
 by_tests :
@@ -69,13 +72,7 @@ name_short file r =
 
 -- The first line of a text is no longer than it.
 pub first_shorter : (l : List ℕ) → length (first_line l) ≤ length l
-unfolding first_line
-first_shorter [] = omega arith
-first_shorter (b ∷ bs) = by_test (eqb b 10) (first_line bs) (first_shorter bs)
-  where
-    by_test : (x : Bool) (l : List ℕ) {n : ℕ} → length l ≤ n → length (cond x [] (b ∷ l)) ≤ suc n
-    by_test true l h = omega arith
-    by_test false l h = omega arith
+first_shorter l = omega (arith, length-take (position_or_len (λ b. eqb b 10) l) l)
 
 passes : {A : Type 0} (b : Bool) (n : ℕ) (next : Answer A) (x : A) → given x ≡ refuse_if b n next → (b ≡ false) × (given x ≡ next)
 passes true n next x e = absurd (let z : ◌≡◌ {A = ℕ} 0 1 = cc in omega arith)
@@ -132,16 +129,20 @@ module _ (file report words : List ℕ) (c : Capture) {p : Part} (e : given p �
   unfolding entry_bytes
   bytes_are = rw (← e) refl
 
--- The line in each case of `ShownPart`.
-module _ (file report words : List ℕ) (c : Capture) {r : ShownPart} (e : numbers r ≡ shown_answer file report words c) where
-  pub refuses : {n : ℕ} → r ≡ Refused n → [] ≡ entry_bytes file report words c
-  unfolding entry_bytes
-  refuses told = let d : refused _ ≡ shown_answer file report words c = ap numbers (sym told) ∙ e in rw (← d) refl
+-- No line where the shown text is refused.
+pub refuses : (file report words : List ℕ) (c : Capture) (e : Refusal) → turned_down e ≡ shown_answer file report words c → [] ≡ entry_bytes file report words c
+unfolding entry_bytes
+refuses file report words c e d = rw (← d) (none e _)
+  where
+    none : (e : Refusal) (bytes : List ℕ) → [] ≡ unless_refused (turned_down e) bytes
+    none e bytes = grind arith
 
+-- The line in each case of `ShownPart`.
+module _ (file report words : List ℕ) (c : Capture) {r : ShownPart} (e : given (lies_at r) ≡ shown_answer file report words c) where
   pub from_file : {o n : ℕ} → r ≡ InFile o n → unread_bytes (name_bytes file c.rule) ≡ entry_bytes file report words c
   unfolding part_shown
   from_file {o} {n} told =
-      let d : given (in_file o n) ≡ shown_answer file report words c = ap numbers (sym told) ∙ e in
+      let d : given (in_file o n) ≡ shown_answer file report words c = ap (λ (p : ShownPart). given (lies_at p)) (sym told) ∙ e in
       let b = part_of_file (reads_tokens c) o n _ _ _ _ (tests file report words c d).2 in
       ap (λ (x : Bool). cond x
       (read_bytes (name_bytes file c.rule) (line_of report words c.first) (column_of words c.first) (first_line (shown_bytes file report words c)))
@@ -150,7 +151,7 @@ module _ (file report words : List ℕ) (c : Capture) {r : ShownPart} (e : numbe
 
   module _ {o n : ℕ} (told : r ≡ InReport o n) where
     shows : given (in_report o n) ≡ shown_answer file report words c
-    shows = ap numbers (sym told) ∙ e
+    shows = ap (λ (p : ShownPart). given (lies_at p)) (sym told) ∙ e
 
     reads : (reads_tokens c ≡ true) × (o ≡ token_offset words c.first)
     unfolding part_shown
@@ -192,12 +193,8 @@ module _ (file report words : List ℕ) (c : Capture) {r : ShownPart} (e : numbe
         (unread_bytes (name_bytes file c.rule))) (sym reads.0)
         ∙ bytes_are file report words c shows)
 
--- A lent slice with too little room, and one with enough.
+-- A lent slice with enough room.
 module _ (file report words : List ℕ) (c : Capture) (o : List ℕ) where
-  pub entry_none : length o < 65664 → (0 ≡ entry_count file report words c (length o)) × (o ≡ entry_after file report words c o)
-  unfolding entry_count entry_after
-  entry_none h = written_none 65664 o (entry_bytes file report words c) h
-
   pub entry_whole :
       {bytes : List ℕ} {r : ℕ} {o' : List ℕ}
       → 65664 ≤ length o

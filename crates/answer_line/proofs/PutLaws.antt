@@ -1,26 +1,36 @@
 -- Bytes put one behind the other.
-use Prim.Native.Nat.{ℕ, zero, suc, ◌+◌, ◌-◌, ◌/◌, ◌%◌, ◌≤◌, ◌<◌}
+use Prim.Native.Nat.{ℕ, zero, suc, ◌+◌, ◌*◌, ◌/◌, ◌%◌, ◌^◌, ◌≤◌, ◌<◌}
 use mathlib.Core.Path.{◌≡◌, refl, sym, ap, ◌∙◌}
 use mathlib.Core.Bool.{Bool}
+use mathlib.Core.Logic.{inl, inr}
 use mathlib.Core.List.{List, [], ◌∷◌, ◌++◌, append_assoc}
-use lib.ListN.{length, drop, set, take, get_or, length-append}
-use lib.Seq.{take-suc, take-length, drop-nil}
+use lib.ListN.{length, drop, set, take, length-append}
+use lib.Seq.{drop-nil}
 use borrow.Author.Tests.{lt-ltb, le-ltb}
 use native.Mathlib.Nat.{zero-add, suc-add}
-use native.Mathlib.Numerals.{add-one}
+use native.Mathlib.Numerals.{unary_clauses}
 use native.Mathlib.Omega.{arith}
+use Rattle.std.specs.Fmt.{decimal as std_decimal}
+use Rattle.std.proofs.lemmas.Bool.{cases_lt}
+use Rattle.std.proofs.lemmas.Fmt.{decimal_digit, decimal_step}
 use Rattle.columns.specs.Intervals.{to}
 use Rattle.columns.specs.declared.Upper.{Upper}
 use Rattle.clauses.specs.Clauses.{success}
 use Rattle.answer_line.specs.AnswerLine.{decimal_to, decimal, success_word, space, break, upper_word, flag_word, end_bytes, count_in, slice_in}
 use Rattle.answer_line.specs.InternalPut.{pasted, Puts}
 
--- One element that is stored.
+-- One element that is stored, and a word.
 paste_one : (l : List ℕ) (at b : ℕ) → at < length l → set l at b ≡ pasted l at (b ∷ [])
 unfolding pasted
 paste_one [] at b h = absurd (omega arith)
 paste_one (x ∷ xs) zero b h = refl
 paste_one (x ∷ xs) (suc at) b h = ap (λ (r : List ℕ). x ∷ r) (paste_one xs at b (omega arith))
+
+paste_over : (l : List ℕ) (at : ℕ) (w : List ℕ) → at ≤ length l → take at l ++ (w ++ drop (length w) (drop at l)) ≡ pasted l at w
+unfolding pasted
+paste_over l zero w h = refl
+paste_over [] (suc at) w h = absurd (omega arith)
+paste_over (x ∷ l) (suc at) w h = ap (λ (r : List ℕ). x ∷ r) (paste_over l at w (omega arith))
 
 -- None.
 paste_none : (l : List ℕ) (at : ℕ) → at ≤ length l → pasted l at [] ≡ l
@@ -45,9 +55,13 @@ paste_next l zero w v = rw (zero-add (length w)) (behind w v l)
 paste_next [] (suc at) w v = rw (suc-add at (length w)) refl
 paste_next (x ∷ l) (suc at) w v = rw (suc-add at (length w)) (ap (λ (r : List ℕ). x ∷ r) (paste_next l at w v))
 
--- One byte; none; what two calls put, one behind the other.
+-- One byte; a word; none; what two calls put, one behind the other.
 pub put_one : (o : List ℕ) (at b : ℕ) → at < length o → Puts o at (b ∷ []) (at + 1) (set o at b)
 put_one o at b h = record { place = refl; slice = paste_one o at b h }
+
+pub put_over : {o o' : List ℕ} {at : ℕ} {w : List ℕ} {next : ℕ} → at + length w ≤ length o → next ≡ at + length w
+    → o' ≡ take at o ++ (w ++ drop (length w) (drop at o)) → Puts o at w next o'
+put_over {o} {o'} {at} {w} h e d = record { place = e; slice = d ∙ paste_over o at w (omega arith) }
 
 pub put_none : (o : List ℕ) (at : ℕ) → at ≤ length o → Puts o at [] at o
 put_none o at h = record { place = omega arith; slice = sym (paste_none o at h) }
@@ -62,40 +76,23 @@ put_then {o} {at} {w} {v} p q =
 pub put_same : {o : List ℕ} {at : ℕ} {w v : List ℕ} {r : ℕ} {o' : List ℕ} → w ≡ v → Puts o at w r o' → Puts o at v r o'
 put_same e p = rw (← e) p
 
--- A word, byte by byte.
-pub word_next :
-    {o o' o'' : List ℕ} {at i r s : ℕ} (w : List ℕ)
-    → i < length w
-    → Puts o at (take i w) r o'
-    → Puts o' r (get_or w i 0 ∷ []) s o''
-    → Puts o at (take (i + 1) w) s o''
-word_next {i = i} w h p q = put_same (sym (rw (add-one, take-suc w i 0 h) refl)) (put_then p q)
-
-pub word_whole : {o o' : List ℕ} {at i r : ℕ} {w : List ℕ} → i ≡ length w → Puts o at (take i w) r o' → Puts o at w r o'
-word_whole {w = w} e p = put_same (rw e (take-length w)) p
-
--- The digits of a number: none, where none are asked for; of one below 10; of any other.
-pub digits_none : (o : List ℕ) (at : ℕ) {most : ℕ} (n : ℕ) → at ≤ length o → most ≡ 0 → Puts o at (decimal_to most n) at o
+-- std's digits of a number.
+pub digits : (most n : ℕ) → 0 < most → n < 10 ^ most → n < 2 ^ 64 → std_decimal n ≡ decimal_to most n
 unfolding decimal_to
-digits_none o at n h e = rw e (put_none o at h)
-
-pub digits_last : {o o' : List ℕ} {at most n r : ℕ} → (most ≡ 0 → ⊥) → n < 10 → Puts o at ((48 + n) ∷ []) r o' → Puts o at (decimal_to most n) r o'
-unfolding decimal_to
-digits_last {most = zero} h l p = absurd (h refl)
-digits_last {most = suc k} {n = n} h l p = rw (lt-ltb n 10 l) p
-
-pub digits_more :
-    {o o' o'' : List ℕ} {at most n r s : ℕ}
-    → (most ≡ 0 → ⊥)
-    → 10 ≤ n
-    → Puts o at (decimal_to (most - 1) (n / 10)) r o'
-    → Puts o' r ((48 + n % 10) ∷ []) s o''
-    → Puts o at (decimal_to most n) s o''
-unfolding decimal_to
-digits_more {most = zero} h l p q = absurd (h refl)
-digits_more {most = suc k} {n = n} h l p q =
-    let e : suc k - 1 ≡ k = omega arith in
-    rw (le-ltb n 10 l) (put_then (put_same (ap (λ (m : ℕ). decimal_to m (n / 10)) e) p) q)
+digits zero n p h l = absurd (omega arith)
+digits (suc k) n p h l =
+    elim (cases_lt n 10) [
+      | inl d ↦ decimal_digit n d ∙ rw (lt-ltb n 10 d) refl
+      | inr d ↦
+          let e : 10 ^ suc k ≡ 10 ^ k * 10 = simp unary_clauses in
+          let q : n / 10 < 10 ^ k = omega arith in
+          let one : 0 < k = positive k (omega arith) in
+          decimal_step n d l ∙ rw (le-ltb n 10 d) (ap (λ ds. ds ++ ((48 + n % 10) ∷ [])) (digits k (n / 10) one q (omega arith)))
+    ]
+  where
+    positive : (k : ℕ) → 1 < 10 ^ k → 0 < k
+    positive zero h = absurd (omega arith)
+    positive (suc k) h = omega arith
 
 -- A word of two parts behind what was put.
 put_more :
@@ -120,11 +117,8 @@ success_line read lower upper flag farthest a b c d e f =
     (put_then (put_more space (flag_word flag) (put_more space (upper_word upper) (put_more space (decimal lower) a b) c) d)
     (put_same (append_assoc space (decimal farthest) break) (put_then e f)))
 
--- A lent slice with less room than is asked for, and one with enough.
+-- A lent slice with enough room.
 module _ (room : ℕ) (o : List ℕ) where
-  pub written_none : (bytes : List ℕ) → length o < room → (0 ≡ count_in room bytes (length o)) × (o ≡ slice_in room bytes o)
-  written_none bytes h = rw (lt-ltb (length o) room h) (refl, refl)
-
   pub written_whole :
       {bytes : List ℕ} {r : ℕ} {o' : List ℕ}
       → room ≤ length o

@@ -1,6 +1,7 @@
 -- The line of an entry, as the program `entries` prints it behind its blanks: `NAME LINE:COLUMN TEXT`, or `NAME -` where the
 -- capture read no token. A choice of ours, over what 02 shows for a capture.
-use Rattle.std.specs.Prelude.{ℕ, suc, ◌+◌, cond, List, [], ◌∷◌, ◌++◌, take, eqb}
+use Rattle.std.specs.Prelude.{ℕ, ◌+◌, cond, List, [], ◌∷◌, ◌++◌, take, eqb, count_by}
+use Rattle.std.specs.List.{before_first}
 use Rattle.columns.specs.declared.Capture.{Capture}
 use Rattle.clauses.specs.Limits.{tokens_of}
 use Rattle.grammar_file.specs.File.{name_bytes}
@@ -8,14 +9,12 @@ use Rattle.shown_text.specs.Shown.{token_offset, reads_tokens, shown_answer, sho
 use Rattle.answer_line.specs.AnswerLine.{decimal, space, break, count_in, slice_in}
 
 -- How many line breaks there are in some bytes.
-unfoldable pub breaks : List ℕ → ℕ
-breaks [] = 0
-breaks (b ∷ bs) = cond (eqb b 10) (suc (breaks bs)) (breaks bs)
+abbrev pub breaks : List ℕ → ℕ
+breaks bytes = count_by (λ b. eqb b 10) bytes
 
 -- The bytes before the first line break.
-unfoldable pub first_line : List ℕ → List ℕ
-first_line [] = []
-first_line (b ∷ bs) = cond (eqb b 10) [] (b ∷ first_line bs)
+abbrev pub first_line : List ℕ → List ℕ
+first_line bytes = before_first (λ b. eqb b 10) bytes
 
 -- The line and the column of the token at a place, both from 1: one more than the line breaks before it, and one more than its
 -- column.

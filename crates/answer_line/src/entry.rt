@@ -10,6 +10,7 @@ use shown_text::ShownPart;
 // Room enough for every line, in bytes.
 pub const ROOM: usize = 65664;
 
+#[tactic(auto, unfolding(crate::specs::EntryLine::entry_count, crate::specs::EntryLine::entry_after, crate::specs::InternalPut::pasted))]
 // Writes the line, and says how many bytes it has: none where the shown text is refused. A slice of fewer than 65,664 bytes
 // is left as it is, and the answer is 0.
 pub fn write(file: &[u8], report: &[u8], tokens: &[u32], capture: Capture, out: &mut [u8]) -> usize
@@ -23,16 +24,11 @@ pub fn write(file: &[u8], report: &[u8], tokens: &[u32], capture: Capture, out: 
         return 0;
     }
     let name = grammar_file::rule_name(file, capture.rule as usize);
-    let part = shown_text::shown(file, report, tokens, capture);
-    match part {
-        ShownPart::Refused(_) => 0,
-        ShownPart::InFile {
-            offset: _,
-            length: _,
-        } => put_unread(out, name),
-        ShownPart::InReport { offset, length } => {
-            let end = offset + length;
-            let text = first_line(&report[offset..end]);
+    match shown_text::shown(file, report, tokens, capture) {
+        Err(_) => 0,
+        Ok(ShownPart::InFile { .. }) => put_unread(out, name),
+        Ok(ShownPart::InReport { offset, length }) => {
+            let text = first_line(&report[offset..offset + length]);
             let line = line_at(report, offset);
             let column = column_at(tokens, capture.first);
             put_read(out, name, line, column + 1, text)
@@ -66,14 +62,10 @@ fn put_unread(out: &mut [u8], name: &[u8]) -> usize
 fn first_line(text: &[u8]) -> &[u8]
     ensures { result.now ≡ first_line text.now }
 {
-    let mut i = 0;
-    while i < text.len() {
-        if text[i] == b'\n' {
-            return &text[..i];
-        }
-        i += 1;
+    match text.iter().position(|byte| *byte == b'\n') {
+        Some(end) => &text[..end],
+        None => text,
     }
-    text
 }
 
 // The line, from 1, in which the byte at an offset stands.
@@ -81,21 +73,14 @@ pub(crate) fn line_at(report: &[u8], offset: usize) -> u32
     requires { (offset ≤ length report.now) × (length report.now ≤ 65535) }
     ensures { result ≡ 1 + breaks (take offset report.now) }
 {
-    let mut line = 1;
-    let mut i = 0;
-    while i < offset {
-        if report[i] == b'\n' {
-            line += 1;
-        }
-        i += 1;
-    }
-    line
+    let before = &report[..offset];
+    1 + before.iter().filter(|byte| **byte == b'\n').count() as u32
 }
 
 // The column of a token, from 0; 0 where there is no such token.
 pub(crate) fn column_at(tokens: &[u32], w: u32) -> u32
     ensures { result ≡ get_or tokens.now (w * 4 + 1) 0 }
 {
-    let i = w as usize * 4 + 1;
-    if i < tokens.len() { tokens[i] } else { 0 }
+    let at = w as usize * 4 + 1;
+    tokens.get(at).copied().unwrap_or(0)
 }

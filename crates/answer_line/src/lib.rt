@@ -15,13 +15,15 @@ ghost use Rattle.answer_line.specs.InternalPut.{Puts};
 
 use columns::{State, Upper};
 use interpreter::Ran;
+use table::Refusal;
 use text::{put, put_number, put_word};
 
 // The room that every line has enough of.
 pub const ROOM: usize = 64;
 
+#[tactic(auto, unfolding(crate::specs::AnswerLine::written_count, crate::specs::AnswerLine::written_after, crate::specs::InternalPut::pasted))]
 // Writes the line, and says how many bytes it has. A slice of fewer than 64 bytes is left as it is, and the answer is 0.
-pub fn write(x: Ran, out: &mut [u8]) -> usize
+pub fn write(x: Result<Ran, Refusal>, out: &mut [u8]) -> usize
     ensures value { result ≡ written_count (numbers 0 x) (length out.old) }
     ensures out_after { out.new ≡ written_after (numbers 0 x) out.old }
 {
@@ -31,16 +33,17 @@ pub fn write(x: Ran, out: &mut [u8]) -> usize
     put_answer(out, x)
 }
 
+#[tactic(auto, unfolding(crate::specs::AnswerLine::decimal_to))]
 // Puts the line of an answer, which has 58 bytes at most.
-fn put_answer(out: &mut [u8], x: Ran) -> usize
+fn put_answer(out: &mut [u8], x: Result<Ran, Refusal>) -> usize
     requires { 58 ≤ length out.old }
     ensures { Puts out.old 0 (line_bytes (numbers 0 x)) result out.new }
 {
     match x {
-        Ran::Success(read, s) => put_success(out, read, s),
-        Ran::Failure(farthest) => put_line(out, b"failure ", farthest),
-        Ran::Refused(number) => put_line(out, b"refused ", number as u32),
-        Ran::IllFormed(node) => put_line(out, b"refused 7 ", node as u32),
+        Ok(Ran::Success(read, s)) => put_success(out, read, s),
+        Ok(Ran::Failure(farthest)) => put_line(out, b"failure ", farthest),
+        Err(Refusal::IllFormed(node)) => put_line(out, b"refused 7 ", node as u32),
+        Err(refusal) => put_line(out, b"refused ", refusal.number() as u32),
     }
 }
 
@@ -56,13 +59,12 @@ fn put_line(out: &mut [u8], word: &[u8], n: u32) -> usize
 // Puts the line of a success: tokens read, lower end, upper end, flag, farthest place.
 fn put_success(out: &mut [u8], read: u32, s: State) -> usize
     requires { 58 ≤ length out.old }
-    ensures { Puts out.old 0 (line_bytes (numbers 0 (Success read s))) result out.new }
+    ensures { Puts out.old 0 (line_bytes (numbers 0 (Ok (Success read s)))) result out.new }
 {
     let c = s.interval;
-    let upper = c.upper;
     let first = put_number(out, 0, b"success ", read);
     let second = put_number(out, first, b" ", c.lower);
-    let third = put_upper(out, second, upper);
+    let third = put_upper(out, second, c.upper);
     let fourth = put_flag(out, third, s.flag);
     let fifth = put_number(out, fourth, b" ", s.farthest);
     put(out, fifth, b'\n')
@@ -86,9 +88,5 @@ fn put_flag(out: &mut [u8], at: usize, flag: bool) -> usize
     ensures puts { Puts out.old at (space ++ flag_word flag) result out.new }
     ensures upper_bound { result ≤ at + 6 }
 {
-    if flag {
-        put_word(out, at, b" set")
-    } else {
-        put_word(out, at, b" clear")
-    }
+    put_word(out, at, if flag { b" set" } else { b" clear" })
 }

@@ -9,13 +9,13 @@ use lib.Dec.{ltb}
 use native.Mathlib.Omega.{arith}
 use borrow.Author.Tests.{ltb-false}
 use Rattle.table.specs.Answer.{Answer, given, refused, refused_at, refuse_if, and_then, afterwards}
-use Rattle.table.proofs.AnswerLaws.{first_refuses, first_names, first_passes, second_given}
+use Rattle.table.specs.Refusals.{turned_down}
+use Rattle.table.specs.declared.refusals.Refusal.{Refusal}
+use Rattle.table.proofs.AnswerLaws.{first_passes, second_given}
 use Rattle.table.specs.Limits.{most_tokens}
 use Rattle.table.proofs.Every.{both_false}
 use Rattle.table.proofs.Words.{length_words}
-use Rattle.grammar_file.specs.File.{Contents, contents, fields_of, node_table, rule_list, four_words, start_node, start_mode, fails6, file_answer, read_answer, numbers}
-use Rattle.grammar_file.specs.declared.FileRead.{FileRead}
-use Rattle.grammar_file.specs.declared.FileRead.TheVariants.{Read}
+use Rattle.grammar_file.specs.File.{Contents, contents, fields_of, node_table, rule_list, four_words, start_node, start_mode, fails6, file_answer, read_answer}
 use Rattle.file_fields.specs.Fields.{Field, tagged}
 use Rattle.token_words.specs.Places.{places}
 use Rattle.token_words.specs.Scan.{tokens, token_words, words_of, scan_tokens, scan_answer, fails8, fails9, fails10}
@@ -28,14 +28,6 @@ use Rattle.line.specs.InternalParts.{Stands}
 front : (w r : List ℕ) (n : ℕ) → length w ≡ n → take n (w ++ r) ≡ w
 front [] r n e = rw (← e) refl
 front (x ∷ w) r n e = rw (← e) (ap (λ (l : List ℕ). x ∷ l) (front w r (length w) refl))
-
--- A part's answer where its result is known, and a slice that was lent to it.
-module _ {R A : Type 0} (answer : R → Answer A) {r s : R} (e : r ≡ s) where
-  pub told : {a : Answer A} → answer r ≡ a → answer s ≡ a
-  told q = sym (ap answer e) ∙ q
-
-  pub lent : (written before : List ℕ) {after : List ℕ} → after ≡ afterwards (answer r) written before → after ≡ afterwards (answer s) written before
-  lent written before q = q ∙ ap (λ (x : R). afterwards (answer x) written before) e
 
 -- Checks that did not refuse.
 three : (a b c : Bool) (m n : ℕ) → given n ≡ refuse_if a 8 (refuse_if b 9 (refuse_if c 10 (given m))) → (c ≡ false) × (n ≡ m)
@@ -109,9 +101,6 @@ pub record Tables (file : List ℕ) (x : Contents) (nodes rules : List ℕ) : Ty
   pub node_is : x.start ≡ start_node (fields_of file)
   pub mode_is : x.mode ≡ start_mode (fields_of file)
 
-abbrev as_read : ℕ → ℕ → ℕ → ℕ → ℕ → Contents
-as_read n l k s m = record { nodes = n; rules = l; keywords = k; start = s; mode = m }
-
 -- What was written in front of a list is there.
 written_room : (w old : List ℕ) {n : ℕ} {after : List ℕ} → after ≡ w ++ drop (length w) old → length w ≡ n → n ≤ length after
 written_room w old e d = omega (arith, ap length e, length-append w (drop (length w) old))
@@ -120,19 +109,16 @@ written_front : (w old : List ℕ) {n : ℕ} {after : List ℕ} → after ≡ w 
 written_front w old {n} e d = rw e (front w (drop (length w) old) n d)
 
 pub tables :
-    (file old_nodes old_rules : List ℕ) {r : FileRead} {n l k s m : ℕ} {nodes rules : List ℕ}
+    (file old_nodes old_rules : List ℕ) {x : Contents} {nodes rules : List ℕ}
     → length old_nodes ≡ 2048
     → length old_rules ≡ 128
-    → numbers r ≡ read_answer file (length old_nodes) (length old_rules)
-    → nodes ≡ afterwards (numbers r) (node_table (fields_of file)) old_nodes
-    → rules ≡ afterwards (numbers r) (rule_list (fields_of file)) old_rules
-    → r ≡ Read n l k s m
-    → Tables file (as_read n l k s m) nodes rules
-tables file old_nodes old_rules {n = n} {l = l} {k = k} {s = s} {m = m} a b e dn dr told =
-    let passes : given (as_read n l k s m) ≡ read_answer file 2048 128 = ap numbers (sym told) ∙ e ∙ ap₂ (read_answer file) a b in
-    let read = read_as file (as_read n l k s m) passes in
-    let nodes_is = dn ∙ ap (λ (x : FileRead). afterwards (numbers x) (node_table (fields_of file)) old_nodes) told in
-    let rules_is = dr ∙ ap (λ (x : FileRead). afterwards (numbers x) (rule_list (fields_of file)) old_rules) told in
+    → given x ≡ read_answer file (length old_nodes) (length old_rules)
+    → nodes ≡ node_table (fields_of file) ++ drop (length (node_table (fields_of file))) old_nodes
+    → rules ≡ rule_list (fields_of file) ++ drop (length (rule_list (fields_of file))) old_rules
+    → Tables file x nodes rules
+tables file old_nodes old_rules {x} a b e nodes_is rules_is =
+    let passes : given x ≡ read_answer file 2048 128 = e ∙ ap₂ (read_answer file) a b in
+    let read = read_as file x passes in
     record {
       passes = passes;
       few = read.few_nodes;
@@ -143,6 +129,13 @@ tables file old_nodes old_rules {n = n} {l = l} {k = k} {s = s} {m = m} a b e dn
       node_is = read.node;
       mode_is = read.mode_of;
     }
+
+-- A first part that turns down.
+turned_first : {A : Type 0} (B : Type 0) (e : Refusal) (next : Answer A) → and_then (turned_down {A = B} e) next ≡ turned_down e
+turned_first B e next = grind arith
+
+turns_down : {A B : Type 0} {first : Answer B} (e : Refusal) (next : Answer A) → turned_down e ≡ first → turned_down e ≡ and_then first next
+turns_down {B = B} e next d = sym (turned_first B e next) ∙ ap (λ a. and_then a next) d
 
 -- The check and the scan behind it.
 module _ {file : List ℕ} {x : Contents} {nodes rules : List ℕ} (h : Tables file x nodes rules) (report : List ℕ) (room : ℕ) where
@@ -157,15 +150,12 @@ module _ {file : List ℕ} {x : Contents} {nodes rules : List ℕ} (h : Tables f
       → v ≡ check_answer (node_table (fields_of file)) (rule_list (fields_of file))
   checked_as d = d ∙ ap₂ check_answer h.nodes_are h.rules_are
 
-  pub check_refuses : {k : ℕ} → refused k ≡ check_answer (take (x.nodes * 4) nodes) (take x.rules rules) → refused k ≡ parts_answer file report room
-  check_refuses d = after_read (first_refuses _ (checked_as d))
-
-  pub check_names : {k n : ℕ} → refused_at k n ≡ check_answer (take (x.nodes * 4) nodes) (take x.rules rules) → refused_at k n ≡ parts_answer file report room
-  check_names d = after_read (first_names _ (checked_as d))
+  pub check_refuses : (e : Refusal) → turned_down e ≡ check_answer (take (x.nodes * 4) nodes) (take x.rules rules) → turned_down e ≡ parts_answer file report room
+  check_refuses e d = after_read (turns_down e _ (checked_as d))
 
   module _ (d : given tt ≡ check_answer (take (x.nodes * 4) nodes) (take x.rules rules)) where
-    pub scan_refuses : {k : ℕ} → refused k ≡ scan_answer file report room → refused k ≡ parts_answer file report room
-    scan_refuses q = after_read (first_refuses _ q ∙ first_passes _ (checked_as d))
+    pub scan_refuses : (e : Refusal) → turned_down e ≡ scan_answer file report room → turned_down e ≡ parts_answer file report room
+    scan_refuses e q = after_read (turns_down e _ q ∙ first_passes _ (checked_as d))
 
     scan_passes : {n : ℕ} → given n ≡ scan_answer file report room → given tt ≡ parts_answer file report room
     scan_passes q = after_read (first_passes (given tt) q ∙ first_passes _ (checked_as d))
@@ -174,7 +164,7 @@ module _ {file : List ℕ} {x : Contents} {nodes rules : List ℕ} (h : Tables f
         (old : List ℕ) {n : ℕ} {after : List ℕ}
         → given n ≡ scan_answer file report room
         → after ≡ words_of (scan_tokens file report) ++ drop (length (words_of (scan_tokens file report))) old
-        → Stands file report room x.nodes x.rules n x.start x.mode nodes rules after
+        → Stands file report room (record { nodes = x.nodes; rules = x.rules; tokens = n; node = x.start; mode = x.mode }) nodes rules after
     all_stand old {n} q w =
         let s = scan_counts file report n room q in
         record {
@@ -194,69 +184,46 @@ module _ {file : List ℕ} {x : Contents} {nodes rules : List ℕ} (h : Tables f
 
 -- The parts by themselves, before what follows them.
 pub read_refuses :
-    (file report : List ℕ) (room : ℕ) {k a b : ℕ}
+    (file report : List ℕ) (room : ℕ) {a b : ℕ} (e : Refusal)
     → a ≡ 2048
     → b ≡ 128
-    → refused k ≡ read_answer file a b
-    → refused k ≡ parts_answer file report room
+    → turned_down e ≡ read_answer file a b
+    → turned_down e ≡ parts_answer file report room
 unfolding after_parts
-read_refuses file report room p q e = first_refuses _ (e ∙ ap₂ (read_answer file) p q)
+read_refuses file report room e p q d = turns_down e _ (d ∙ ap₂ (read_answer file) p q)
 
-one_refuses :
-    {A X : Type 0} (a : Answer X) (f : Answer Unit) (g : Answer A) {n : ℕ}
-    → (refused n ≡ f → refused n ≡ g)
-    → refused n ≡ and_then a f
-    → refused n ≡ and_then a g
-one_refuses (given x) f g h e = h e
-one_refuses (refused m) f g {n} h e = let d : n ≡ m = cc in ap refused d
-one_refuses (refused_at m k) f g h e = absurd (let z : ◌≡◌ {A = ℕ} 0 1 = cc in omega arith)
-
-one_names :
-    {A X : Type 0} (a : Answer X) (f : Answer Unit) (g : Answer A) {n k : ℕ}
-    → (refused_at n k ≡ f → refused_at n k ≡ g)
-    → refused_at n k ≡ and_then a f
-    → refused_at n k ≡ and_then a g
-one_names (given x) f g h e = h e
-one_names (refused m) f g h e = absurd (let z : ◌≡◌ {A = ℕ} 0 1 = cc in omega arith)
-one_names (refused_at m l) f g {n} {k} h e = let d : n ≡ m = cc in let q : k ≡ l = cc in ap₂ refused_at d q
-
-one_passes : {A X : Type 0} (a : Answer X) (f : Answer Unit) (next g : Answer A) → (given tt ≡ f → next ≡ g) → given tt ≡ and_then a f → next ≡ and_then a g
-one_passes (given x) f next g h e = h e
-one_passes (refused m) f next g h e = absurd (let z : ◌≡◌ {A = ℕ} 0 1 = cc in omega arith)
-one_passes (refused_at m k) f next g h e = absurd (let z : ◌≡◌ {A = ℕ} 0 1 = cc in omega arith)
+and_then_assoc : {A B C : Type 0} (a : Answer C) (b : Answer B) (next : Answer A) → and_then a (and_then b next) ≡ and_then (and_then a b) next
+and_then_assoc (given x) b next = refl
+and_then_assoc (refused n) b next = refl
+and_then_assoc (refused_at n k) b next = refl
 
 -- What follows them.
 module _ {A : Type 0} (file report : List ℕ) (room : ℕ) (next : Answer A) where
-  pub parts_refuse : {n : ℕ} → refused n ≡ parts_answer file report room → refused n ≡ after_parts file report room next
+  pub behind_parts : and_then (parts_answer file report room) next ≡ after_parts file report room next
   unfolding after_parts
-  parts_refuse e =
-      one_refuses (read_answer file 2048 128) _ _
-      (one_refuses (check_answer (node_table (fields_of file)) (rule_list (fields_of file))) _ _
-      (one_refuses (scan_answer file report room) (given tt) next (λ d. absurd (let z : ◌≡◌ {A = ℕ} 0 1 = cc in omega arith)))) e
+  behind_parts =
+      let table = check_answer (node_table (fields_of file)) (rule_list (fields_of file)) in
+      let scanned = scan_answer file report room in
+      sym
+      (ap (λ a. and_then (read_answer file 2048 128) (and_then table a)) (and_then_assoc scanned (given tt) next)
+      ∙ ap (and_then (read_answer file 2048 128)) (and_then_assoc table (and_then scanned (given tt)) next)
+      ∙ and_then_assoc (read_answer file 2048 128) (and_then table (and_then scanned (given tt))) next)
 
-  pub parts_name : {n k : ℕ} → refused_at n k ≡ parts_answer file report room → refused_at n k ≡ after_parts file report room next
-  unfolding after_parts
-  parts_name e =
-      one_names (read_answer file 2048 128) _ _
-      (one_names (check_answer (node_table (fields_of file)) (rule_list (fields_of file))) _ _
-      (one_names (scan_answer file report room) (given tt) next (λ d. absurd (let z : ◌≡◌ {A = ℕ} 0 1 = cc in omega arith)))) e
+  pub parts_refuse : (e : Refusal) → turned_down e ≡ parts_answer file report room → turned_down e ≡ after_parts file report room next
+  parts_refuse e d = turns_down e next d ∙ behind_parts
 
   pub parts_pass : given tt ≡ parts_answer file report room → next ≡ after_parts file report room next
-  unfolding after_parts
-  parts_pass e =
-      one_passes (read_answer file 2048 128) _ next _
-      (one_passes (check_answer (node_table (fields_of file)) (rule_list (fields_of file))) _ next _
-      (one_passes (scan_answer file report room) (given tt) next next (λ d. refl))) e
+  parts_pass d = ap (λ (a : Answer Unit). and_then a next) d ∙ behind_parts
+
+-- What a part that turns down leaves.
+pub unchanged : (A : Type 0) (e : Refusal) (written before : List ℕ) → afterwards (turned_down {A = A} e) written before ≡ before
+unchanged A e written before = grind arith
 
 -- The words lent for the tokens.
 module _ (file report before : List ℕ) where
-  pub unwritten : {n : ℕ} → refused n ≡ parts_answer file report (length before) → before ≡ tokens_after file report before
+  pub unwritten : (e : Refusal) → turned_down e ≡ parts_answer file report (length before) → before ≡ tokens_after file report before
   unfolding tokens_after
-  unwritten e = ap (λ (a : Answer Unit). afterwards a (words_of (scan_tokens file report)) before) e
-
-  pub unwritten_at : {n k : ℕ} → refused_at n k ≡ parts_answer file report (length before) → before ≡ tokens_after file report before
-  unfolding tokens_after
-  unwritten_at e = ap (λ (a : Answer Unit). afterwards a (words_of (scan_tokens file report)) before) e
+  unwritten e d = sym (unchanged Unit e (words_of (scan_tokens file report)) before) ∙ ap (λ (a : Answer Unit). afterwards a (words_of (scan_tokens file report)) before) d
 
   pub written : {after : List ℕ} → given tt ≡ parts_answer file report (length before)
       → after ≡ words_of (scan_tokens file report) ++ drop (length (words_of (scan_tokens file report))) before

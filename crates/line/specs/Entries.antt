@@ -1,6 +1,7 @@
 -- What the program `entries` prints its lines from: the captures of the file's start on a report's tokens (02, Note 2).
-use Rattle.std.specs.Prelude.{ℕ, ◌+◌, ◌*◌, ◌/◌, cond, List, length, get_or, ltb}
+use Rattle.std.specs.Prelude.{ℕ, ◌+◌, ◌*◌, ◌/◌, cond, List, length, get_or, ltb, Result, Ok, Err}
 use Rattle.table.specs.Answer.{Answer, given, refused, refused_at, afterwards}
+use Rattle.table.specs.declared.refusals.Refusal.{Refusal}
 use Rattle.grammar_file.specs.File.{fields_of, node_table, rule_list}
 use Rattle.token_words.specs.Scan.{words_of, scan_tokens}
 use Rattle.columns.specs.declared.Capture.{Capture}
@@ -8,7 +9,7 @@ use Rattle.columns.specs.declared.Reading.TheVariants.{By2017}
 use Rattle.clauses.specs.RunAnswer.{Ended, Reads}
 use Rattle.clauses.specs.ListAnswer.{our_captures, Listing, list_answer, list_words}
 use Rattle.interpreter.specs.declared.Ran.{Ran}
-use Rattle.interpreter.specs.declared.Ran.TheVariants.{Success, Failure, Refused, IllFormed}
+use Rattle.interpreter.specs.declared.Ran.TheVariants.{Success, Failure}
 use Rattle.line.specs.Line.{file_start, after_parts, parts_answer}
 
 -- The lowest number of the parts, then 13, then what the run ends in with the number of captures: for so many words lent for the
@@ -26,11 +27,10 @@ end_answer (refused number) = refused number
 end_answer (refused_at number node) = refused_at number node
 
 -- The state of a success stands where the tokens read end: the run begins at place 0.
-abbrev pub Placed : Ran → Type 0
-Placed (Success read s) = Reads 0 read s.place
-Placed (Failure farthest) = Unit
-Placed (Refused number) = Unit
-Placed (IllFormed node) = Unit
+abbrev pub Placed : Result Ran Refusal → Type 0
+Placed (Ok (Success read s)) = Reads 0 read s.place
+Placed (Ok (Failure farthest)) = Unit
+Placed (Err refusal) = Unit
 
 -- The number of captures; none where the call is refused.
 abbrev pub capture_count : Answer Listing → ℕ

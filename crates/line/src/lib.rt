@@ -11,31 +11,25 @@ ghost use Rattle.line.specs.InternalParts.{PartsGive, ran_of};
 
 use answer_line::ROOM;
 use columns::{Capture, Interval, Reading, Start, Upper};
-use grammar_file::FileRead;
 use interpreter::{Listed, Ran};
-use token_words::Scanned;
-use well_formed::Verdict;
+use table::Refusal;
 
 // What a run that lists answered, with the numbers of tokens and of captures that stand in the lent words.
 #[derive(Clone, Copy)]
 pub struct Entries {
-    pub answer: Ran,
+    pub answer: Result<Ran, Refusal>,
     pub tokens: usize,
     pub captures: usize,
 }
 
-// What the parts before a run answer: the counts and the start, or the number of the first check that fails.
+// What the parts before a run give: the counts of the table, its rules and the tokens, and the start.
 #[derive(Clone, Copy)]
-enum Parts {
-    Ready {
-        nodes: usize,
-        rules: usize,
-        tokens: usize,
-        node: u16,
-        mode: u16,
-    },
-    Refused(u8),
-    IllFormed(u16),
+struct Ready {
+    nodes: usize,
+    rules: usize,
+    tokens: usize,
+    node: u16,
+    mode: u16,
 }
 
 // Writes the line, and says how many bytes it has. A slice of fewer than 64 bytes is left as it is, and the answer is 0.
@@ -69,84 +63,61 @@ pub fn list(file: &[u8], report: &[u8], tokens: &mut [u32], captures: &mut [u32]
 {
     let mut nodes = [0u16; 2048];
     let mut rules = [0u16; 128];
-    let x = prepare(file, report, &mut nodes, &mut rules, tokens);
-    match x {
-        Parts::Refused(number) => none(Ran::Refused(number)),
-        Parts::IllFormed(node) => none(Ran::IllFormed(node)),
-        Parts::Ready {
-            nodes: n,
-            rules: r,
-            tokens: t,
-            node,
-            mode,
-        } => {
-            let table = n * 4;
-            let words = t * 4;
-            let y = interpreter::list(
-                &nodes[..table],
-                &rules[..r],
-                &tokens[..words],
-                start_at(node, mode),
+    match prepare(file, report, &mut nodes, &mut rules, tokens) {
+        Ok(ready) => {
+            let listed = interpreter::list(
+                &nodes[..ready.nodes * 4],
+                &rules[..ready.rules],
+                &tokens[..ready.tokens * 4],
+                start_at(ready.node, ready.mode),
                 Reading::By2017,
                 captures,
             );
-            counted(y, t)
+            counted(listed, ready.tokens)
         }
+        Err(refusal) => counted(Err(refusal), 0),
     }
 }
 
+#[tactic(auto, unfolding(crate::specs::Entries::capture_at))]
 // The capture at a place of a list; zeros where there is no such place.
 pub fn capture_at(captures: &[u32], n: usize) -> Capture
     ensures { result ≡ capture_at captures.now n }
 {
-    if n < captures.len() / 4 {
-        let at = n * 4;
-        return Capture {
-            rule: captures[at],
-            first: captures[at + 1],
-            after: captures[at + 2],
-            around: captures[at + 3],
-        };
-    }
-    Capture {
-        rule: 0,
-        first: 0,
-        after: 0,
-        around: 0,
+    match captures.get(n.saturating_mul(4)..) {
+        Some([rule, first, after, around, ..]) => Capture {
+            rule: *rule,
+            first: *first,
+            after: *after,
+            around: *around,
+        },
+        _ => Capture {
+            rule: 0,
+            first: 0,
+            after: 0,
+            around: 0,
+        },
     }
 }
 
-// What the four parts answer. The run remembers outcomes, in 65,536 words.
-fn answer(file: &[u8], report: &[u8]) -> Ran
+// What the four parts answer. The run remembers outcomes, in 65,536 words. What it needs is lent from fixed arrays: no heap
+// is a rule of this project.
+fn answer(file: &[u8], report: &[u8]) -> Result<Ran, Refusal>
     ensures { numbers 0 result ≡ line_answer file.now report.now }
 {
     let mut nodes = [0u16; 2048];
     let mut rules = [0u16; 128];
     let mut tokens = [0u32; 16384];
     let mut memory = [0u32; 65536];
-    let x = prepare(file, report, &mut nodes, &mut rules, &mut tokens);
-    match x {
-        Parts::Refused(number) => Ran::Refused(number),
-        Parts::IllFormed(node) => Ran::IllFormed(node),
-        Parts::Ready {
-            nodes: n,
-            rules: r,
-            tokens: t,
-            node,
-            mode,
-        } => {
-            let table = n * 4;
-            let words = t * 4;
-            interpreter::remember(
-                &nodes[..table],
-                &rules[..r],
-                &tokens[..words],
-                start_at(node, mode),
-                Reading::By2017,
-                &mut memory,
-            )
-        }
-    }
+    let ready = prepare(file, report, &mut nodes, &mut rules, &mut tokens)?;
+    interpreter::remember(
+        &nodes[..ready.nodes * 4],
+        &rules[..ready.rules],
+        &tokens[..ready.tokens * 4],
+        start_at(ready.node, ready.mode),
+        Reading::By2017,
+        &mut memory,
+    )
 }
 
 // The file reader, the check and the scanner: the table, the rules and the tokens of a run.
@@ -156,38 +127,21 @@ fn prepare(
     nodes: &mut [u16],
     rules: &mut [u16],
     tokens: &mut [u32],
-) -> Parts
+) -> Result<Ready, Refusal>
     requires { (length nodes.old ≡ 2048) × (length rules.old ≡ 128) }
     ensures { PartsGive file.now report.now tokens.old result nodes.new
         rules.new tokens.new }
 {
-    let x = grammar_file::read(file, nodes, rules);
-    match x {
-        FileRead::Refused(number) => Parts::Refused(number),
-        FileRead::Read {
-            nodes: n,
-            rules: r,
-            keywords: _,
-            start,
-            mode,
-        } => {
-            let words = n * 4;
-            match well_formed::check(&nodes[..words], &rules[..r]) {
-                Verdict::Refused(number) => Parts::Refused(number),
-                Verdict::IllFormed(bad) => Parts::IllFormed(bad),
-                Verdict::Passes => match token_words::scan(file, report, tokens) {
-                    Scanned::Refused(number) => Parts::Refused(number),
-                    Scanned::Tokens(count) => Parts::Ready {
-                        nodes: n,
-                        rules: r,
-                        tokens: count,
-                        node: start,
-                        mode,
-                    },
-                },
-            }
-        }
-    }
+    let read = grammar_file::read(file, nodes, rules)?;
+    well_formed::check(&nodes[..read.nodes * 4], &rules[..read.rules])?;
+    let count = token_words::scan(file, report, tokens)?;
+    Ok(Ready {
+        nodes: read.nodes,
+        rules: read.rules,
+        tokens: count,
+        node: read.start,
+        mode: read.mode,
+    })
 }
 
 // The file's start: from token 0, interval 0 without end, flag clear.
@@ -207,39 +161,18 @@ fn start_at(node: u16, mode: u16) -> Start
     }
 }
 
-// An answer of the parts before a run: no tokens, nothing listed.
-fn none(answer: Ran) -> Entries
-    ensures { (result.answer ≡ answer) × (result.tokens ≡ 0) × (result.captures ≡ 0) }
-{
-    Entries {
-        answer,
-        tokens: 0,
-        captures: 0,
-    }
-}
-
 // What a run that lists answered, over so many tokens.
-fn counted(x: Listed, tokens: usize) -> Entries
+fn counted(x: Result<Listed, Refusal>, tokens: usize) -> Entries
     ensures { (result.answer ≡ ran_of x) × (result.tokens ≡ tokens) × (result.captures ≡ capture_count (list_numbers 0 x)) }
 {
     match x {
-        Listed::Success(read, s, captures) => Entries {
-            answer: Ran::Success(read, s),
+        Ok(listed) => Entries {
+            answer: Ok(listed.ran),
             tokens,
-            captures,
+            captures: listed.captures,
         },
-        Listed::Failure(farthest) => Entries {
-            answer: Ran::Failure(farthest),
-            tokens,
-            captures: 0,
-        },
-        Listed::Refused(number) => Entries {
-            answer: Ran::Refused(number),
-            tokens,
-            captures: 0,
-        },
-        Listed::IllFormed(node) => Entries {
-            answer: Ran::IllFormed(node),
+        Err(refusal) => Entries {
+            answer: Err(refusal),
             tokens,
             captures: 0,
         },

@@ -8,7 +8,7 @@ pub returns-then-tokens-w : goal.returns-then-tokens-w
 returns-then-tokens-w c = place_end c.args.report.now c.args.tokens.now c.args.w c.if-tokens-w.true c.put_word.ensures
 
 pub line_at-line-requires : goal.line_at-line-requires
-line_at-line-requires c = (omega (arith, c.within.ensures), c.requires.1)
+line_at-line-requires c = (omega (arith, c.min.ensures), c.requires.1)
 
 pub overflow_add-column : goal.overflow_add-column
 overflow_add-column c =
@@ -21,5 +21,5 @@ overflow_add-column c =
 pub returns : goal.returns
 returns c =
     place_there c.args.report.now c.args.tokens.now c.args.w (omega (arith, c.if-tokens-w.false))
-    (line_within c.args.report.now c.args.tokens.now c.args.w c.within.ensures c.line_at-line.ensures)
+    (line_within c.args.report.now c.args.tokens.now c.args.w c.min.ensures c.line_at-line.ensures)
     c.column_at-column.ensures c.put_number-first.ensures.puts c.put_number-second.ensures.puts c.put.ensures
