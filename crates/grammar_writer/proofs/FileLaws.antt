@@ -1,5 +1,5 @@
 -- The written file, section by section: tag 1, the keywords, the rules, the nodes, the start.
-use Prim.Native.Nat.{ℕ, ◌+◌, ◌*◌, ◌/◌, ◌%◌, ◌≤◌}
+use Prim.Native.Nat.{ℕ, ◌+◌, ◌*◌, ◌≤◌}
 use mathlib.Core.Path.{◌≡◌, refl, sym, ap, ap₂, ◌∙◌}
 use mathlib.Core.List.{List, [], ◌∷◌, ◌++◌, append_assoc, append-nil}
 use native.Mathlib.Omega.{arith}
@@ -11,16 +11,16 @@ use Rattle.table.proofs.Words.{words_append}
 use Rattle.file_fields.specs.Fields.{Field}
 use Rattle.file_fields.specs.Offsets.{spellings_from}
 use Rattle.file_fields.proofs.Offsets.{length_spellings}
-use Rattle.file_shape.specs.Contents.{most_keywords, keywords, rule_names, fields_of}
+use Rattle.file_shape.specs.Contents.{most_keywords}
 use Rattle.file_shape.specs.declared.Shape.{Shape}
-use Rattle.file_shape.proofs.PartLaws.{keywords_are, names_are, keyword_count}
+use Rattle.file_shape.proofs.PartLaws.{keywords_are, names_are}
 use Rattle.slices.specs.Copied.{over}
-use Rattle.grammar_writer.specs.FieldBytes.{field, field_bytes, bytes_of, format_field, start_field}
+use Rattle.grammar_writer.specs.FieldBytes.{number_bytes, field, field_bytes, bytes_of, format_field, start_field}
 use Rattle.grammar_writer.specs.Written.{keyword_fields, rule_fields, node_fields, written_fields, written_file}
 use Rattle.grammar_writer.specs.InternalWriting.{Lends}
 use Rattle.grammar_writer.proofs.PutLaws.{Over, over_starts, over_more}
 use Rattle.grammar_writer.proofs.SectionLaws.{spelling_short, keywords_short, rules_short, nodes_short}
-use Rattle.grammar_writer.proofs.LendLaws.{right_names, keywords_right, names_right, few_keywords, few_nodes}
+use Rattle.grammar_writer.proofs.LendLaws.{keywords_right, names_right, few_keywords, few_nodes}
 
 -- The bytes of the fields in their order.
 fields_bytes : (f s : Field) (ks rs ns : List Field) → bytes_of (f ∷ (ks ++ rs ++ ns ++ (s ∷ []))) ≡ field_bytes f ++ bytes_of ks ++ bytes_of rs ++ bytes_of ns ++ field_bytes s
@@ -152,22 +152,10 @@ module _ {lending nodes rules : List ℕ} {s : Shape} {node mode : ℕ} (h : Len
             (few_nodes h).1,
           )
 
-      pub start_put :
-          {high low : ℕ}
-          → high ≡ node / 256
-          → low ≡ node % 256
-          → {b : ℕ} {next : List ℕ}
-          → b ≡ a + length (field_bytes (field 5 (high ∷ low ∷ mode ∷ [])))
-          → next ≡ over a (field_bytes (field 5 (high ∷ low ∷ mode ∷ []))) out
+      pub start_put : {start : List ℕ} → start ≡ number_bytes node → {b : ℕ} {next : List ℕ}
+          → b ≡ a + length (field_bytes (field 5 (start ++ (mode ∷ []))))
+          → next ≡ over a (field_bytes (field 5 (start ++ (mode ∷ [])))) out
           → Over 0 old (written_file lending nodes rules node mode) b next
-      start_put x y {b} {next} e n =
-          let more = over_more 0 old p Start {m = b} {next = next} (omega (arith, start_fits, start_long, p.same)) (rw (sym x, sym y) e) (rw (sym x, sym y) n) in
+      start_put x {b} {next} e n =
+          let more = over_more 0 old p Start {m = b} {next = next} (omega (arith, start_fits, start_long, p.same)) (rw x at e) (rw x at n) in
           rw (sym sections) more
-
-  -- The file is never longer than the bytes that do for every one.
-  pub file_short : length (written_file lending nodes rules node mode) ≤ 18209
-  unfolding written_file
-  file_short =
-      longest (keywords (fields_of lending)) (rule_names (fields_of lending)) nodes rules node mode
-      (spelling_short (keywords (fields_of lending)) (right_names h).0) (spelling_short (rule_names (fields_of lending)) (right_names h).1)
-      (omega (arith, few_keywords h, keyword_count lending s h.parts)) (few_nodes h).0 (few_nodes h).1

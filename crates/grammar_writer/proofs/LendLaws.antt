@@ -1,13 +1,15 @@
 -- What a lending file, a table and a start that have passed give the writer: short spellings, few of them, small words.
 use Prim.Native.Nat.{ℕ, ◌<◌, ◌≤◌}
 use mathlib.Core.Path.{◌≡◌, refl, sym, ap, ◌∙◌}
-use mathlib.Core.Bool.{Bool, true, false, not, ◌&&◌, ◌||◌}
+use mathlib.Core.Bool.{true, false, not, ◌&&◌, ◌||◌}
 use mathlib.Core.List.{List, []}
 use native.Mathlib.Omega.{arith}
 use borrow.Author.Tests.{ltb-true}
 use lib.ListN.{length, get_or}
 use lib.Dec.{ltb}
-use Rattle.table.specs.Answer.{Answer, given, refused, refuse_if}
+use Rattle.table.specs.Answer.{Answer, given, refuse_if, and_then}
+use Rattle.table.specs.Refusals.{turned_down}
+use Rattle.table.specs.declared.refusals.Refusal.{Refusal}
 use Rattle.table.specs.Limits.{most_nodes, most_rules, relation_count}
 use Rattle.table.specs.Form.{node_count}
 use Rattle.table.specs.Every.{every}
@@ -20,7 +22,7 @@ use Rattle.file_fields.specs.Fields.{Field}
 use Rattle.file_fields.specs.Offsets.{spellings_from}
 use Rattle.file_shape.specs.Contents.{most_keywords, keywords, rule_names, fields_of, fails1, fails2, fails5_with, file_answer}
 use Rattle.file_shape.specs.declared.Shape.{Shape}
-use Rattle.file_shape.proofs.PartLaws.{keywords_are, names_are, tests_refuse, tests_pass}
+use Rattle.file_shape.proofs.PartLaws.{two_more, turned_first, keywords_are, names_are}
 use Rattle.grammar_file.proofs.CountLaws.{keywords_stand}
 use Rattle.grammar_writer.specs.InternalWriting.{ByteWords, started_answer, Lends}
 
@@ -58,23 +60,18 @@ module _ (nodes rules : List ℕ) (node mode : ℕ) (s : Started nodes rules nod
       let small : mode < relation_count = ltb-true mode relation_count (unnot (is_relation mode) starts.1) in
       omega arith
 
--- The checks of a table, and with them the start's.
+-- The checks of a table, and then the start's.
 module _ (nodes rules : List ℕ) (node mode : ℕ) where
-  pub table_refuses : {n : ℕ} → refused n ≡ table_answer nodes rules → refused n ≡ started_answer nodes rules node mode
+  pub start_after :
+      started_answer nodes rules node mode
+      ≡ and_then (table_answer nodes rules) (refuse_if (not (ltb node (node_count nodes)) || not (is_relation mode)) 5 (given tt))
   unfolding started_answer table_answer
-  table_refuses {n} e =
-      sym
-      (tests_refuse (fails3 nodes rules) (fails4 nodes rules) (fails5 nodes rules) (not (ltb node (node_count nodes)))
-      (not (is_relation mode)) n (given tt) (sym e))
+  start_after =
+      two_more (fails3 nodes rules) (fails4 nodes rules) (fails5 nodes rules) (not (ltb node (node_count nodes))) (not (is_relation mode))
+      (given tt)
 
-  pub start_decides : given tt ≡ table_answer nodes rules → {a b : Bool} → ltb node (node_count nodes) ≡ a → is_relation mode ≡ b
-      → refuse_if (not a || not b) 5 (given tt) ≡ started_answer nodes rules node mode
-  unfolding started_answer table_answer
-  start_decides e x y =
-      rw (sym x, sym y)
-      (sym
-      (tests_pass (fails3 nodes rules) (fails4 nodes rules) (fails5 nodes rules) (not (ltb node (node_count nodes)))
-      (not (is_relation mode)) (given tt) (sym e)))
+  pub table_refuses : (e : Refusal) → turned_down e ≡ table_answer nodes rules → turned_down e ≡ started_answer nodes rules node mode
+  table_refuses e h = sym (rw (start_after, ← h) (turned_first Unit e _))
 
 -- Number 2 is about the keywords and about the names.
 pub both_spelled : (fs : List Field) → fails2 fs ≡ false → (right_spellings (keywords fs) ≡ true) × (right_spellings (rule_names fs) ≡ true)

@@ -1,6 +1,6 @@
 -- The fields of a tag as they are put: what each is, and how long.
-use Prim.Native.Nat.{ℕ, ◌*◌, ◌/◌, ◌%◌, ◌≤◌, ◌<◌}
-use mathlib.Core.Path.{◌≡◌, refl, sym, ap, ◌∙◌}
+use Prim.Native.Nat.{ℕ, ◌+◌, ◌*◌, ◌/◌, ◌%◌, ◌≤◌, ◌<◌}
+use mathlib.Core.Path.{◌≡◌, refl, sym, ap, ap₂, ◌∙◌}
 use mathlib.Core.Bool.{true, ◌&&◌}
 use mathlib.Core.Logic.{⊎_elim}
 use mathlib.Core.List.{List, [], ◌∷◌, ◌++◌}
@@ -8,6 +8,7 @@ use native.Mathlib.Omega.{arith}
 use borrow.Author.Tests.{leb-true}
 use lib.ListN.{length, get_or, drop, get_or-eq_default}
 use lib.Dec.{leb}
+use Rattle.std.specs.Int.{w16, to_be_bytes}
 use Rattle.table.specs.Every.{every}
 use Rattle.table.specs.Form.{kind_of, a_of, b_of, relation_of, node_count, stands_for}
 use Rattle.table.proofs.Every.{and_left, and_right, every_at}
@@ -18,7 +19,7 @@ use Rattle.file_fields.specs.Offsets.{value_at, offset_of, spellings_from}
 use Rattle.file_fields.proofs.Offsets.{spelling_from}
 use Rattle.grammar_writer.specs.FieldBytes.{number_bytes, field, field_bytes, bytes_of, keyword_field, rule_field, node_field}
 use Rattle.grammar_writer.specs.Written.{keyword_fields, rule_fields, node_fields}
-use Rattle.grammar_writer.proofs.PutLaws.{length_field, bytes_within}
+use Rattle.grammar_writer.proofs.PutLaws.{length_field, bytes_within, Put, Next, next_field}
 
 -- A right spelling has at most 32 bytes, and so has one that is not there.
 pub spelling_short : (words : List (List ℕ)) → right_spellings words ≡ true → (k : ℕ) → length (get_or words k []) ≤ 32
@@ -51,13 +52,9 @@ rule_of rules names r = rule_field (stands_for rules r) (get_or names r [])
 abbrev pub node_of : List ℕ → ℕ → Field
 node_of nodes n = node_field (kind_of nodes n) (a_of nodes n) (b_of nodes n) (relation_of nodes n)
 
-pub rule_is :
-    (rules : List ℕ) (names : List (List ℕ)) (r : ℕ) {h l : ℕ} {w : List ℕ}
-    → h ≡ stands_for rules r / 256
-    → l ≡ stands_for rules r % 256
-    → w ≡ get_or names r []
-    → rule_of rules names r ≡ field 3 ((h ∷ l ∷ []) ++ w)
-rule_is rules names r e d q = rw (e, d, q) refl
+-- The two bytes of a number.
+pub two_bytes_are : (n : ℕ) → n < 65536 → to_be_bytes w16 n ≡ number_bytes n
+two_bytes_are n h = let high : n / 256 % 256 ≡ n / 256 = omega arith in ap (λ (x : ℕ). x ∷ n % 256 ∷ []) high
 
 pub node_is :
     (nodes : List ℕ) (n : ℕ) {ah al bh bl : ℕ}
@@ -90,3 +87,30 @@ module _ (nodes : List ℕ) where
 
   pub nodes_short : length (bytes_of (node_fields nodes)) ≤ node_count nodes * 9
   nodes_short = bytes_within (node_of nodes) 9 (node_count nodes) (λ n h. node_short n)
+
+-- The next field of each section.
+module _ {to : ℕ} {old : List ℕ} {end : ℕ} {out : List ℕ} where
+  pub next_keyword : (file : List ℕ) (count k : ℕ) {at : ℕ} {w : List ℕ} → right_spellings (spellings_from file 4 count 0) ≡ true → to + count * 35 ≤ length old
+      → Put (keyword_of (spellings_from file 4 count 0)) to old k end out → k < count → at ≡ offset_of file 4 k → w ≡ drop 0 (value_at file at)
+      → Next (keyword_of (spellings_from file 4 count 0)) to old k end out 2 [] w
+  next_keyword file count k {w = w} right room p h e q =
+      let words = spellings_from file 4 count 0 in
+      next_field (keyword_of words) to old k p 35 count (omega arith) (keyword_short words (spelling_short words right)) h room 2 [] w
+      (ap keyword_field (sym (spelling_is file 4 count 0 h e q)))
+
+  pub next_rule : (file : List ℕ) (first : ℕ) (rules : List ℕ) (r : ℕ) {at : ℕ} {head w : List ℕ}
+      → right_spellings (spellings_from file first (length rules) 2) ≡ true → to + length rules * 37 ≤ length old
+      → Put (rule_of rules (spellings_from file first (length rules) 2)) to old r end out → r < length rules → at ≡ offset_of file first r
+      → w ≡ drop 2 (value_at file at) → head ≡ number_bytes (stands_for rules r)
+      → Next (rule_of rules (spellings_from file first (length rules) 2)) to old r end out 3 head w
+  next_rule file first rules r {head = head} {w = w} right room p h e q b =
+      let names = spellings_from file first (length rules) 2 in
+      next_field (rule_of rules names) to old r p 37 (length rules) (omega arith) (rule_short rules names (spelling_short names right)) h room 3 head w
+      (ap₂ (λ (x y : List ℕ). field 3 (x ++ y)) (sym b) (sym (spelling_is file first (length rules) 2 h e q)))
+
+  pub next_node : (nodes : List ℕ) (n : ℕ) {ah al bh bl : ℕ} → to + node_count nodes * 9 ≤ length old
+      → Put (node_of nodes) to old n end out → n < node_count nodes
+      → ah ≡ a_of nodes n / 256 → al ≡ a_of nodes n % 256 → bh ≡ b_of nodes n / 256 → bl ≡ b_of nodes n % 256
+      → Next (node_of nodes) to old n end out 4 (kind_of nodes n ∷ ah ∷ al ∷ []) (bh ∷ bl ∷ relation_of nodes n ∷ [])
+  next_node nodes n room p h a b c d =
+      next_field (node_of nodes) to old n p 9 (node_count nodes) (omega arith) (node_short nodes) h room 4 _ _ (node_is nodes n a b c d)

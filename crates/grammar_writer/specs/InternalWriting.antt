@@ -7,6 +7,7 @@ use Rattle.file_shape.specs.Contents.{contents, fields_of, fails5_with, file_ans
 use Rattle.file_shape.specs.Shape.{Parts}
 use Rattle.file_shape.specs.declared.Shape.{Shape}
 use Rattle.grammar_writer.specs.Written.{written_file, fails15}
+use Rattle.grammar_writer.specs.declared.Grammar.{Grammar}
 
 -- Kinds and relations fit a byte.
 abbrev pub ByteWords : List ℕ → Type 0
@@ -29,3 +30,13 @@ pub record Lends (lending : List ℕ) (s : Shape) (nodes rules : List ℕ) (node
   pub parts : Parts lending s
   pub lends : file_answer lending ≡ given (contents (fields_of lending))
   pub started : started_answer nodes rules node mode ≡ given tt
+
+-- The same of what is written: the file, the answer of numbers 15 and 6, and that all before has passed.
+abbrev pub file_of : Grammar → List ℕ
+file_of g = written_file g.lending.now g.nodes.now g.rules.now g.node g.mode
+
+abbrev pub answer_for : Grammar → ℕ → Answer ℕ
+answer_for g lent = lent_answer g.lending.now g.nodes.now g.rules.now g.node g.mode lent
+
+abbrev pub LendsFor : Grammar → Type 0
+LendsFor g = Lends g.lending.now g.shape g.nodes.now g.rules.now g.node g.mode

@@ -1,15 +1,15 @@
 -- The grammar file of a table, its rules and a start, with the keywords and rule names of a file that lends them, and what
 -- the writer answers (02, Note 4; 01, "The grammar file" and "Turned-down calls").
-use Rattle.std.specs.Prelude.{ℕ, Bool, not, List, [], ◌∷◌, ◌++◌, length, get_or, ltb, eqb}
+use Rattle.std.specs.Prelude.{ℕ, Bool, not, Result, List, [], ◌∷◌, ◌++◌, length, get_or, ltb, eqb}
 use Rattle.table.specs.Words.{tabulate}
-use Rattle.table.specs.Answer.{Answer, given, refused, refuse_if, and_then}
+use Rattle.table.specs.Answer.{Answer, given, refuse_if, and_then}
+use Rattle.table.specs.Refusals.{answer_by}
+use Rattle.table.specs.declared.refusals.Refusal.{Refusal}
 use Rattle.table.specs.Form.{kind_of, a_of, b_of, relation_of, node_count, stands_for}
 use Rattle.table.specs.Checks.{fails3, fails4}
 use Rattle.file_fields.specs.Fields.{Field}
 use Rattle.file_shape.specs.Contents.{keywords, rule_list, rule_names, fields_of, fails5_with, file_answer}
 use Rattle.grammar_writer.specs.FieldBytes.{bytes_of, format_field, keyword_field, rule_field, node_field, start_field}
-use Rattle.grammar_writer.specs.declared.FileWritten.{FileWritten}
-use Rattle.grammar_writer.specs.declared.FileWritten.TheVariants.{Bytes, Refused}
 
 -- Tag 2: each keyword.
 abbrev pub keyword_fields : List (List ℕ) → List Field
@@ -49,7 +49,6 @@ write_answer lending nodes rules node mode lent =
     (refuse_if (ltb lent (length (written_file lending nodes rules node mode))) 6
     (given (length (written_file lending nodes rules node mode))))))))
 
--- 01's number and value for each case of `FileWritten`.
-abbrev pub numbers : FileWritten → Answer ℕ
-numbers (Bytes n) = given n
-numbers (Refused n) = refused n
+-- The answer of a writer: the number of bytes, or the number of a check.
+abbrev pub numbers : Result ℕ Refusal → Answer ℕ
+numbers = answer_by (λ n. n)

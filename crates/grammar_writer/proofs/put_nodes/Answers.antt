@@ -1,14 +1,12 @@
--- `grammar_writer::put_nodes` meets its contract: after n turns the first n nodes stand there.
-use mathlib.Core.Path.{◌≡◌, refl, ◌∙◌}
-use mathlib.Core.List.{[], ◌∷◌}
-use native.Mathlib.Omega.{arith}
-use Rattle.table.specs.Form.{kind_of, relation_of, node_count}
-use Rattle.grammar_writer.proofs.PutLaws.{put_starts, next_field}
-use Rattle.grammar_writer.proofs.SectionLaws.{node_of, node_short, node_is}
+-- `grammar_writer::put_nodes` meets its contract.
+use Rattle.std.proofs.Common.{ℕ, ◌+◌, ◌*◌, List, get_or, ◌≡◌, refl, ap, ◌∙◌, arith}
+use Rattle.table.specs.Form.{node_count}
+use Rattle.grammar_writer.proofs.PutLaws.{put_starts}
+use Rattle.grammar_writer.proofs.SectionLaws.{next_node, two_bytes_are}
 use Rattle.grammar_writer.proofs.put_nodes.Goals as goal
 
 pub loop-n-init : goal.loop-n-init
-loop-n-init c = (put_starts (node_of c.args.nodes.now) c.args.to c.args.out.now, omega arith)
+loop-n-init c = put_starts _ _ _
 
 pub overflow_cast-head : goal.overflow_cast-head
 overflow_cast-head c = record { fits = (c.requires.byte_words c.loop-n.n c.loop-n-test.true).0 }
@@ -18,33 +16,24 @@ overflow_cast-tail c = record { fits = (c.requires.byte_words c.loop-n.n c.loop-
 
 pub put_field-end-requires : goal.put_field-end-requires
 put_field-end-requires c =
-    record {
-      tail_len_bound = (((next_field (node_of c.args.nodes.now) c.args.to c.args.out.now c.loop-n.n c.loop-n.invariant.0 9 (node_count c.args.nodes.now) (omega arith) (node_short c.args.nodes.now)
-          c.loop-n-test.true c.requires.nodes_in_bounds 4 (kind_of c.args.nodes.now c.loop-n.n ∷ c.high_byte.result ∷ c.low_byte.result ∷ [])
-          (c.high_byte-in-loop-n.result ∷ c.low_byte-in-loop-n.result ∷ relation_of c.args.nodes.now c.loop-n.n ∷ [])
-          (node_is c.args.nodes.now c.loop-n.n c.high_byte.ensures c.low_byte.ensures c.high_byte-in-loop-n.ensures c.low_byte-in-loop-n.ensures))).asks).0;
-      tail_in_bounds = (((next_field (node_of c.args.nodes.now) c.args.to c.args.out.now c.loop-n.n c.loop-n.invariant.0 9 (node_count c.args.nodes.now) (omega arith) (node_short c.args.nodes.now)
-          c.loop-n-test.true c.requires.nodes_in_bounds 4 (kind_of c.args.nodes.now c.loop-n.n ∷ c.high_byte.result ∷ c.low_byte.result ∷ [])
-          (c.high_byte-in-loop-n.result ∷ c.low_byte-in-loop-n.result ∷ relation_of c.args.nodes.now c.loop-n.n ∷ [])
-          (node_is c.args.nodes.now c.loop-n.n c.high_byte.ensures c.low_byte.ensures c.high_byte-in-loop-n.ensures c.low_byte-in-loop-n.ensures))).asks).1;
-    }
+    let a = c.to_be_bytes.ensures ∙ two_bytes_are _ (omega (arith, c.type_inv.nodes (c.loop-n.n * 4 + 1))) in
+    let b = c.to_be_bytes-in-loop-n.ensures ∙ two_bytes_are _ (omega (arith, c.type_inv.nodes (c.loop-n.n * 4 + 2))) in
+    let next = next_node c.args.nodes.now c.loop-n.n c.requires.nodes_in_bounds c.loop-n.invariant c.loop-n-test.true
+    (ap (λ (l : List ℕ). get_or l 0 0) a) (ap (λ (l : List ℕ). get_or l 1 0) a) (ap (λ (l : List ℕ). get_or l 0 0) b) (ap (λ (l : List ℕ). get_or l 1 0) b) in
+    record { tail_len_bound = next.asks.0; tail_in_bounds = next.asks.1 }
 
 pub loop-n-preserved : goal.loop-n-preserved
-loop-n-preserved c = (
-  ((next_field (node_of c.args.nodes.now) c.args.to c.args.out.now c.loop-n.n c.loop-n.invariant.0 9 (node_count c.args.nodes.now) (omega arith) (node_short c.args.nodes.now)
-      c.loop-n-test.true c.requires.nodes_in_bounds 4 (kind_of c.args.nodes.now c.loop-n.n ∷ c.high_byte.result ∷ c.low_byte.result ∷ [])
-      (c.high_byte-in-loop-n.result ∷ c.low_byte-in-loop-n.result ∷ relation_of c.args.nodes.now c.loop-n.n ∷ [])
-      (node_is c.args.nodes.now c.loop-n.n c.high_byte.ensures c.low_byte.ensures c.high_byte-in-loop-n.ensures c.low_byte-in-loop-n.ensures))).puts c.put_field-end.ensures.value c.put_field-end.ensures.out_after,
-  omega arith,
-)
-
-pub shape_of-out : goal.shape_of-out
-shape_of-out c = c.loop-n.invariant.0.same
+loop-n-preserved c =
+    let a = c.to_be_bytes.ensures ∙ two_bytes_are _ (omega (arith, c.type_inv.nodes (c.loop-n.n * 4 + 1))) in
+    let b = c.to_be_bytes-in-loop-n.ensures ∙ two_bytes_are _ (omega (arith, c.type_inv.nodes (c.loop-n.n * 4 + 2))) in
+    let next = next_node c.args.nodes.now c.loop-n.n c.requires.nodes_in_bounds c.loop-n.invariant c.loop-n-test.true
+    (ap (λ (l : List ℕ). get_or l 0 0) a) (ap (λ (l : List ℕ). get_or l 1 0) a) (ap (λ (l : List ℕ). get_or l 0 0) b) (ap (λ (l : List ℕ). get_or l 1 0) b) in
+    next.puts c.put_field-end.ensures.value c.put_field-end.ensures.out_after
 
 pub returns : goal.returns
 returns c =
     let all : c.loop-n.n ≡ node_count c.args.nodes.now = omega arith in
     record {
-      value = c.loop-n.invariant.0.ends ∙ rw all refl;
-      out_after = c.loop-n.invariant.0.stands ∙ rw all refl;
+      value = c.loop-n.invariant.ends ∙ rw all refl;
+      out_after = c.loop-n.invariant.stands ∙ rw all refl;
     }

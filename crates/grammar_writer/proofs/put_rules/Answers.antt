@@ -1,59 +1,34 @@
--- `grammar_writer::put_rules` meets its contract: after r turns the first r rules stand there.
-use mathlib.Core.Path.{◌≡◌, refl, ◌∙◌}
-use mathlib.Core.List.{[], ◌∷◌}
-use native.Mathlib.Omega.{arith}
-use lib.ListN.{length}
-use Rattle.file_fields.specs.Offsets.{offset_of, spellings_from}
+-- `grammar_writer::put_rules` meets its contract.
+use Rattle.std.proofs.Common.{◌≡◌, length, refl, ◌∙◌, arith}
+use Rattle.file_fields.specs.Offsets.{offset_of}
 use Rattle.file_tables.proofs.TableLaws.{offset_stepped}
-use Rattle.grammar_writer.proofs.PutLaws.{put_starts, next_field}
-use Rattle.grammar_writer.proofs.SectionLaws.{spelling_short, spelling_is, rule_of, rule_short, rule_is}
+use Rattle.grammar_writer.proofs.PutLaws.{put_starts}
+use Rattle.grammar_writer.proofs.SectionLaws.{next_rule, two_bytes_are}
 use Rattle.grammar_writer.proofs.put_rules.Goals as goal
 
-pub loop-r-init : goal.loop-r-init
+pub loop-node-init : goal.loop-node-init
 unfolding offset_of
-loop-r-init c =
-    let names = spellings_from c.args.file.now c.args.first (length c.args.rules.now) 2 in
-    (put_starts (rule_of c.args.rules.now names) c.args.to c.args.out.now, refl, omega arith)
+loop-node-init c = record { put = put_starts _ _ _; stands = refl }
 
 pub put_field-end-requires : goal.put_field-end-requires
 put_field-end-requires c =
+    let next = next_rule c.args.file.now c.args.first c.args.rules.now _ c.requires.rules_value c.requires.rules_in_bounds c.loop-node.invariant.put
+    c.loop-node-test.true c.loop-node.invariant.stands c.spelling_at.ensures (c.to_be_bytes-node_bytes.ensures ∙ two_bytes_are _ (omega (arith, c.type_inv.rules c.loop-node.node-index))) in
+    record { tail_len_bound = next.asks.0; tail_in_bounds = next.asks.1 }
+
+pub loop-node-preserved : goal.loop-node-preserved
+loop-node-preserved c =
+    let next = next_rule c.args.file.now c.args.first c.args.rules.now _ c.requires.rules_value c.requires.rules_in_bounds c.loop-node.invariant.put
+    c.loop-node-test.true c.loop-node.invariant.stands c.spelling_at.ensures (c.to_be_bytes-node_bytes.ensures ∙ two_bytes_are _ (omega (arith, c.type_inv.rules c.loop-node.node-index))) in
     record {
-      tail_len_bound = (((let count = length c.args.rules.now in
-          let names = spellings_from c.args.file.now c.args.first count 2 in
-          let name = spelling_is c.args.file.now c.args.first count 2 c.loop-r-test.true c.loop-r.invariant.1 c.spelling_at.ensures in
-          next_field (rule_of c.args.rules.now names) c.args.to c.args.out.now c.loop-r.r c.loop-r.invariant.0 37 count (omega arith)
-          (rule_short c.args.rules.now names (spelling_short names c.requires.rules_value)) c.loop-r-test.true c.requires.rules_in_bounds 3
-          (c.high_byte.result ∷ c.low_byte.result ∷ []) c.spelling_at.result.now
-          (rule_is c.args.rules.now names c.loop-r.r c.high_byte.ensures c.low_byte.ensures name))).asks).0;
-      tail_in_bounds = (((let count = length c.args.rules.now in
-          let names = spellings_from c.args.file.now c.args.first count 2 in
-          let name = spelling_is c.args.file.now c.args.first count 2 c.loop-r-test.true c.loop-r.invariant.1 c.spelling_at.ensures in
-          next_field (rule_of c.args.rules.now names) c.args.to c.args.out.now c.loop-r.r c.loop-r.invariant.0 37 count (omega arith)
-          (rule_short c.args.rules.now names (spelling_short names c.requires.rules_value)) c.loop-r-test.true c.requires.rules_in_bounds 3
-          (c.high_byte.result ∷ c.low_byte.result ∷ []) c.spelling_at.result.now
-          (rule_is c.args.rules.now names c.loop-r.r c.high_byte.ensures c.low_byte.ensures name))).asks).1;
+      put = next.puts c.put_field-end.ensures.value c.put_field-end.ensures.out_after;
+      stands = offset_stepped _ _ _ c.next_at-at.ensures c.loop-node.invariant.stands;
     }
-
-pub loop-r-preserved : goal.loop-r-preserved
-loop-r-preserved c = (
-  ((let count = length c.args.rules.now in
-      let names = spellings_from c.args.file.now c.args.first count 2 in
-      let name = spelling_is c.args.file.now c.args.first count 2 c.loop-r-test.true c.loop-r.invariant.1 c.spelling_at.ensures in
-      next_field (rule_of c.args.rules.now names) c.args.to c.args.out.now c.loop-r.r c.loop-r.invariant.0 37 count (omega arith)
-      (rule_short c.args.rules.now names (spelling_short names c.requires.rules_value)) c.loop-r-test.true c.requires.rules_in_bounds 3
-      (c.high_byte.result ∷ c.low_byte.result ∷ []) c.spelling_at.result.now
-      (rule_is c.args.rules.now names c.loop-r.r c.high_byte.ensures c.low_byte.ensures name))).puts c.put_field-end.ensures.value c.put_field-end.ensures.out_after,
-  offset_stepped c.args.file.now c.args.first c.loop-r.r c.next_at-at.ensures c.loop-r.invariant.1,
-  omega (arith, c.loop-r-test.true),
-)
-
-pub shape_of-out : goal.shape_of-out
-shape_of-out c = c.loop-r.invariant.0.same
 
 pub returns : goal.returns
 returns c =
-    let all : c.loop-r.r ≡ length c.args.rules.now = omega arith in
+    let all : c.loop-node.node-index ≡ length c.args.rules.now = omega arith in
     record {
-      value = c.loop-r.invariant.0.ends ∙ rw all refl;
-      out_after = c.loop-r.invariant.0.stands ∙ rw all refl;
+      value = c.loop-node.invariant.put.ends ∙ rw all refl;
+      out_after = c.loop-node.invariant.put.stands ∙ rw all refl;
     }

@@ -1,42 +1,27 @@
 -- `grammar_writer::write` meets its contract.
-use mathlib.Core.Path.{refl, sym, ap, ◌∙◌}
-use lib.ListN.{length}
-use Rattle.table.specs.Checks.{numbers}
-use Rattle.grammar_file.proofs.ReadLaws.{refuses, parts, passes}
+use Rattle.std.proofs.Common.{sym, ◌∙◌}
+use Rattle.std.proofs.lemmas.Result.{err_from_is_err_and}
 use Rattle.grammar_writer.proofs.AnswerLaws.{lending_refuses, tables_refuse, then_lent}
 use Rattle.grammar_writer.proofs.write.Goals as goal
+
+pub returns-in_err-shape-clause-result_value : goal.returns-in_err-shape-clause-result_value
+returns-in_err-shape-clause-result_value c =
+    let p = err_from_is_err_and c.from_residual.result c.from_residual.ensures.1 in
+    rw (p.1, p.2) (lending_refuses _ _ _ _ _ _ _ c.in_err-shape.ensures)
+
+pub returns-in_err-check_started-clause-result_value : goal.returns-in_err-check_started-clause-result_value
+returns-in_err-check_started-clause-result_value c =
+    let p = err_from_is_err_and c.from_residual-in_err-check_started.result c.from_residual-in_err-check_started.ensures.1 in
+    rw (p.1, p.2) (tables_refuse _ _ _ _ _ _ c.in_ok-shape.ensures.1 _ c.in_err-check_started.ensures)
 
 pub write_named-requires : goal.write_named-requires
 write_named-requires c =
     record {
-      parts = parts c.args.lending.now c.inspect-found.ensures c.in-Whole.s c.in-Whole.is;
-      lends = sym (passes c.args.lending.now c.inspect-found.ensures c.in-Whole.s c.in-Whole.is);
-      started = sym (ap numbers (sym c.in-Passes.is) ∙ c.check_started-checked.ensures);
+      parts = c.in_ok-shape.ensures.0;
+      lends = c.in_ok-shape.ensures.1;
+      started = sym c.in_ok-check_started.ensures;
     }
 
-pub returns-in-Refused : goal.returns-in-Refused
-returns-in-Refused c =
-    record {
-      result_value = lending_refuses c.args.lending.now c.args.nodes.now c.args.rules.now c.args.node c.args.mode (length c.args.out.now)
-          (refuses c.args.lending.now c.inspect-found.ensures c.in-Refused.n c.in-Refused.is);
-      out_after = refl;
-    }
-
-pub returns-in-Refused-checked : goal.returns-in-Refused-checked
-returns-in-Refused-checked c =
-    record {
-      result_value = tables_refuse c.args.lending.now c.args.nodes.now c.args.rules.now c.args.node c.args.mode (length c.args.out.now)
-          (passes c.args.lending.now c.inspect-found.ensures c.in-Whole.s c.in-Whole.is)
-          (ap numbers (sym c.in-Refused-checked.is) ∙ c.check_started-checked.ensures);
-      out_after = refl;
-    }
-
-pub returns-in-Passes : goal.returns-in-Passes
-returns-in-Passes c =
-    record {
-      result_value = c.write_named.ensures.result_value
-          ∙ then_lent c.args.lending.now c.args.nodes.now c.args.rules.now c.args.node c.args.mode (length c.args.out.now)
-          (passes c.args.lending.now c.inspect-found.ensures c.in-Whole.s c.in-Whole.is)
-          (ap numbers (sym c.in-Passes.is) ∙ c.check_started-checked.ensures);
-      out_after = c.write_named.ensures.out_after;
-    }
+pub returns-clause-result_value : goal.returns-clause-result_value
+returns-clause-result_value c =
+    c.write_named.ensures.result_value ∙ then_lent _ _ _ _ _ _ c.in_ok-shape.ensures.1 c.in_ok-check_started.ensures
