@@ -14,8 +14,9 @@ use Rattle.table.specs.Checks.{fails3, fails4}
 use Rattle.table.proofs.Every.{both_false}
 use Rattle.table.proofs.AnswerLaws.{if_given}
 use Rattle.file_fields.specs.Fields.{Field, fields, in_order}
+use Rattle.file_shape.specs.declared.Contents.{Contents}
 use Rattle.file_shape.specs.Contents.{most_bytes, most_keywords, right_values, keywords, rule_list, node_table, start_node, start_mode, fields_of}
-use Rattle.file_shape.specs.Contents.{unreadable, fails1, fails2, fails5_with, fails5_by_file, Contents, contents, file_answer}
+use Rattle.file_shape.specs.Contents.{unreadable, fails1, fails2, fails5_with, fails5_by_file, contents, file_answer}
 use Rattle.grammar_writer.specs.Written.{written_file, fails15, write_answer}
 use Rattle.grammar_writer.proofs.LendLaws.{Started, table_passed}
 

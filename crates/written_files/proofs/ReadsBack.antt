@@ -16,8 +16,9 @@ use Rattle.table.specs.Limits.{most_nodes, most_rules}
 use Rattle.table.proofs.Inside.{counts_inside}
 use Rattle.file_fields.specs.Fields.{Field, two_bytes, fields, in_order, tagged}
 use Rattle.spellings.specs.Spellings.{single_alone, right_spellings}
+use Rattle.file_shape.specs.declared.Contents.{Contents}
 use Rattle.file_shape.specs.Contents.{right_values, keywords, rule_list, rule_names, node_table, start_value, start_node, start_mode, fields_of}
-use Rattle.file_shape.specs.Contents.{fails2, Contents, contents, file_answer}
+use Rattle.file_shape.specs.Contents.{fails2, contents, file_answer}
 use Rattle.grammar_file.specs.File.{fails6, read_answer, part_of, keyword_bytes, name_bytes}
 use Rattle.grammar_writer.specs.Written.{written_fields, written_file, write_answer}
 use Rattle.written_files.proofs.FieldsBack.{two_number, fields_back}

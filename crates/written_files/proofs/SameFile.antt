@@ -14,8 +14,9 @@ use Rattle.table.specs.Form.{node_count}
 use Rattle.table.specs.Words.{each_words}
 use Rattle.table.proofs.Inside.{counts_inside}
 use Rattle.file_fields.specs.Fields.{Field}
+use Rattle.file_shape.specs.declared.Contents.{Contents}
 use Rattle.file_shape.specs.Contents.{right_value, keywords, rule_list, rule_names, node_table, start_node, start_mode, fields_of}
-use Rattle.file_shape.specs.Contents.{Contents, contents, file_answer}
+use Rattle.file_shape.specs.Contents.{contents, file_answer}
 use Rattle.grammar_file.specs.File.{fails6, read_answer}
 use Rattle.grammar_writer.specs.FieldBytes.{field_bytes, bytes_of}
 use Rattle.grammar_writer.specs.Written.{written_fields, written_file, write_answer}
