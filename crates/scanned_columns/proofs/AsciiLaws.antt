@@ -19,7 +19,8 @@ use Rattle.report_checks.specs.Report.{most_bytes, refused_class, fails8}
 use Rattle.number_spelling.specs.Number.{digit_class}
 use Rattle.places.specs.Columns.{column_by, column_after, column_at, column_over}
 use Rattle.places.specs.Places.{run_class, in_run, run_length}
-use Rattle.places.specs.Moves.{Position, move_by, next_place, next_in}
+use Rattle.places.specs.Moves.{move_by, next_place, next_in}
+use Rattle.places.specs.declared.Position.{Position}
 use Rattle.scanner.specs.Tokens.{token_of}
 use Rattle.token_words.specs.Places.{mid_run, mark_by, mark_after, had_token, line_end, place_by, place_at, places_at, places}
 use Rattle.token_words.specs.Scan.{tokens, fails9, fails10, scan_answer}

@@ -4,7 +4,7 @@
 use Prim.Native.Nat.{ℕ, zero, suc, ◌+◌, ◌*◌, ◌/◌, ◌≤◌, ◌<◌}
 use mathlib.Core.Bool.{Bool, true, false, cond, not, ◌&&◌, ◌||◌}
 use mathlib.Core.List.{List, [], ◌∷◌, ◌++◌, map}
-use mathlib.Core.Option.{none}
+use Rattle.std.proofs.Common.{None}
 use lib.Dec.{leb, ltb, eqb}
 use lib.ListN.{length, get_or, take, drop}
 use Rattle.table.specs.Every.{every}
@@ -15,9 +15,13 @@ use Rattle.byte_class.specs.declared.Class.{Class}
 use Rattle.byte_class.specs.declared.Class.TheVariants.{Break, Tab, Blank, Single, Digit, Run, Refused}
 use Rattle.grammar_file.specs.File.{file_answer}
 use Rattle.report_checks.specs.Report.{most_bytes, refused_class}
-use Rattle.places.specs.Places.{Place, run_class}
-use Rattle.places.specs.Moves.{Position, position, Move, move, move_by}
-use Rattle.scanner.specs.Tokens.{Token, token_of}
+use Rattle.places.specs.Places.{run_class}
+use Rattle.places.specs.declared.Place.{Place}
+use Rattle.places.specs.Moves.{position, move, move_by}
+use Rattle.places.specs.declared.Position.{Position}
+use Rattle.places.specs.declared.Move.{Move}
+use Rattle.scanner.specs.Tokens.{token_of}
+use Rattle.scanner.specs.declared.Token.{Token}
 use Rattle.token_words.specs.Places.{mark_by, line_end, place_by}
 use Rattle.token_words.specs.Scan.{over_column}
 
@@ -93,7 +97,7 @@ old_scan_answer file text lent =
 -- The next place in the bytes from an offset on, and from a position in a text.
 unfoldable pub old_next_place : List ℕ → ℕ → ℕ → Bool → Move
 old_next_place [] o c true = move true c o 0 (position o c false)
-old_next_place [] o c false = record { found = none; reached = position o c false }
+old_next_place [] o c false = record { found = None; reached = position o c false }
 old_next_place (b ∷ bytes) o c m =
     move_by (old_class_of b) m o c (old_column_after b c) (old_run_length (b ∷ bytes))
     (old_column_over (take (old_run_length (b ∷ bytes)) (b ∷ bytes)) c) (old_next_place bytes (o + 1) (old_column_after b c) m)

@@ -4,7 +4,7 @@ use Prim.Native.Nat.{ℕ, zero, suc, ◌+◌, ◌*◌, ◌/◌, ◌≤◌, ◌<�
 use mathlib.Core.Path.{◌≡◌, refl, sym, ap, ◌∙◌}
 use mathlib.Core.Bool.{Bool, true, false, cond, ◌||◌, or-false}
 use mathlib.Core.List.{List, [], ◌∷◌, ◌++◌}
-use mathlib.Core.Option.{Option}
+use Rattle.std.proofs.Common.{Option}
 use mathlib.Core.Logic.{⊎_elim}
 use lib.Dec.{leb, ltb, eqb}
 use lib.ListN.{length, get_or, drop, replicate, get_or-replicate}
@@ -20,10 +20,12 @@ use Rattle.byte_class.specs.declared.Class.TheVariants.{Break, Tab, Blank, Singl
 use Rattle.grammar_file.specs.File.{file_answer}
 use Rattle.report_checks.specs.Report.{most_bytes, fails8}
 use Rattle.places.specs.Columns.{column_after, column_at}
-use Rattle.places.specs.Places.{Place, run_length}
-use Rattle.places.specs.Moves.{Position, position, next_in}
+use Rattle.places.specs.Places.{run_length}
+use Rattle.places.specs.declared.Place.{Place}
+use Rattle.places.specs.Moves.{position, next_in}
+use Rattle.places.specs.declared.Position.{Position}
 use Rattle.places.proofs.FindLaws.{column_grows}
-use Rattle.scanner.specs.Tokens.{Token}
+use Rattle.scanner.specs.declared.Token.{Token}
 use Rattle.scanner.specs.Steps.{last_step_column, step_fails8, standing}
 use Rattle.token_words.specs.Places.{mid_run, had_token, line_end, place_by, place_at, places_at, places}
 use Rattle.token_words.proofs.PlaceLaws.{onward}

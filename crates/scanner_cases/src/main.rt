@@ -12,16 +12,17 @@
 //   v  step x of a scanner's value, counted from 0
 #![tactic(auto)]
 
-ghost use Rattle.std.specs.Prelude.{◌≡◌, false, ◌&&◌, ◌⊎◌, ◌≤◌};
-ghost use Rattle.scanner_cases.specs.Handing.{is_token, is_word, are_words, holds_at, Walked};
+ghost use Rattle.std.specs.Prelude.{◌≡◌, false, ◌⊎◌, ◌≤◌};
+ghost use Rattle.scanner_cases.specs.Handing.{is_token, is_word, holds_at, Walked};
 
-use scanner::{Handed, Step};
-use slices::filled;
+use places::Position;
+use scanner::{Step, Token, next_token};
+use slices::{filled, front};
 use stored_cases::{
-    CASES, MOST_RECORDS, PART, TOKEN_WORDS, byte, label, part, show, show_either, show_fours,
-    show_one, stored, triple, zeros,
+    CASES, MOST_RECORDS, PART, TOKEN_WORDS, byte, label, part, show, show_each, show_either,
+    show_fours, show_one, stored, triple, zeros,
 };
-use token_words::Scanned;
+use table::Refusal;
 
 // The kinds of calls.
 const SCAN: usize = b's' as usize;
@@ -64,13 +65,11 @@ fn main(rt: HostRuntime) {
 // Goes through the records.
 fn records(cases: &[u8], file: &mut [u8], report: &mut [u8]) {
     let mut at = 0;
-    let mut left = MOST_RECORDS;
-    while left > 0 {
+    for _ in 0..MOST_RECORDS {
         if at >= cases.len() {
             return;
         }
         at = record(cases, at, file, report);
-        left -= 1;
     }
 }
 
@@ -91,14 +90,31 @@ fn record(cases: &[u8], at: usize, file: &mut [u8], report: &mut [u8]) -> usize 
 // Makes the call that the header tells of and prints its answer.
 fn call(header: &[u8], file: &[u8], report: &[u8]) {
     let x = triple(header, 3);
-    let y = triple(header, 6) as u32;
-    let mark = byte(header, 2) != 0;
+    let from = Position {
+        offset: x,
+        column: triple(header, 6) as u32,
+        mark: byte(header, 2) != 0,
+    };
     match byte(header, 0) {
         SCAN => lend(file, report, x, false),
         HAND_OUT => lend(file, report, x, true),
-        NEXT => show_next(file, report, x, y, mark),
-        OFFSET_DOWN => show_next(file, report, usize::MAX - x, y, mark),
-        COLUMN_DOWN => show_next(file, report, x, u32::MAX - y, mark),
+        NEXT => show_step(next_token(file, report, from)),
+        OFFSET_DOWN => show_step(next_token(
+            file,
+            report,
+            Position {
+                offset: usize::MAX - x,
+                ..from
+            },
+        )),
+        COLUMN_DOWN => show_step(next_token(
+            file,
+            report,
+            Position {
+                column: u32::MAX - from.column,
+                ..from
+            },
+        )),
         VALUE => show_handed(scanner_value::nth(file, report, x)),
         _ => {
             io::write_all(1, b"no such call");
@@ -107,16 +123,11 @@ fn call(header: &[u8], file: &[u8], report: &[u8]) {
     io::write_all(1, b"\n");
 }
 
-// Prints the next token from an offset, a column and a mark on.
-fn show_next(file: &[u8], report: &[u8], at: usize, column: u32, mark: bool) {
-    show_step(scanner::next_token(file, report, at, column, mark));
-}
-
 // Makes a call that is lent x words.
 fn lend(file: &[u8], report: &[u8], x: usize, all: bool) {
     let mut tokens = zeros::<u32, TOKEN_WORDS>();
     let n = x.min(TOKEN_WORDS);
-    show_lent(file, report, &mut tokens[0..n], all);
+    show_lent(file, report, &mut tokens[..n], all);
 }
 
 // Prints what a scan answers, then, where all are asked for, what is handed out one by one.
@@ -130,23 +141,24 @@ fn show_lent(file: &[u8], report: &[u8], tokens: &mut [u32], all: bool) {
 // Prints what a scan answers and wrote. The answer here is the number of tokens, 0 where the scan was refused.
 fn show_scan(file: &[u8], report: &[u8], tokens: &mut [u32]) -> usize {
     tokens.fill(MARKER);
-    let count = show_scanned(token_words::scan(file, report, tokens));
+    let scanned = token_words::scan(file, report, tokens);
+    show_scanned(scanned);
+    let count = scanned.unwrap_or(0);
     show_tokens(tokens, count);
     count
 }
 
-// Prints how many tokens a scan has, or its refusal. The answer is the number of tokens, 0 where it was refused.
-fn show_scanned(scanned: Scanned) -> usize {
+// Prints how many tokens a scan has, or its refusal.
+fn show_scanned(scanned: Result<usize, Refusal>) {
     match scanned {
-        Scanned::Tokens(n) => {
-            show_one(b"tokens", n as u64);
-            n
-        }
-        Scanned::Refused(number) => {
-            show_one(b"refused", number as u64);
-            0
-        }
-    }
+        Ok(n) => show_one(b"tokens", n as u64),
+        Err(refusal) => show_refused(refusal),
+    };
+}
+
+// Prints `refused` and the number of a refusal.
+fn show_refused(refusal: Refusal) -> usize {
+    show_one(b"refused", refusal.number() as u64)
 }
 
 // Prints how many tokens were handed out one by one, what comes after them, and whether they are those of the scan, where
@@ -154,8 +166,7 @@ fn show_scanned(scanned: Scanned) -> usize {
 fn show_all(walk: Walk, count: usize) {
     show_one(b" | handed", walk.count as u64);
     io::write_all(1, b" then ");
-    let last = walk.last;
-    show_step(last);
+    show_step(walk.last);
     if count > 0 {
         let same = walk.same && walk.count == count;
         show_either(same, b" | same", b" | different");
@@ -169,153 +180,85 @@ fn hand_out(file: &[u8], report: &[u8], words: &[u32]) -> Walk
     ensures fact { (is_token result.last.handed ≡ false) ⊎ (result.count ≡ 5000) }
 {
     let mut same = true;
-    let mut step = scanner::next_token(file, report, 0, 0, false);
-    let mut count = 0;
-    while count < MOST_HANDED {
-        let handed = step.handed;
-        if !is_token(handed) {
-            break;
-        }
-        same = both(same, holds(words, count, handed));
-        step = scanner::next_token(file, report, step.at, step.column, step.mark);
-        count += 1;
+    let mut last = next_token(file, report, Position::START);
+    for count in 0..MOST_HANDED {
+        let Ok(Some(token)) = last.handed else {
+            return Walk { count, same, last };
+        };
+        same = same && holds(words, count, token);
+        last = next_token(file, report, last.reached);
     }
     Walk {
-        count: count,
-        same: same,
-        last: step,
-    }
-}
-
-// Whether both hold.
-fn both(a: bool, b: bool) -> bool
-    ensures { result ≡ (a && b) }
-{
-    if a { b } else { false }
-}
-
-// Whether a token was handed out.
-fn is_token(handed: Handed) -> bool
-    ensures { result ≡ is_token handed }
-{
-    match handed {
-        Handed::Token {
-            terminal,
-            column,
-            offset,
-            length,
-        } => true,
-        Handed::Nothing => false,
-        Handed::Refused(number) => false,
+        count: MOST_HANDED,
+        same,
+        last,
     }
 }
 
 // Whether words 4 i to 4 i + 3 are those of the token.
-fn holds(words: &[u32], i: usize, handed: Handed) -> bool
+fn holds(words: &[u32], i: usize, token: Token) -> bool
     requires { i ≤ 5000 }
-    ensures { result ≡ holds_at words.now i handed }
+    ensures { result ≡ holds_at words.now i (Ok (Some token)) }
 {
-    match handed {
-        Handed::Token {
-            terminal,
-            column,
-            offset,
-            length,
-        } => are_words(words, i * 4, terminal, column, offset, length),
-        Handed::Nothing => false,
-        Handed::Refused(number) => false,
-    }
-}
-
-// Whether the words from an index on are these four.
-fn are_words(words: &[u32], at: usize, a: u32, b: u32, c: u32, d: u32) -> bool
-    requires { at ≤ 20000 }
-    ensures { result ≡ are_words words.now at a b c d }
-{
-    if !is_word(words, at, a) {
-        return false;
-    }
-    if !is_word(words, at + 1, b) {
-        return false;
-    }
-    if !is_word(words, at + 2, c) {
-        return false;
-    }
-    is_word(words, at + 3, d)
+    let at = i * 4;
+    is_word(words, at, token.terminal)
+        && is_word(words, at + 1, token.column)
+        && is_word(words, at + 2, token.offset)
+        && is_word(words, at + 3, token.length)
 }
 
 // Whether there is a word at an index, and it is this one.
 fn is_word(words: &[u32], at: usize, word: u32) -> bool
     ensures { result ≡ is_word words.now at word }
 {
-    if at < words.len() {
-        words[at] == word
-    } else {
-        false
-    }
+    words.get(at).is_some_and(|there| *there == word)
 }
 
 // Prints the token handed out, `none` or the number of a refusal, then the offset, column and mark.
 fn show_step(step: Step) {
-    let handed = step.handed;
-    show_handed(handed);
-    let numbers = [step.at as u64, step.column as u64];
-    show(b" | at", &numbers);
-    show_either(step.mark, b" set", b" clear");
+    show_handed(step.handed);
+    let reached = step.reached;
+    show(b" | at", &[reached.offset as u64, reached.column as u64]);
+    show_either(reached.mark, b" set", b" clear");
 }
 
 // Prints the token handed out, `none` or the number of a refusal.
-fn show_handed(handed: Handed) {
+fn show_handed(handed: Result<Option<Token>, Refusal>) {
     match handed {
-        Handed::Token {
-            terminal,
-            column,
-            offset,
-            length,
-        } => {
-            let numbers = [terminal as u64, column as u64, offset as u64, length as u64];
-            show(b"token", &numbers);
+        Ok(Some(token)) => {
+            io::write_all(1, b"token");
+            show_each(&[token.terminal, token.column, token.offset, token.length]);
         }
-        Handed::Nothing => {
+        Ok(None) => {
             io::write_all(1, b"none");
         }
-        Handed::Refused(number) => {
-            show_one(b"refused", number as u64);
+        Err(refusal) => {
+            show_refused(refusal);
         }
     }
 }
 
 // Prints the words of n tokens, and whether a scan left those behind them alone.
 fn show_tokens(words: &[u32], n: usize) {
-    let end = (n.min(MOST_HANDED) * 4).min(words.len());
-    show_first(words, n, end);
-    show_either(filled(words, end, MARKER), b" | kept", b" | changed");
+    let written = front(words, n.min(MOST_HANDED) * 4);
+    show_first(written, n);
+    let kept = filled(words, written.len(), MARKER);
+    show_either(kept, b" | kept", b" | changed");
 }
 
-// Prints the words of n tokens, those before `end`, where they are few, else those of the last two and a sum of all.
-fn show_first(words: &[u32], n: usize, end: usize) {
-    let last = end.min(words.len());
+// Prints the words of n tokens where they are few, else those of the last two and a sum of all.
+fn show_first(words: &[u32], n: usize) {
     if n <= FEW {
-        show_fours(&words[0..last]);
+        show_fours(words);
         return;
     }
-    if last >= 8 {
-        let from = last - 8;
-        show_fours(&words[from..last]);
-    }
-    show_one(b" | sum", sum(words, last));
+    show_fours(&words[words.len().saturating_sub(8)..]);
+    show_one(b" | sum", sum(words));
 }
 
-// A sum of the first `end` words that tells their order too.
-fn sum(words: &[u32], end: usize) -> u64 {
-    let last = end.min(words.len());
-    let mut total = 0;
-    let mut i = 0;
-    while i < last {
-        total = added(total, words[i]);
-        i += 1;
-    }
-    total
+// A sum of words that tells their order too.
+fn sum(words: &[u32]) -> u64 {
+    words.iter().fold(0, |total, word| added(total, *word))
 }
 
 // The next sum: 31 times the last and the word, less whole thousand millions.
