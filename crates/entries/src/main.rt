@@ -3,34 +3,15 @@
 // a line more says where the farthest place is.
 #![tactic(auto)]
 
-ghost use Rattle.io.specs.Counts.{IsPrefixLen};
+use files::{STDIN, STDOUT};
 
-use std::fs::File;
-use std::os::fd::AsRawFd;
-use std::rt::Files;
-
-// The numbers that the system gives standard input and standard output.
-const STDIN: i32 = 0;
-
-const STDOUT: i32 = 1;
-
-// A file or report that fills its buffer of 65,536 bytes is over length.
+// A file or report that fills its buffer of 65,536 bytes is over length. A grammar file that cannot be opened gave no bytes.
 fn main(rt: HostRuntime) {
     let mut file = io::large_buffer();
     let mut report = io::large_buffer();
-    let n = read_grammar(&rt, &mut file);
+    let n = files::read(&rt, "grammar.bin", &mut file).unwrap_or(0);
     let m = io::read_full(STDIN, &mut report);
     print(&file[..n], &report[..m]);
-}
-
-// Reads `grammar.bin`, and says how many bytes it gave: none if it cannot be opened.
-fn read_grammar(files: &impl Files<File = File>, file: &mut [u8]) -> usize
-    ensures { IsPrefixLen result file.new }
-{
-    match File::open(files, "grammar.bin") {
-        Ok(grammar) => io::read_full(grammar.as_raw_fd(), file),
-        Err(_) => 0,
-    }
 }
 
 // Prints the entries, of which there may be 16,384, the line of the run and where the farthest place is.
@@ -41,33 +22,29 @@ fn print(file: &[u8], report: &[u8]) {
     let read = slices::front_tokens(&tokens, x.tokens);
     print_entries(file, report, read, &captures, x.captures);
     let mut out = [0u8; 64];
-    let answer = x.answer;
-    let k = answer_line::write(answer, &mut out);
+    let k = answer_line::write(x.answer, &mut out);
     io::write_all(STDOUT, slices::front(&out, k));
-    let n = answer_line::farthest::write(report, read, answer, &mut out);
+    let n = answer_line::farthest::write(report, read, x.answer, &mut out);
     io::write_all(STDOUT, slices::front(&out, n));
 }
 
 // Prints so many entries. A line has room in as many bytes as `answer_line::entry::ROOM`.
 fn print_entries(file: &[u8], report: &[u8], tokens: &[u32], captures: &[u32], count: usize) {
     let mut out = [0u8; 65664];
-    let mut i = 0;
-    while i < count {
+    for i in 0..count {
         let c = line::capture_at(captures, i);
         print_blanks(c.around);
         let k = answer_line::entry::write(file, report, tokens, c, &mut out);
         io::write_all(STDOUT, slices::front(&out, k));
-        i += 1;
     }
 }
 
 // Prints two blanks for each entry around one.
 fn print_blanks(around: u32) {
     let blanks = [b' '; 64];
-    let mut left = around as usize * 2;
-    while left > 64 {
+    let count = around as usize * 2;
+    for _ in 0..count / blanks.len() {
         io::write_all(STDOUT, &blanks);
-        left -= 64;
     }
-    io::write_all(STDOUT, slices::front(&blanks, left));
+    io::write_all(STDOUT, &blanks[..count % blanks.len()]);
 }

@@ -1,21 +1,17 @@
--- What is reported of each case of a run that lists, and that it is reported in one way.
-use Prim.Native.Nat.{ℕ, ◌+◌, ◌*◌}
-use mathlib.Core.Path.{◌≡◌, refl, ap}
-use native.Mathlib.Omega.{arith}
-use mathlib.Core.Bool.{Bool}
-use mathlib.Core.List.{List, [], ◌∷◌, ◌++◌}
-use lib.ListN.{get_or}
+-- What is reported of a run that lists and is refused, and that it is reported in one way.
+use Rattle.std.proofs.Common.{ℕ, ◌≡◌, refl, ap, Bool, List, ◌++◌, [], ◌∷◌, get_or, Ok, arith}
 use Rattle.table.specs.Answer.{Answer}
+use Rattle.table.specs.Refusals.{turned_down}
+use Rattle.table.specs.declared.refusals.Refusal.{Refusal}
+use Rattle.table.specs.declared.refusals.Refusal.TheVariants.{IllFormed}
 use Rattle.columns.specs.Intervals.{to}
-use Rattle.columns.specs.declared.Interval.{Interval}
 use Rattle.columns.specs.declared.State.{State}
 use Rattle.columns.specs.declared.Upper.{Upper}
 use Rattle.columns.specs.declared.Upper.TheVariants.{At, Endless}
 use Rattle.clauses.specs.ListAnswer.{Listing}
 use Rattle.interpreter.specs.Numbers.{list_numbers}
-use Rattle.interpreter.specs.declared.Listed.{Listed}
-use Rattle.interpreter.specs.declared.Listed.TheVariants.{Success, Failure, Refused, IllFormed}
-use Rattle.reported.specs.Reported.{number, success_words, failure_words}
+use Rattle.interpreter.specs.declared.Ran.TheVariants.{Success}
+use Rattle.reported.specs.Reported.{success_words}
 use Rattle.reported.specs.Reported.{ListReported, list_success, list_failure, list_refused, list_refused_at}
 
 -- Seven words, taken one by one, and an eighth behind them.
@@ -28,41 +24,16 @@ by_upper :
 by_upper read lower (At h) flag farthest n = refl
 by_upper read lower Endless flag farthest n = refl
 
-eight_words_lem :
-    (read : ℕ) (c : Interval) (flag : Bool) (farthest n : ℕ)
-    → let w = success_words read c flag farthest in eight_words w n ≡ w ++ (n ∷ [])
-eight_words_lem read c flag farthest n = by_upper read c.lower c.upper flag farthest n
+pub listed :
+    {w : List ℕ} (read : ℕ) (s : State) (n place : ℕ) (before : List ℕ)
+    → w ≡ success_words read s.interval s.flag s.farthest
+    → ListReported place before (list_numbers place (Ok (record { ran = Success read s; captures = n }))) (eight_words w n)
+listed read s n place before e = rw (e, by_upper read s.interval.lower s.interval.upper s.flag s.farthest n) (list_success refl)
 
-module _ {x : Listed} {read n : ℕ} {s : State} (e : x ≡ Success read s n) (place : ℕ) where
-  pub number_listed : 0 ≡ number (list_numbers place x)
-  number_listed = rw e refl
-
-  pub words_listed :
-      {w : List ℕ}
-      → w ≡ success_words read s.interval s.flag s.farthest
-      → (before : List ℕ)
-      → ListReported place before (list_numbers place x) (eight_words w n)
-  words_listed q before = rw (e, q, eight_words_lem) (list_success refl)
-
-module _ {x : Listed} {m : ℕ} (e : x ≡ Failure m) (place : ℕ) where
-  pub number_failed : 0 ≡ number (list_numbers place x)
-  number_failed = rw e refl
-
-  pub words_failed : (before : List ℕ) → ListReported place before (list_numbers place x) (failure_words before m)
-  words_failed before = rw e list_failure
-
-module _ {x : Listed} {n : ℕ} where
-  pub number_refused : x ≡ Refused n → (place : ℕ) → n ≡ number (list_numbers place x)
-  number_refused e place = rw e refl
-
-  pub words_refused : x ≡ Refused n → (place : ℕ) (before : List ℕ) → ListReported place before (list_numbers place x) before
-  words_refused e place before = rw e list_refused
-
-  pub number_named : x ≡ IllFormed n → {r : ℕ} → r ≡ 7 + 65536 * n → (place : ℕ) → r ≡ number (list_numbers place x)
-  number_named e q place = rw e q
-
-  pub words_named : x ≡ IllFormed n → (place : ℕ) (before : List ℕ) → ListReported place before (list_numbers place x) before
-  words_named e place before = rw e list_refused_at
+-- A run that is refused: the lent words are as they were.
+pub list_is_refused : (e : Refusal) (place : ℕ) (before : List ℕ) → ListReported place before (turned_down e) before
+list_is_refused (IllFormed node) place before = list_refused_at
+list_is_refused e place before = list_refused
 
 -- The relation fixes every word, as that of a run without a list does.
 pub one_report :

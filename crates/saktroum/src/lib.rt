@@ -70,7 +70,7 @@ pub extern "C" fn saktroum_write(
         (length out.old)) res.old }
 {
     let x = grammar_writer::write(lending, nodes, rules, node, mode, out);
-    reported::report_write(x, res)
+    reported::report_count(x, res)
 }
 
 // Scans a report by the keywords of a grammar file. The answer is 0, with the number of tokens in `res`, or the
@@ -91,7 +91,7 @@ pub extern "C" fn saktroum_scan(
         res.old }
 {
     let x = token_words::scan(file, report, tokens);
-    reported::report_scan(x, res)
+    reported::report_count(x, res)
 }
 
 // Checks that a grammar is well formed. The answer is 0 or the number that refused the call, for 7 with the node.

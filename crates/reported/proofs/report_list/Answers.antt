@@ -1,32 +1,14 @@
 -- `reported::report_list` meets its contract.
-use Rattle.reported.proofs.ListLaws.{number_listed, words_listed, number_failed, words_failed}
-use Rattle.reported.proofs.ListLaws.{number_refused, words_refused, number_named, words_named}
+use Rattle.reported.specs.Reported.{list_failure}
+use Rattle.reported.proofs.ListLaws.{listed, list_is_refused}
 use Rattle.reported.proofs.report_list.Goals as goal
 
-pub returns-in-Success : goal.returns-in-Success
-returns-in-Success c =
-    record {
-      by_index = λ place. search number_listed;
-      by_index_2 = λ place. search words_listed;
-    }
+pub returns-in-Success-clause-by_index_2 : goal.returns-in-Success-clause-by_index_2
+returns-in-Success-clause-by_index_2 c = λ place. rw (c.in-Ok.is, c.in-Success.is)
+    (listed c.in-Success.read c.in-Success.s c.in-Ok.listed.captures place c.args.res.now c.success_words-w.ensures)
 
-pub returns-in-Failure : goal.returns-in-Failure
-returns-in-Failure c =
-    record {
-      by_index = λ place. search number_failed;
-      by_index_2 = λ place. search words_failed;
-    }
+pub returns-in-Failure-clause-by_index_2 : goal.returns-in-Failure-clause-by_index_2
+returns-in-Failure-clause-by_index_2 c = λ place. rw (c.in-Ok.is, c.in-Failure.is) list_failure
 
-pub returns-in-Refused : goal.returns-in-Refused
-returns-in-Refused c =
-    record {
-      by_index = λ place. search number_refused;
-      by_index_2 = λ place. search words_refused;
-    }
-
-pub returns-in-IllFormed : goal.returns-in-IllFormed
-returns-in-IllFormed c =
-    record {
-      by_index = λ place. search number_named;
-      by_index_2 = λ place. search words_named;
-    }
+pub returns-in-Err-clause-by_index_2 : goal.returns-in-Err-clause-by_index_2
+returns-in-Err-clause-by_index_2 c = λ place. rw c.in-Err.is (list_is_refused c.in-Err.refusal place c.args.res.now)
