@@ -1,7 +1,8 @@
 // The rules of keywords and rule names: number 2.
 #![tactic(auto)]
 
-ghost use Rattle.std.specs.Prelude.{◌≡◌, not, ◌<◌, [], length, get_or};
+ghost use Rattle.std.specs.Prelude.{◌≡◌, ℕ, not, ◌<◌, Bool, List, [], length, get_or};
+ghost use Rattle.std.specs.Fn.{FnReturnsAt};
 ghost use Rattle.table.specs.Every.{every};
 ghost use Rattle.byte_class.specs.Bytes.{is_single};
 ghost use Rattle.spellings.specs.Spellings.{visible, spelled as is_spelled, single_alone, same_bytes};
@@ -91,15 +92,16 @@ pub fn right_spellings(file: &[u8], group: Group, skip: usize) -> bool
     all_spelled(file, group, skip) && distinct(file, group, skip)
 }
 
-#[tactic(auto, using(table::proofs::Every::every_more, table::proofs::Every::every_fails, file_fields::proofs::Offsets::length_spellings, file_fields::proofs::Offsets::spelling_from), unfolding(table::specs::Every::every, file_fields::specs::Offsets::offset_of))]
-fn all_spelled(file: &[u8], group: Group, skip: usize) -> bool
-    ensures { result
-        ≡ every (length (spellings_from file.now group.at group.count skip))
-        (λ i. is_spelled (get_or (spellings_from file.now group.at group.count skip) i [])) }
+#[tactic(auto, unfolding(table::specs::Every::every, file_fields::specs::Offsets::offset_of))]
+// Whether a test holds of each of the spellings of fields.
+fn each_spelling<F: Fn(&[u8]) -> bool>(file: &[u8], group: Group, skip: usize, test: F) -> bool
+    requires { F.IsAlwaysCallable test }
+    ensures { (p : List ℕ → Bool) → ((s : List ℕ) (b : Bool) → FnReturnsAt F.Fn test s b → b ≡ p s)
+        → result ≡ every group.count (λ i. p (get_or (spellings_from file.now group.at group.count skip) i [])) }
 {
     let mut at = group.at;
     for _ in 0..group.count {
-        if !spelled(spelling_at(file, at, skip)) {
+        if !test(spelling_at(file, at, skip)) {
             return false;
         }
         at = next_at(file, at);
@@ -107,20 +109,20 @@ fn all_spelled(file: &[u8], group: Group, skip: usize) -> bool
     true
 }
 
-#[tactic(auto, using(table::proofs::Every::every_more, table::proofs::Every::every_fails, file_fields::proofs::Offsets::length_spellings, file_fields::proofs::Offsets::spelling_from), unfolding(table::specs::Every::every, file_fields::specs::Offsets::offset_of))]
+fn all_spelled(file: &[u8], group: Group, skip: usize) -> bool
+    ensures { result
+        ≡ every (length (spellings_from file.now group.at group.count skip))
+        (λ i. is_spelled (get_or (spellings_from file.now group.at group.count skip) i [])) }
+{
+    each_spelling(file, group, skip, spelled)
+}
+
 pub fn singles_alone(file: &[u8], group: Group) -> bool
     ensures { result
         ≡ every (length (spellings_from file.now group.at group.count 0))
         (λ i. single_alone (get_or (spellings_from file.now group.at group.count 0) i [])) }
 {
-    let mut at = group.at;
-    for _ in 0..group.count {
-        if !single_alone(spelling_at(file, at, 0)) {
-            return false;
-        }
-        at = next_at(file, at);
-    }
-    true
+    each_spelling(file, group, 0, single_alone)
 }
 
 #[tactic(auto, unfolding(crate::specs::Spellings::distinct))]
@@ -146,7 +148,6 @@ fn distinct(file: &[u8], group: Group, skip: usize) -> bool
     true
 }
 
-#[tactic(auto, using(table::proofs::Every::every_more, table::proofs::Every::every_fails, file_fields::proofs::Offsets::length_spellings, file_fields::proofs::Offsets::spelling_from), unfolding(table::specs::Every::every, file_fields::specs::Offsets::offset_of))]
 // Whether a spelling differs from those of fields.
 fn unlike(file: &[u8], group: Group, skip: usize, s: &[u8]) -> bool
     ensures { result
@@ -154,12 +155,5 @@ fn unlike(file: &[u8], group: Group, skip: usize, s: &[u8]) -> bool
         (λ i.
         not (same_bytes (get_or (spellings_from file.now group.at group.count skip) i []) s.now)) }
 {
-    let mut at = group.at;
-    for _ in 0..group.count {
-        if same(spelling_at(file, at, skip), s) {
-            return false;
-        }
-        at = next_at(file, at);
-    }
-    true
+    each_spelling(file, group, skip, |t| !same(t, s))
 }
