@@ -1,13 +1,10 @@
 -- `well_formed::facts::find` meets its contract.
 use Rattle.table.specs.Form.{node_count}
 use Rattle.well_formed.proofs.DecidedLaws.{cells_below, cell_at}
-use Rattle.well_formed.proofs.PassLaws.{last_pass, fewer}
+use Rattle.well_formed.proofs.PassLaws.{fewer}
 use Rattle.well_formed.proofs.facts.find.Goals as goal
 
 pub loop-smaller : goal.loop-smaller
 loop-smaller c =
     fewer _ _ _ (cells_below (node_count c.args.nodes.now))
     (λ k l Q e. cell_at Q (node_count c.args.nodes.now) e k.node l k.fact) c.loop-test.true c.pass.ensures
-
-pub returns : goal.returns
-returns c = last_pass _ _ _ (λ k l. l) c.loop-test.false c.pass.ensures
