@@ -26,6 +26,8 @@ pub struct Listed {
     pub captures: usize,
 }
 
+// The node words, the rules and the tokens are parameters of their own, as C lends them.
+
 // Runs a grammar on tokens from a start by a reading. It writes nothing.
 pub fn run(
     nodes: &[u16],

@@ -8,7 +8,8 @@ ghost use Rattle.memory.specs.Memory.{put_words, key_words, outcome_words, recal
 
 use columns::{Interval, Outcome, State, Upper};
 
-// The words of a slot.
+// The words of a slot. It is named by where it begins in the lent words, since what is promised speaks of all of those; a
+// struct for a node, a mode and a state would be made at each call and taken apart in each function, so it is no plainer.
 pub const SLOT: usize = 12;
 
 #[tactic(auto, unfolding(crate::specs::Memory::recalled))]

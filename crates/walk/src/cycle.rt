@@ -24,43 +24,48 @@ use columns::{Capture, Outcome, Reading, State};
 use readings::in_force;
 use table::Kind;
 
+// What a walk goes over, and the reading that it goes by: handed on by one reference, a nested call needs less of the stack.
+// What is lent to it stands apart, since the functions below a nested call take a list, words to remember in or counts alone.
+#[derive(Clone, Copy)]
+pub(crate) struct Input<'a> {
+    pub(crate) nodes: &'a [u16],
+    pub(crate) rules: &'a [u16],
+    pub(crate) tokens: &'a [u32],
+    pub(crate) reading: Reading,
+}
+
 // The outcome of a node in a mode from a state.
 #[cycle(expression_first_rule)]
 pub(crate) fn expression(
-    nodes: &[u16],
-    rules: &[u16],
-    tokens: &[u32],
+    input: &Input,
     list: &mut [u32],
     memory: &mut [u32],
-    reading: Reading,
     mut mode: u16,
     mut node: u16,
     counts: &mut Counts,
     mut s: State,
 ) -> Outcome
-    requires ready { Ready nodes.now rules.now tokens.now node s }
-    requires room { Room (weight nodes.now rules.now tokens.now node s) counts.old list.old }
-    requires remembering { Remembering reading nodes.now rules.now tokens.now memory.old }
-    ensures walked { Walked reading nodes.now rules.now tokens.now mode
-        (form nodes.now node) s counts.old list.old result
+    requires ready { Ready input.now.nodes.now input.now.rules.now input.now.tokens.now node s }
+    requires room { Room (weight input.now.nodes.now input.now.rules.now input.now.tokens.now node s) counts.old list.old }
+    requires remembering { Remembering input.now.reading input.now.nodes.now input.now.rules.now input.now.tokens.now memory.old }
+    ensures walked { Walked input.now.reading input.now.nodes.now input.now.rules.now input.now.tokens.now mode
+        (form input.now.nodes.now node) s counts.old list.old result
         counts.new list.new }
-    ensures remembering_2 { Remembering reading nodes.now rules.now tokens.now memory.new }
+    ensures remembering_2 { Remembering input.now.reading input.now.nodes.now input.now.rules.now input.now.tokens.now memory.new }
 {
     loop {
         let at = (node as usize) * 4;
-        let Ok(kind) = Kind::try_from(nodes[at]) else {
+        let Ok(kind) = Kind::try_from(input.nodes[at]) else {
             unreachable!()
         };
-        let a = nodes[at + 1];
-        let b = nodes[at + 2];
-        let r = nodes[at + 3];
+        let a = input.nodes[at + 1];
+        let b = input.nodes[at + 2];
+        let r = input.nodes[at + 3];
         match kind {
             Kind::Empty => return Outcome::Success(s),
             Kind::Rule => {
                 let again = anew(s);
-                return rule(
-                    nodes, rules, tokens, list, memory, reading, mode, a, counts, again,
-                );
+                return rule(input, list, memory, mode, a, counts, again);
             }
             Kind::Position => {
                 mode = r;
@@ -68,9 +73,7 @@ pub(crate) fn expression(
             }
             _ => {
                 let c = first_node(kind, node, a);
-                let x = first(
-                    nodes, rules, tokens, list, memory, reading, mode, c, counts, kind, r, s,
-                );
+                let x = first(input, list, memory, mode, c, counts, kind, r, s);
                 match x {
                     Outcome::Failure(farthest) => {
                         let back = failed(s, farthest);
@@ -100,12 +103,12 @@ pub(crate) fn expression(
                                 s = u; // the next round
                             }
                             Kind::Indent => {
-                                let q = in_force(reading, s.flag, r);
+                                let q = in_force(input.reading, s.flag, r);
                                 let v = left(q, s, u);
                                 return Outcome::Success(v);
                             }
                             _ => {
-                                let v = aligned(reading, s, u);
+                                let v = aligned(input.reading, s, u);
                                 return Outcome::Success(v);
                             }
                         }
@@ -131,12 +134,9 @@ fn first_node(kind: Kind, node: u16, a: u16) -> u16
 // that an outcome is kept for is made anew behind the call, since to hold it over the call would take stack and time.
 #[cycle(expression_first_rule)]
 fn first(
-    nodes: &[u16],
-    rules: &[u16],
-    tokens: &[u32],
+    input: &Input,
     list: &mut [u32],
     memory: &mut [u32],
-    reading: Reading,
     mode: u16,
     node: u16,
     counts: &mut Counts,
@@ -144,21 +144,21 @@ fn first(
     r: u16,
     s: State,
 ) -> Outcome
-    requires ready_first { ReadyFirst reading nodes.now rules.now tokens.now node kind r s }
-    requires room { Room (weight nodes.now rules.now tokens.now node (child_state reading kind r s)) counts.old list.old }
-    requires remembering { Remembering reading nodes.now rules.now tokens.now memory.old }
-    ensures walked_first { WalkedFirst kind reading nodes.now rules.now tokens.now mode
-        (form nodes.now node) (child_state reading kind r s) counts.old list.old result
+    requires ready_first { ReadyFirst input.now.reading input.now.nodes.now input.now.rules.now input.now.tokens.now node kind r s }
+    requires room { Room (weight input.now.nodes.now input.now.rules.now input.now.tokens.now node (child_state input.now.reading kind r s)) counts.old list.old }
+    requires remembering { Remembering input.now.reading input.now.nodes.now input.now.rules.now input.now.tokens.now memory.old }
+    ensures walked_first { WalkedFirst kind input.now.reading input.now.nodes.now input.now.rules.now input.now.tokens.now mode
+        (form input.now.nodes.now node) (child_state input.now.reading kind r s) counts.old list.old result
         counts.new list.new }
-    ensures remembering_2 { Remembering reading nodes.now rules.now tokens.now memory.new }
+    ensures remembering_2 { Remembering input.now.reading input.now.nodes.now input.now.rules.now input.now.tokens.now memory.new }
 {
     let at = (node as usize) * 4;
-    let Ok(own_kind) = Kind::try_from(nodes[at]) else {
+    let Ok(own_kind) = Kind::try_from(input.nodes[at]) else {
         unreachable!()
     };
-    let here = entered(reading, kind, r, s);
+    let here = entered(input.reading, kind, r, s);
     if let Kind::Terminal = own_kind {
-        return token(tokens, nodes[at + 1], mode, here);
+        return token(input.tokens, input.nodes[at + 1], mode, here);
     }
     let inside = untried(here);
     let count = counts.so_far;
@@ -167,11 +167,9 @@ fn first(
         return joined(here.farthest, x);
     }
     hush(counts, kind as u16);
-    let y = expression(
-        nodes, rules, tokens, list, memory, reading, mode, node, counts, inside,
-    );
+    let y = expression(input, list, memory, mode, node, counts, inside);
     if remembers {
-        let there = entered(reading, kind, r, s);
+        let there = entered(input.reading, kind, r, s);
         remember(memory, kind, node, mode, there, count, y);
     }
     let x = joined(here.farthest, y);
@@ -184,26 +182,23 @@ fn first(
 // The outcome of a rule: that of its node. Its place in the list comes before those inside it.
 #[cycle(expression_first_rule)]
 fn rule(
-    nodes: &[u16],
-    rules: &[u16],
-    tokens: &[u32],
+    input: &Input,
     list: &mut [u32],
     memory: &mut [u32],
-    reading: Reading,
     mode: u16,
     x: u16,
     counts: &mut Counts,
     s: State,
 ) -> Outcome
-    requires ready_rule { ReadyRule nodes.now rules.now tokens.now x s }
-    requires room { Room (weight nodes.now rules.now tokens.now (stands_for rules.now x) s + 1) counts.old list.old }
-    requires remembering { Remembering reading nodes.now rules.now tokens.now memory.old }
-    ensures walked { Walked reading nodes.now rules.now tokens.now mode (rule_form x) s
+    requires ready_rule { ReadyRule input.now.nodes.now input.now.rules.now input.now.tokens.now x s }
+    requires room { Room (weight input.now.nodes.now input.now.rules.now input.now.tokens.now (stands_for input.now.rules.now x) s + 1) counts.old list.old }
+    requires remembering { Remembering input.now.reading input.now.nodes.now input.now.rules.now input.now.tokens.now memory.old }
+    ensures walked { Walked input.now.reading input.now.nodes.now input.now.rules.now input.now.tokens.now mode (rule_form x) s
         counts.old list.old result counts.new list.new }
-    ensures remembering_2 { Remembering reading nodes.now rules.now tokens.now memory.new }
+    ensures remembering_2 { Remembering input.now.reading input.now.nodes.now input.now.rules.now input.now.tokens.now memory.new }
 {
     let i = x as usize;
-    let node = rules[i];
+    let node = input.rules[i];
     let first = s.place;
     let Counts { around, so_far: n } = *counts;
     let inside = around + 1;
@@ -211,9 +206,7 @@ fn rule(
         around: inside,
         so_far: more(n),
     };
-    let o = expression(
-        nodes, rules, tokens, list, memory, reading, mode, node, counts, s,
-    );
+    let o = expression(input, list, memory, mode, node, counts, s);
     counts.around = around;
     match o {
         Outcome::Failure(farthest) => Outcome::Failure(farthest),

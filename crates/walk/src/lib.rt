@@ -16,7 +16,7 @@ ghost use Rattle.walk.specs.InternalRun.{Admitted, Admits, Counted, WholeWalkFro
 
 use capture_list::{Counts, MOST, clear};
 use columns::{Outcome, Reading, Start, State};
-use cycle::expression;
+use cycle::{Input, expression};
 use run_limits::{reading_wrong, start_wrong, tokens_wrong};
 use table::Refusal;
 
@@ -40,12 +40,16 @@ pub fn run(
     ensures memory_after { memory.new
         ≡ memory_after reading nodes.now rules.now tokens.now start memory.old }
 {
-    admitted(nodes, rules, tokens, start, reading)?;
+    let input = Input {
+        nodes,
+        rules,
+        tokens,
+        reading,
+    };
+    admitted(&input, start)?;
     let mut none = [0u32; 1];
     clear(memory, 0); // whatever it held
-    let walk = walk_once(
-        nodes, rules, tokens, &mut none, memory, reading, start, MOST,
-    );
+    let walk = walk_once(&input, &mut none, memory, start, MOST);
     clear(memory, 0); // whatever was remembered
     Ok(walk.outcome)
 }
@@ -68,12 +72,18 @@ pub fn list(
     ensures memory_after { memory.new
         ≡ memory_after reading nodes.now rules.now tokens.now start memory.old }
 {
-    admitted(nodes, rules, tokens, start, reading)?;
+    let input = Input {
+        nodes,
+        rules,
+        tokens,
+        reading,
+    };
+    admitted(&input, start)?;
     let mut none = [0u32; 1];
     clear(memory, 0);
-    let walk = walk_once(nodes, rules, tokens, &mut none, memory, reading, start, 0);
+    let walk = walk_once(&input, &mut none, memory, start, 0);
     let count = walk.captures;
-    write_list(nodes, rules, tokens, start, reading, count, list, memory);
+    write_list(&input, start, count, list, memory);
     clear(memory, 0);
     Ok(walk)
 }
@@ -96,44 +106,29 @@ pub fn from_start(
 }
 
 // Whether a run may begin: the first of 3, 4, 5, 7, 11, 12 and 16 that fails, or none.
-fn admitted(
-    nodes: &[u16],
-    rules: &[u16],
-    tokens: &[u32],
-    start: Start,
-    reading: Reading,
-) -> Result<(), Refusal>
-    ensures { Admits reading nodes.now rules.now tokens.now start result }
+fn admitted(input: &Input, start: Start) -> Result<(), Refusal>
+    ensures { Admits input.now.reading input.now.nodes.now input.now.rules.now input.now.tokens.now start result }
 {
-    well_formed::check(nodes, rules)?;
-    if tokens_wrong(tokens) {
+    well_formed::check(input.nodes, input.rules)?;
+    if tokens_wrong(input.tokens) {
         return Err(Refusal::Tokens);
     }
-    if start_wrong(nodes, tokens, start) {
+    if start_wrong(input.nodes, input.tokens, start) {
         return Err(Refusal::Start);
     }
-    if reading_wrong(nodes, start, reading) {
+    if reading_wrong(input.nodes, start, input.reading) {
         return Err(Refusal::Reading);
     }
     Ok(())
 }
 
 // Writes the list of so many captures where they fit: by another walk, unless there are none.
-fn write_list(
-    nodes: &[u16],
-    rules: &[u16],
-    tokens: &[u32],
-    start: Start,
-    reading: Reading,
-    count: usize,
-    list: &mut [u32],
-    memory: &mut [u32],
-)
-    requires admitted { Admitted reading nodes.now rules.now tokens.now start }
-    requires counted { Counted reading nodes.now rules.now tokens.now start count }
-    requires remembering { Remembering reading nodes.now rules.now tokens.now memory.old }
+fn write_list(input: &Input, start: Start, count: usize, list: &mut [u32], memory: &mut [u32])
+    requires admitted { Admitted input.now.reading input.now.nodes.now input.now.rules.now input.now.tokens.now start }
+    requires counted { Counted input.now.reading input.now.nodes.now input.now.rules.now input.now.tokens.now start count }
+    requires remembering { Remembering input.now.reading input.now.nodes.now input.now.rules.now input.now.tokens.now memory.old }
     ensures { list.new
-        ≡ walk_after reading nodes.now rules.now tokens.now start list.old }
+        ≡ walk_after input.now.reading input.now.nodes.now input.now.rules.now input.now.tokens.now start list.old }
 {
     if list.len() / 4 < count {
         return;
@@ -142,27 +137,24 @@ fn write_list(
         clear(list, 0);
         return;
     }
-    walk_once(nodes, rules, tokens, list, memory, reading, start, 0);
+    walk_once(input, list, memory, start, 0);
     clear(list, count * 4);
 }
 
 // A whole walk from a start that is admitted, with a list that is empty; with a count that has stopped nothing is listed.
 fn walk_once(
-    nodes: &[u16],
-    rules: &[u16],
-    tokens: &[u32],
+    input: &Input,
     list: &mut [u32],
     memory: &mut [u32],
-    reading: Reading,
     start: Start,
     counted: usize,
 ) -> Walk
-    requires admitted { Admitted reading nodes.now rules.now tokens.now start }
+    requires admitted { Admitted input.now.reading input.now.nodes.now input.now.rules.now input.now.tokens.now start }
     requires counted_le_most_count { counted ≤ most_count }
-    requires remembering { Remembering reading nodes.now rules.now tokens.now memory.old }
-    ensures whole_walk { WholeWalkFrom reading nodes.now rules.now tokens.now start counted list.old result
+    requires remembering { Remembering input.now.reading input.now.nodes.now input.now.rules.now input.now.tokens.now memory.old }
+    ensures whole_walk { WholeWalkFrom input.now.reading input.now.nodes.now input.now.rules.now input.now.tokens.now start counted list.old result
         list.new }
-    ensures remembering_2 { Remembering reading nodes.now rules.now tokens.now memory.new }
+    ensures remembering_2 { Remembering input.now.reading input.now.nodes.now input.now.rules.now input.now.tokens.now memory.new }
 {
     let s = State {
         place: start.place,
@@ -174,18 +166,7 @@ fn walk_once(
         around: 0,
         so_far: counted,
     };
-    let x = expression(
-        nodes,
-        rules,
-        tokens,
-        list,
-        memory,
-        reading,
-        start.mode,
-        start.node,
-        &mut counts,
-        s,
-    );
+    let x = expression(input, list, memory, start.mode, start.node, &mut counts, s);
     match x {
         Outcome::Failure(farthest) => Walk {
             outcome: Outcome::Failure(farthest),
