@@ -1,7 +1,13 @@
 -- Spellings one by one, and what it means that two are the same.
-use Prim.Native.Nat.{ℕ, zero, suc, ◌<◌}
+use Rattle.std.specs.Prelude.{Option, None, Some, slice_get}
+use Rattle.std.specs.Option.{option_copied, option_eq}
+use Rattle.std.specs.Cmp.Lexicographic.{pointwise}
+use Rattle.std.proofs.lemmas.Bool.Decides.{Decides-eqb, same_from_decides}
+use Rattle.std.proofs.lemmas.Slice.Eq.{slice_eq-Decides}
+use denote.Ref.{Bor}
+use Prim.Native.Nat.{◌-◌, ℕ, zero, suc, ◌<◌}
 use mathlib.Core.Path.{◌≡◌, refl, sym, ap, ap₂, ◌∙◌}
-use mathlib.Core.Bool.{Bool, true, false, ◌&&◌}
+use mathlib.Core.Bool.{Bool, true, false, ◌&&◌, false≢true}
 use mathlib.Core.List.{List, []}
 use mathlib.Core.Logic.{◌↔◌}
 use native.Mathlib.Omega.{arith}
@@ -41,6 +47,27 @@ same_self s =
 -- Two spellings that are the same byte for byte are equal, and equal ones are the same.
 pub same_exactly : (s t : List ℕ) → (same_bytes s t ≡ true) ↔ (s ≡ t)
 same_exactly s t = (same_equal s t, λ e. rw e (same_self t))
+
+-- What slices are compared by.
+pub pointwise_same : (s t : List ℕ) → pointwise eqb s t ≡ same_bytes s t
+pointwise_same s t = same_from_decides _ _ (slice_eq-Decides Decides-eqb s t _ refl) (same_exactly s t)
+
+-- Values that are there alike are the same.
+copied_same : (x y : Option (Bor ℕ)) → option_copied x ≡ option_copied y → option_eq (λ a b. eqb a.now b.now) x y ≡ true
+copied_same None None e = refl
+copied_same None (Some b) e = absurd (let z : ◌≡◌ {A = ℕ} 0 1 = cc in omega arith)
+copied_same (Some a) None e = absurd (let z : ◌≡◌ {A = ℕ} 0 1 = cc in omega arith)
+copied_same (Some a) (Some b) e = eq-eqb _ _ cc
+
+-- Two spellings with different last bytes are not the same.
+pub last_apart : (s t : List ℕ) (x y : Option (Bor ℕ)) → option_copied x ≡ slice_get s (length s - 1) → option_copied y ≡ slice_get t (length t - 1)
+    → option_eq (λ a b. eqb a.now b.now) x y ≡ false → false ≡ same_bytes s t
+last_apart s t x y p q n = by_test (same_bytes s t) refl
+  where
+    by_test : (b : Bool) → same_bytes s t ≡ b → false ≡ b
+    by_test false e = refl
+    by_test true e =
+        absurd (false≢true (sym n ∙ copied_same x y (p ∙ ap (λ (l : List ℕ). slice_get l (length l - 1)) (same_equal s t e) ∙ sym q)))
 
 module _ (file : List ℕ) (first count skip : ℕ) where
   -- The spelling of a field, by its offset.

@@ -1,8 +1,7 @@
 -- `spellings::same` meets its contract.
-use Rattle.std.proofs.lemmas.Bool.Decides.{Decides-eqb, same_from_decides}
-use Rattle.std.proofs.lemmas.Slice.Eq.{slice_eq-Decides}
-use Rattle.spellings.proofs.SpellingLaws.{same_exactly}
+use Rattle.std.proofs.Common.{sym, ◌∙◌}
+use Rattle.spellings.proofs.SpellingLaws.{last_apart}
 use Rattle.spellings.proofs.same.Goals as goal
 
-pub returns : goal.returns
-returns c = same_from_decides _ _ (slice_eq-Decides Decides-eqb _ _ _ c.eq.ensures) (same_exactly c.args.s.now c.args.t.now)
+pub returns-else-eq : goal.returns-else-eq
+returns-else-eq c = c.if-eq.false ∙ last_apart _ _ _ _ c.last.ensures.value c.last-2.ensures.value (sym c.eq.ensures ∙ c.if-eq.false)
