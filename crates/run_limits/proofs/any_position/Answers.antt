@@ -8,4 +8,4 @@ use Rattle.run_limits.proofs.any_position.Goals as goal
 pub returns-then-eq : goal.returns-then-eq
 returns-then-eq c =
     let k : kind_of c.args.nodes.now c.loop-n.n ≡ 8 = grind arith in
-    sym (ap not (every_fails (length c.args.nodes.now / 4) (no_position c.args.nodes.now) c.loop-n.n c.loop-n-test.true (ap not (eq-eqb _ _ k))))
+    sym (ap not (every_fails (length c.args.nodes.now / 4) (no_position c.args.nodes.now) c.loop-n.n (omega arith) (ap not (eq-eqb _ _ k))))
