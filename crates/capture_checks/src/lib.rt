@@ -6,8 +6,8 @@ ghost use Rattle.capture_checks.specs.Fourteen.{token_offset, token_end, offsets
 
 use columns::Capture;
 
-#[tactic(auto, unfolding(crate::specs::Fourteen::fails14))]
 // Number 14, for a file of so many rules and a report of so many bytes.
+#[tactic(auto, unfolding(crate::specs::Fourteen::fails14))]
 pub fn capture_wrong(rules: usize, bytes: usize, tokens: &[u32], capture: Capture) -> bool
     ensures { result ≡ fails14 rules bytes tokens.now capture }
 {
@@ -18,8 +18,8 @@ pub fn capture_wrong(rules: usize, bytes: usize, tokens: &[u32], capture: Captur
         || capture.first < capture.after && token_end(tokens, capture.after - 1) > bytes
 }
 
-#[tactic(auto, using(table::proofs::Every::every_more, table::proofs::Every::every_fails), unfolding(crate::specs::Fourteen::offsets_fall, table::specs::Every::every))]
 // Whether, among the tokens from one place to before another, one has a lower offset than the one before it.
+#[tactic(auto, using(table::proofs::Every::every_more, table::proofs::Every::every_fails), unfolding(crate::specs::Fourteen::offsets_fall, table::specs::Every::every))]
 fn offsets_fall(tokens: &[u32], first: u32, after: u32) -> bool
     ensures { result ≡ offsets_fall tokens.now first after }
 {

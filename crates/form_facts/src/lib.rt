@@ -16,8 +16,8 @@ pub struct Facts {
     pub fails: bool,
 }
 
-#[tactic(auto, unfolding(crate::specs::Rules::gives))]
 // A form's facts from those of its children.
+#[tactic(auto, unfolding(crate::specs::Rules::gives))]
 pub fn facts_by_form(kind: u16, a: Facts, b: Facts) -> Facts
     ensures { (x : Fact)
         → fact_of result x ≡ gives (0 ∷ []) (λ (y : Fact). two (fact_of a y) (fact_of b y)) (decode kind 0 1 0) x }
@@ -50,8 +50,8 @@ pub fn facts_by_form(kind: u16, a: Facts, b: Facts) -> Facts
     }
 }
 
-#[tactic(auto, unfolding(crate::specs::Rules::passes))]
 // Whether a form is well formed: from whether a is, whether it may succeed reading nothing, and whether b is.
+#[tactic(auto, unfolding(crate::specs::Rules::passes))]
 pub fn well_by_form(kind: u16, a: bool, nothing: bool, b: bool) -> bool
     ensures { result ≡ passes (0 ∷ []) (λ (n : ℕ). nothing) (two a b) (decode kind 0 1 0) }
 {
@@ -65,8 +65,8 @@ pub fn well_by_form(kind: u16, a: bool, nothing: bool, b: bool) -> bool
     }
 }
 
-#[tactic(auto, unfolding(crate::specs::Rules::gives))]
 // The facts of a sequence.
+#[tactic(auto, unfolding(crate::specs::Rules::gives))]
 fn sequence(a: Facts, b: Facts) -> Facts
     ensures { (x : Fact)
         → fact_of result x ≡ gives (0 ∷ []) (λ (y : Fact). two (fact_of a y) (fact_of b y)) (sequence-form 0 1) x }
@@ -80,8 +80,8 @@ fn sequence(a: Facts, b: Facts) -> Facts
     }
 }
 
-#[tactic(auto, unfolding(crate::specs::Rules::gives))]
 // The facts of an ordered choice.
+#[tactic(auto, unfolding(crate::specs::Rules::gives))]
 fn choice(a: Facts, b: Facts) -> Facts
     ensures { (x : Fact)
         → fact_of result x ≡ gives (0 ∷ []) (λ (y : Fact). two (fact_of a y) (fact_of b y)) (choice-form 0 1) x }

@@ -12,9 +12,9 @@ use columns::{Interval, Outcome, State, Upper};
 // struct for a node, a mode and a state would be made at each call and taken apart in each function, so it is no plainer.
 pub const SLOT: usize = 12;
 
-#[tactic(auto, unfolding(crate::specs::Memory::recalled))]
 // The outcome that is kept for a node in a mode from a state, whatever the state's farthest place. Its own farthest place is
 // that of what was tried inside.
+#[tactic(auto, unfolding(crate::specs::Memory::recalled))]
 pub fn look(memory: &[u32], node: u16, mode: u16, s: State) -> Option<Outcome>
     ensures { result ≡ recalled memory.now node mode s.place s.interval s.flag }
 {
@@ -29,8 +29,8 @@ pub fn look(memory: &[u32], node: u16, mode: u16, s: State) -> Option<Outcome>
     }
 }
 
-#[tactic(auto, using(crate::proofs::SlotLaws::length_put, crate::proofs::SlotLaws::kept_in), unfolding(crate::specs::Memory::kept))]
 // Keeps an outcome of a node in a mode from a state.
+#[tactic(auto, using(crate::proofs::SlotLaws::length_put, crate::proofs::SlotLaws::kept_in), unfolding(crate::specs::Memory::kept))]
 pub fn keep(memory: &mut [u32], node: u16, mode: u16, s: State, x: Outcome)
     ensures { memory.new ≡ kept memory.old node mode s.place s.interval s.flag x }
 {
@@ -42,8 +42,8 @@ pub fn keep(memory: &mut [u32], node: u16, mode: u16, s: State, x: Outcome)
     put_outcome(memory, i, x);
 }
 
-#[tactic(auto, using(crate::proofs::SlotLaws::slot_fits, crate::proofs::SlotLaws::in_list), unfolding(crate::specs::Memory::slot_of))]
 // Where the slot for a node in a mode from a state begins.
+#[tactic(auto, using(crate::proofs::SlotLaws::slot_fits, crate::proofs::SlotLaws::in_list), unfolding(crate::specs::Memory::slot_of))]
 fn slot(memory: &[u32], node: u16, mode: u16, s: State) -> usize
     requires { slot_length ≤ length memory.now }
     ensures slot { result ≡ slot_of memory.now node mode s.place s.interval s.flag }
@@ -81,8 +81,8 @@ fn marks_of(flag: bool, h: Upper) -> u32
     }
 }
 
-#[tactic(auto, unfolding(crate::specs::Memory::kept_for, crate::specs::Memory::has_words))]
 // Whether a slot is kept for a node in a mode from a state.
+#[tactic(auto, unfolding(crate::specs::Memory::kept_for, crate::specs::Memory::has_words))]
 fn kept_for(memory: &[u32], i: usize, node: u16, mode: u16, s: State) -> bool
     requires { i + slot_length ≤ length memory.now }
     ensures { result ≡ kept_for memory.now i node mode s.place s.interval s.flag }
@@ -97,8 +97,8 @@ fn kept_for(memory: &[u32], i: usize, node: u16, mode: u16, s: State) -> bool
         && memory[i + 5] == end_word(h)
 }
 
-#[tactic(auto, unfolding(crate::specs::Memory::outcome_at))]
 // The outcome in a slot: 0 for nothing, 1 for a failure, else a success.
+#[tactic(auto, unfolding(crate::specs::Memory::outcome_at))]
 fn outcome_at(memory: &[u32], i: usize) -> Option<Outcome>
     requires { i + slot_length ≤ length memory.now }
     ensures { result ≡ outcome_at memory.now i }
@@ -133,8 +133,8 @@ fn upper_from(marks: u32, word: u32) -> Upper
     }
 }
 
-#[tactic(auto, unfolding(crate::specs::Memory::put_words))]
 // Writes what an outcome hangs on.
+#[tactic(auto, unfolding(crate::specs::Memory::put_words))]
 fn put_key(memory: &mut [u32], i: usize, node: u16, mode: u16, s: State)
     requires { i + slot_length ≤ length memory.old }
     ensures { memory.new ≡ put_words memory.old i (key_words node mode s.place s.interval s.flag) }
@@ -149,8 +149,8 @@ fn put_key(memory: &mut [u32], i: usize, node: u16, mode: u16, s: State)
     memory[i + 5] = end_word(h);
 }
 
-#[tactic(auto, unfolding(crate::specs::Memory::put_words))]
 // Writes an outcome behind what it hangs on.
+#[tactic(auto, unfolding(crate::specs::Memory::put_words))]
 fn put_outcome(memory: &mut [u32], i: usize, x: Outcome)
     requires { i + slot_length ≤ length memory.old }
     ensures { memory.new ≡ put_words memory.old (i + 6) (outcome_words x) }

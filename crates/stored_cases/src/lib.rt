@@ -131,8 +131,8 @@ pub fn pair(bytes: &[u8], at: usize) -> usize
     u16::read(bytes, at) as usize
 }
 
-#[tactic(auto, unfolding(crate::specs::Numbers::triple_at, crate::specs::Numbers::pair_at))]
 // The number of three bytes at an index.
+#[tactic(auto, unfolding(crate::specs::Numbers::triple_at, crate::specs::Numbers::pair_at))]
 pub fn triple(bytes: &[u8], at: usize) -> usize
     ensures { (result ≡ triple_at bytes.now at) × (result < 16777216) }
 {
@@ -219,9 +219,9 @@ fn room_of(bytes: &[u8], from: usize, end: usize) -> usize
     end.min(bytes.len()).saturating_sub(from)
 }
 
-#[tactic(auto, using(crate::proofs::Laws::filled))]
 // Sets the bytes from one index to before another to those of the cases from `at` on, as far as there are both. The
 // answer is where the bytes taken end.
+#[tactic(auto, using(crate::proofs::Laws::filled))]
 pub fn fill(cases: &[u8], at: usize, bytes: &mut [u8], from: usize, end: usize) -> usize
     ensures value { result ≡ past cases.now at (room bytes.old from end) }
     ensures bytes_after { bytes.new ≡ filled_by cases.now at bytes.old from end }
@@ -231,9 +231,9 @@ pub fn fill(cases: &[u8], at: usize, bytes: &mut [u8], from: usize, end: usize) 
     at + taken.len()
 }
 
-#[tactic(auto, using(crate::proofs::Laws::repeating_all, crate::proofs::Laws::repeating_more), unfolding(crate::specs::Parts::repeated))]
 // Sets each byte from one index to before another to the one at the distance before it, one after the other; none where
 // the distance leads before the start.
+#[tactic(auto, using(crate::proofs::Laws::repeating_all, crate::proofs::Laws::repeating_more), unfolding(crate::specs::Parts::repeated))]
 fn repeat(bytes: &mut [u8], from: usize, end: usize, distance: usize)
     ensures { bytes.new ≡ repeated bytes.old from end distance }
 {
@@ -245,8 +245,8 @@ fn repeat(bytes: &mut [u8], from: usize, end: usize, distance: usize)
     }
 }
 
-#[tactic(auto, unfolding(crate::specs::Parts::stored_bytes, crate::specs::Parts::stored_end))]
 // Puts a part together by five numbers of three bytes. The answer is where its bytes end.
+#[tactic(auto, unfolding(crate::specs::Parts::stored_bytes, crate::specs::Parts::stored_end))]
 pub fn stored(cases: &[u8], at: usize, five: &[u8], bytes: &mut [u8]) -> usize
     ensures value { result ≡ stored_end cases.now at five.now bytes.old }
     ensures bytes_after { bytes.new ≡ stored_bytes cases.now at five.now bytes.old }

@@ -29,8 +29,8 @@ pub const TOKENS: usize = 4096;
 
 pub const LAST_COLUMN: u32 = 65535;
 
-#[tactic(auto, unfolding(crate::specs::Checks::table_answer))]
 // Whether node words and rules are a table, or the first of 3, 4 and 5 that fails.
+#[tactic(auto, unfolding(crate::specs::Checks::table_answer))]
 pub fn check(nodes: &[u16], rules: &[u16]) -> Result<(), Refusal>
     ensures { numbers result ≡ table_answer nodes.now rules.now }
 {
@@ -46,8 +46,8 @@ pub fn check(nodes: &[u16], rules: &[u16]) -> Result<(), Refusal>
     Ok(())
 }
 
-#[tactic(auto, unfolding(crate::specs::Checks::fails3))]
 // Number 3: node words no multiple of 4, or a count outside the limits.
+#[tactic(auto, unfolding(crate::specs::Checks::fails3))]
 fn counts_wrong(nodes: &[u16], rules: &[u16]) -> bool
     ensures { result ≡ fails3 nodes.now rules.now }
 {
@@ -55,8 +55,8 @@ fn counts_wrong(nodes: &[u16], rules: &[u16]) -> bool
     nodes.len() % 4 != 0 || count < 1 || count > NODES || rules.len() > RULES
 }
 
-#[tactic(auto, using(crate::proofs::Every::every_more, crate::proofs::Every::every_fails), unfolding(crate::specs::Checks::fails4, crate::specs::Every::every))]
 // Number 4: some node's words are not right.
+#[tactic(auto, using(crate::proofs::Every::every_more, crate::proofs::Every::every_fails), unfolding(crate::specs::Checks::fails4, crate::specs::Every::every))]
 fn node_wrong(nodes: &[u16], rules: &[u16]) -> bool
     ensures { result ≡ fails4 nodes.now rules.now }
 {
@@ -76,8 +76,8 @@ fn node_wrong(nodes: &[u16], rules: &[u16]) -> bool
     false
 }
 
-#[tactic(auto, unfolding(crate::specs::Checks::right_words))]
 // Number 4, for node n: a kind's own words are in range, and the others are 0.
+#[tactic(auto, unfolding(crate::specs::Checks::right_words))]
 fn words_right(rules: usize, n: usize, kind: u16, a: u16, b: u16, relation: u16) -> bool
     ensures { result ≡ right_words rules n kind a b relation }
 {
@@ -98,8 +98,8 @@ fn words_right(rules: usize, n: usize, kind: u16, a: u16, b: u16, relation: u16)
     }
 }
 
-#[tactic(auto, using(crate::proofs::Every::every_more, crate::proofs::Every::every_fails), unfolding(crate::specs::Checks::fails5, crate::specs::Every::every))]
 // Number 5: some rule's node is not in the table.
+#[tactic(auto, using(crate::proofs::Every::every_more, crate::proofs::Every::every_fails), unfolding(crate::specs::Checks::fails5, crate::specs::Every::every))]
 fn rule_wrong(nodes: &[u16], rules: &[u16]) -> bool
     ensures { result ≡ fails5 nodes.now rules.now }
 {
