@@ -8,7 +8,7 @@
 #![tactic(auto)]
 
 use columns::{Interval, Reading, Start, Upper};
-use interpreter::Listed;
+use interpreter::Ran;
 use stored_cases::{NODE_WORDS, RULE_WORDS, TOKEN_WORDS, load, pair, part, zeros};
 
 fn main(rt: HostRuntime) {
@@ -67,10 +67,9 @@ fn list_in(
 ) {
     load(nodes, first);
     load(rules, second);
-    let listed = interpreter::list(first, second, tokens, start, reading, captures);
-    match listed {
-        Listed::Success(_, _, count) => {
-            stored_cases::show_one(b"captures", count as u64);
+    match interpreter::list(first, second, tokens, start, reading, captures) {
+        Ok(listed) if matches!(listed.ran, Ran::Success(..)) => {
+            stored_cases::show_one(b"captures", listed.captures as u64);
         }
         _ => {
             io::write_all(1, b"no list");

@@ -11,20 +11,12 @@
 //   a  read the lending file and write what was read, with itself lending
 #![tactic(auto)]
 
-use grammar_file::FileRead;
-use grammar_writer::FileWritten;
 use slices::filled;
 use stored_cases::{
-    CASES, MOST_RECORDS, NODE_WORDS, PART, RULE_WORDS, byte, label, load, pair, part, show_either,
+    CASES, MOST_RECORDS, NODE_WORDS, PART, RULE_WORDS, label, load, pair, part, show_either,
     show_one, stored, triple, zeros,
 };
-
-// The kinds of calls.
-const WRITE: usize = b'w' as usize;
-
-const WRITE_BYTES: usize = b'W' as usize;
-
-const AGAIN: usize = b'a' as usize;
+use table::Refusal;
 
 // What every lent byte holds before a call.
 const MARKER: u8 = 238;
@@ -41,13 +33,11 @@ fn main(rt: HostRuntime) {
 // Goes through the records.
 fn records(cases: &[u8], file: &mut [u8], words: &mut [u8], out: &mut [u8]) {
     let mut at = 0;
-    let mut left = MOST_RECORDS;
-    while left > 0 {
+    for _ in 0..MOST_RECORDS {
         if at >= cases.len() {
             return;
         }
         at = record(cases, at, file, words, out);
-        left -= 1;
     }
 }
 
@@ -71,10 +61,10 @@ fn record(cases: &[u8], at: usize, file: &mut [u8], words: &mut [u8], out: &mut 
 // Makes the call that a header tells of, with these bytes lent, and prints its answer.
 fn call(header: &[u8], lending: &[u8], words: &[u8], out: &mut [u8]) {
     out.fill(MARKER);
-    match byte(header, 0) {
-        WRITE => lend(header, lending, words, out, false),
-        WRITE_BYTES => lend(header, lending, words, out, true),
-        AGAIN => again(lending, out),
+    match header.first() {
+        Some(b'w') => lend(header, lending, words, out, false),
+        Some(b'W') => lend(header, lending, words, out, true),
+        Some(b'a') => again(lending, out),
         _ => {
             io::write_all(1, b"no such call");
         }
@@ -117,20 +107,20 @@ fn write_in(
 }
 
 // Prints how many bytes were written, these or a sum of them, or the refusal, and whether the other bytes are as before.
-fn show_written(answer: FileWritten, out: &[u8], whole: bool) {
+fn show_written(answer: Result<usize, Refusal>, out: &[u8], whole: bool) {
     match answer {
-        FileWritten::Bytes(n) => {
+        Ok(n) => {
             show_one(b"written", n as u64);
             show_bytes(part(out, 0, n), whole);
             show_kept(out, n);
         }
-        FileWritten::Refused(number) => show_refused(number, out),
+        Err(refusal) => show_refused(refusal, out),
     }
 }
 
 // Prints the number of a refusal, and whether every byte is as before.
-fn show_refused(number: u8, out: &[u8]) {
-    show_one(b"refused", number as u64);
+fn show_refused(refusal: Refusal, out: &[u8]) {
+    show_one(b"refused", refusal.number() as u64);
     show_kept(out, 0);
 }
 
@@ -153,62 +143,53 @@ fn show_bytes(bytes: &[u8], whole: bool) {
 fn again(file: &[u8], out: &mut [u8]) {
     let mut nodes = [0u16; 2048];
     let mut rules = [0u16; 128];
-    let answer = grammar_file::read(file, &mut nodes, &mut rules);
-    match answer {
-        FileRead::Read {
-            nodes: n,
-            rules: r,
-            keywords,
-            start,
-            mode,
-        } => {
-            let x = n.min(512) * 4;
-            let y = r.min(128);
-            write_again(file, &nodes[0..x], &rules[0..y], start, mode, out);
+    match grammar_file::read(file, &mut nodes, &mut rules) {
+        Ok(contents) => {
+            let x = contents.nodes.min(512) * 4;
+            let y = contents.rules.min(128);
+            write_again(
+                file,
+                &nodes[0..x],
+                &rules[0..y],
+                contents.start,
+                contents.mode,
+                out,
+            );
         }
-        FileRead::Refused(number) => show_refused(number, out),
+        Err(refusal) => show_refused(refusal, out),
     }
 }
 
 // Writes what was read of a file, and prints whether the same bytes came out.
 fn write_again(file: &[u8], nodes: &[u16], rules: &[u16], start: u16, mode: u16, out: &mut [u8]) {
-    let answer = grammar_writer::write(file, nodes, rules, start, mode, out);
-    match answer {
-        FileWritten::Bytes(n) => {
+    match grammar_writer::write(file, nodes, rules, start, mode, out) {
+        Ok(n) => {
             show_one(b"again", n as u64);
-            show_either(
-                check::same(part(out, 0, n), file),
-                b" | same",
-                b" | differs",
-            );
+            show_either(part(out, 0, n) == file, b" | same", b" | differs");
             show_kept(out, n);
         }
-        FileWritten::Refused(number) => show_refused(number, out),
+        Err(refusal) => show_refused(refusal, out),
     }
 }
 
 // A sum of bytes that tells their order too.
 fn sum(bytes: &[u8]) -> u64 {
     let mut total = 0;
-    let mut i = 0;
-    while i < bytes.len() {
-        total = added(total, bytes[i]);
-        i += 1;
+    for byte in bytes {
+        total = added(total, *byte);
     }
     total
 }
 
 // The next sum: 31 times the last and the byte, less whole thousand millions.
 fn added(total: u64, byte: u8) -> u64 {
-    (total % 1000000000 * 31 + byte as u64) % 1000000000
+    (total % 1000000000 * 31 + u64::from(byte)) % 1000000000
 }
 
 // Prints bytes as two digits each.
 fn show_hex(bytes: &[u8]) {
-    let mut i = 0;
-    while i < bytes.len() {
-        show_byte(bytes[i]);
-        i += 1;
+    for byte in bytes {
+        show_byte(*byte);
     }
 }
 

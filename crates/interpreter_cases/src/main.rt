@@ -14,27 +14,15 @@
 //   R, L, M  the same three by the reading of 2014
 #![tactic(auto)]
 
-use columns::{Reading, Start, State, Upper};
-use interpreter::{Listed, Ran};
+use columns::{Reading, Start};
+use interpreter::Ran;
 use slices::filled;
 use stored_cases::{
     CASES, MEMORY_WORDS, MOST_RECORDS, NODE_WORDS, PART, RULE_WORDS, TOKEN_WORDS, byte, fill,
     label, load, pair, part, show_either, show_fours, show_one, stored, triple, zeros,
 };
 use stored_runs::remembering::{kept, lend, remember_stored};
-
-// The kinds of calls.
-const RUN: usize = b'r' as usize;
-
-const LIST: usize = b'l' as usize;
-
-const REMEMBER: usize = b'm' as usize;
-
-const RUN_BY_2014: usize = b'R' as usize;
-
-const LIST_BY_2014: usize = b'L' as usize;
-
-const REMEMBER_BY_2014: usize = b'M' as usize;
+use table::Refusal;
 
 // What every lent word holds before a run that lists.
 const MARKER: u32 = 4000000000;
@@ -58,13 +46,11 @@ fn main(rt: HostRuntime) {
 // Goes through the records.
 fn records(cases: &[u8], table: &mut [u8], text: &mut [u8]) {
     let mut at = 0;
-    let mut left = MOST_RECORDS;
-    while left > 0 {
+    for _ in 0..MOST_RECORDS {
         if at >= cases.len() {
             return;
         }
         at = record(cases, at, table, text);
-        left -= 1;
     }
 }
 
@@ -90,13 +76,13 @@ fn record(cases: &[u8], at: usize, table: &mut [u8], text: &mut [u8]) -> usize {
 fn call(header: &[u8], nodes: &[u8], rules: &[u8], tokens: &[u8]) {
     let start = stored_runs::start(part(header, 2, 18));
     let lent = part(header, 41, 6);
-    match byte(header, 0) {
-        RUN => run(nodes, rules, tokens, start, Reading::By2017),
-        RUN_BY_2014 => run(nodes, rules, tokens, start, Reading::By2014),
-        LIST => list(nodes, rules, tokens, start, Reading::By2017, lent),
-        LIST_BY_2014 => list(nodes, rules, tokens, start, Reading::By2014, lent),
-        REMEMBER => remember(nodes, rules, tokens, start, Reading::By2017, lent),
-        REMEMBER_BY_2014 => remember(nodes, rules, tokens, start, Reading::By2014, lent),
+    match header.first() {
+        Some(b'r') => run(nodes, rules, tokens, start, Reading::By2017),
+        Some(b'R') => run(nodes, rules, tokens, start, Reading::By2014),
+        Some(b'l') => list(nodes, rules, tokens, start, Reading::By2017, lent),
+        Some(b'L') => list(nodes, rules, tokens, start, Reading::By2014, lent),
+        Some(b'm') => remember(nodes, rules, tokens, start, Reading::By2017, lent),
+        Some(b'M') => remember(nodes, rules, tokens, start, Reading::By2014, lent),
         _ => {
             io::write_all(1, b"no such call");
         }
@@ -129,13 +115,13 @@ fn again(
     tokens: &[u8],
     start: Start,
     reading: Reading,
-    before: Ran,
+    before: Result<Ran, Refusal>,
     node: u32,
     memory: &mut [u32],
 ) {
     lend(memory, AGAIN_CONTENTS, node);
     let ran = remember_stored(nodes, rules, tokens, start, reading, memory);
-    if !same(before, ran) || !left(ran, memory, AGAIN_CONTENTS, node) {
+    if ran != before || !left(ran, memory, AGAIN_CONTENTS, node) {
         io::write_all(1, b" differs");
     }
 }
@@ -179,95 +165,25 @@ fn remember_in(
     let ran = remember_stored(nodes, rules, tokens, start, reading, memory);
     show_run(ran);
     let well = left(ran, memory, contents, node);
-    if is_refused(ran) {
+    if ran.is_err() {
         show_either(well, b" kept", b" changed");
     } else {
         show_either(well, b" zeros", b" changed");
     }
 }
 
-fn is_refused(ran: Ran) -> bool {
-    match ran {
-        Ran::Success(_, _) => false,
-        Ran::Failure(_) => false,
-        Ran::Refused(_) => true,
-        Ran::IllFormed(_) => true,
-    }
-}
-
 // Whether words to remember in are as they must be after a run: 0, or as they were where it is refused.
-fn left(ran: Ran, memory: &[u32], contents: usize, node: u32) -> bool {
-    if is_refused(ran) {
-        return kept(memory, contents, node);
-    }
-    filled(memory, 0, 0)
-}
-
-// Whether two runs ended alike.
-fn same(a: Ran, b: Ran) -> bool {
-    match a {
-        Ran::Success(read, state) => same_success(read, state, b),
-        Ran::Failure(farthest) => {
-            if let Ran::Failure(f) = b {
-                return f == farthest;
-            }
-            false
-        }
-        Ran::Refused(number) => {
-            if let Ran::Refused(n) = b {
-                return n == number;
-            }
-            false
-        }
-        Ran::IllFormed(node) => {
-            if let Ran::IllFormed(n) = b {
-                return n == node;
-            }
-            false
-        }
-    }
-}
-
-// Whether a run ended in this success.
-fn same_success(read: u32, state: State, b: Ran) -> bool {
-    if let Ran::Success(r, s) = b {
-        return r == read && same_state(s, state);
-    }
-    false
-}
-
-fn same_state(s: State, t: State) -> bool {
-    let c = s.interval;
-    let d = t.interval;
-    let a = c.upper;
-    let b = d.upper;
-    if s.place != t.place || s.farthest != t.farthest || s.flag != t.flag {
-        return false;
-    }
-    c.lower == d.lower && same_upper(a, b)
-}
-
-fn same_upper(a: Upper, b: Upper) -> bool {
-    match a {
-        Upper::At(x) => {
-            if let Upper::At(y) = b {
-                return x == y;
-            }
-            false
-        }
-        Upper::Endless => {
-            if let Upper::Endless = b {
-                return true;
-            }
-            false
-        }
+fn left(ran: Result<Ran, Refusal>, memory: &[u32], contents: usize, node: u32) -> bool {
+    match ran {
+        Ok(_) => filled(memory, 0, 0),
+        Err(_) => kept(memory, contents, node),
     }
 }
 
 // Prints what a run ended in, for a success the place too.
-fn show_run(ran: Ran) {
+fn show_run(ran: Result<Ran, Refusal>) {
     stored_runs::show(ran);
-    if let Ran::Success(read, state) = ran {
+    if let Ok(Ran::Success(_, state)) = ran {
         show_one(b"", state.place as u64);
     }
 }
@@ -323,23 +239,16 @@ fn show_list(
     reading: Reading,
     captures: &mut [u32],
 ) {
-    let listed = interpreter::list(nodes, rules, tokens, start, reading, captures);
-    match listed {
-        Listed::Success(read, state, count) => {
-            show_run(Ran::Success(read, state));
-            show_one(b" | captures", count as u64);
-            show_listed(captures, count);
+    match interpreter::list(nodes, rules, tokens, start, reading, captures) {
+        Ok(listed) => {
+            show_run(Ok(listed.ran));
+            if let Ran::Success(..) = listed.ran {
+                show_one(b" | captures", listed.captures as u64);
+            }
+            show_listed(captures, listed.captures);
         }
-        Listed::Failure(farthest) => {
-            show_run(Ran::Failure(farthest));
-            show_listed(captures, 0);
-        }
-        Listed::Refused(number) => {
-            show_run(Ran::Refused(number));
-            show_kept(captures);
-        }
-        Listed::IllFormed(node) => {
-            show_run(Ran::IllFormed(node));
+        Err(refusal) => {
+            show_run(Err(refusal));
             show_kept(captures);
         }
     }
@@ -348,7 +257,7 @@ fn show_list(
 // Prints the words of n captures, a bar before each fourth, then how many others there are, and whether they are 0.
 fn show_listed(words: &[u32], n: usize) {
     let end = (n.min(MOST_SHOWN) * 4).min(words.len());
-    show_fours(&words[0..end]);
+    show_fours(&words[..end]);
     show_one(b" |", (words.len() - end) as u64);
     show_either(filled(words, end, 0), b" zeros", b" changed");
 }

@@ -7,10 +7,7 @@
 //   l  the line of the file and the report
 #![tactic(auto)]
 
-use stored_cases::{CASES, MOST_RECORDS, PART, byte, label, part, stored, triple, zeros};
-
-// The kinds of calls.
-const LINE: usize = b'l' as usize;
+use stored_cases::{CASES, MOST_RECORDS, PART, label, part, stored, triple, zeros};
 
 fn main(rt: HostRuntime) {
     let mut cases = zeros::<u8, CASES>();
@@ -23,13 +20,11 @@ fn main(rt: HostRuntime) {
 // Goes through the records.
 fn records(cases: &[u8], file: &mut [u8], report: &mut [u8]) {
     let mut at = 0;
-    let mut left = MOST_RECORDS;
-    while left > 0 {
+    for _ in 0..MOST_RECORDS {
         if at >= cases.len() {
             return;
         }
         at = record(cases, at, file, report);
-        left -= 1;
     }
 }
 
@@ -49,8 +44,8 @@ fn record(cases: &[u8], at: usize, file: &mut [u8], report: &mut [u8]) -> usize 
 
 // Makes the call that a header tells of and prints its answer.
 fn call(header: &[u8], file: &[u8], report: &[u8]) {
-    match byte(header, 0) {
-        LINE => {
+    match header.first() {
+        Some(b'l') => {
             stored_runs::show_line(file, report);
         }
         _ => {

@@ -9,14 +9,7 @@
 #![tactic(auto)]
 
 use columns::Reading;
-use stored_cases::{CASES, MOST_RECORDS, byte, label, part, triple, zeros};
-
-// The kinds of calls.
-const RUN: usize = b'r' as usize;
-
-const RUN_BY_2014: usize = b'R' as usize;
-
-const LINE: usize = b'l' as usize;
+use stored_cases::{CASES, MOST_RECORDS, label, part, triple, zeros};
 
 fn main(rt: HostRuntime) {
     let mut cases = zeros::<u8, CASES>();
@@ -27,13 +20,11 @@ fn main(rt: HostRuntime) {
 // Goes through the records.
 fn records(cases: &[u8]) {
     let mut at = 0;
-    let mut left = MOST_RECORDS;
-    while left > 0 {
+    for _ in 0..MOST_RECORDS {
         if at >= cases.len() {
             return;
         }
         at = record(cases, at);
-        left -= 1;
     }
 }
 
@@ -57,10 +48,10 @@ fn record(cases: &[u8], at: usize) -> usize {
 
 // Makes the call that a header tells of and prints its answer.
 fn call(header: &[u8], a: &[u8], b: &[u8], c: &[u8]) {
-    match byte(header, 0) {
-        RUN => run(header, a, b, c, Reading::By2017),
-        RUN_BY_2014 => run(header, a, b, c, Reading::By2014),
-        LINE => {
+    match header.first() {
+        Some(b'r') => run(header, a, b, c, Reading::By2017),
+        Some(b'R') => run(header, a, b, c, Reading::By2014),
+        Some(b'l') => {
             stored_runs::show_line(a, b);
         }
         _ => {

@@ -8,6 +8,8 @@ use Rattle.columns.specs.declared.Upper.{Upper}
 use Rattle.columns.specs.declared.Upper.TheVariants.{At}
 use Rattle.columns.specs.declared.Start.{Start}
 use Rattle.columns.specs.declared.Reading.{Reading}
+use Rattle.std.proofs.Common.{Result}
+use Rattle.table.specs.declared.refusals.Refusal.{Refusal}
 use Rattle.interpreter.specs.declared.Ran.{Ran}
 use Rattle.stored_runs.specs.Runs.{upper_of, flag_of, start_of, Answers}
 use Rattle.stored_cases.specs.Numbers.{pair_at, quad_at, first_pairs, first_quads}
@@ -30,17 +32,17 @@ unfolding start_of
 starts bytes n m p l b c u s f = cc
 
 -- A run of the same words.
-pub carried : {reading : Reading} {nodes nodes' rules rules' tokens tokens' : List ℕ} (start : Start) (ran : Ran)
+pub carried : {reading : Reading} {nodes nodes' rules rules' tokens tokens' : List ℕ} (start : Start) (ran : Result Ran Refusal)
     → nodes ≡ nodes' → rules ≡ rules' → tokens ≡ tokens'
     → Answers reading nodes rules tokens start ran → Answers reading nodes' rules' tokens' start ran
 carried start ran e f g a = rw (← e, ← f, ← g) a
 
 -- A run of as many words.
-pub as_many_pairs : {reading : Reading} (nodes rules : List ℕ) {tokens : List ℕ} {start : Start} {ran : Ran} {x x' y y' : ℕ}
+pub as_many_pairs : {reading : Reading} (nodes rules : List ℕ) {tokens : List ℕ} {start : Start} {ran : Result Ran Refusal} {x x' y y' : ℕ}
     → Answers reading (first_pairs x nodes) (first_pairs y rules) tokens start ran → x ≡ x' → y ≡ y'
     → Answers reading (first_pairs x' nodes) (first_pairs y' rules) tokens start ran
 as_many_pairs nodes rules a e f = rw (← e, ← f) a
 
-pub as_many_quads : {reading : Reading} {nodes rules : List ℕ} (tokens : List ℕ) {start : Start} {ran : Ran} {x x' : ℕ}
+pub as_many_quads : {reading : Reading} {nodes rules : List ℕ} (tokens : List ℕ) {start : Start} {ran : Result Ran Refusal} {x x' : ℕ}
     → Answers reading nodes rules (first_quads x tokens) start ran → x ≡ x' → Answers reading nodes rules (first_quads x' tokens) start ran
 as_many_quads tokens a e = rw (← e) a

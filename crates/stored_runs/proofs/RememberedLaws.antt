@@ -9,6 +9,8 @@ use lib.Seq.{drop-cons}
 use borrow.Author.Tests.{eq-eqb, ne_eqb}
 use Rattle.columns.specs.declared.Start.{Start}
 use Rattle.columns.specs.declared.Reading.{Reading}
+use Rattle.std.proofs.Common.{Result}
+use Rattle.table.specs.declared.refusals.Refusal.{Refusal}
 use Rattle.interpreter.specs.declared.Ran.{Ran}
 use Rattle.stored_cases.specs.Numbers.{first_pairs, first_quads}
 use Rattle.stored_runs.specs.Remembered.{slot_word, lent_word, holds, Remembers}
@@ -48,7 +50,7 @@ module _ (f : ℕ → ℕ) (words : List ℕ) where
 
 -- A run of the same words.
 pub remembers_carried :
-    {reading : Reading} {nodes nodes' rules rules' tokens tokens' : List ℕ} (start : Start) (before : List ℕ) (ran : Ran) (after : List ℕ)
+    {reading : Reading} {nodes nodes' rules rules' tokens tokens' : List ℕ} (start : Start) (before : List ℕ) (ran : Result Ran Refusal) (after : List ℕ)
     → nodes ≡ nodes'
     → rules ≡ rules'
     → tokens ≡ tokens'
@@ -58,7 +60,7 @@ remembers_carried start before ran after e f g a = rw (← e, ← f, ← g) a
 
 -- A run of as many words.
 pub remembers_as_many :
-    {reading : Reading} (nodes rules tokens : List ℕ) {start : Start} {before : List ℕ} {ran : Ran} {after : List ℕ} {x x' y y' z z' : ℕ}
+    {reading : Reading} (nodes rules tokens : List ℕ) {start : Start} {before : List ℕ} {ran : Result Ran Refusal} {after : List ℕ} {x x' y y' z z' : ℕ}
     → Remembers reading (first_pairs x nodes) (first_pairs y rules) (first_quads z tokens) start before ran after
     → x ≡ x'
     → y ≡ y'

@@ -13,9 +13,11 @@ ghost use Rattle.line.specs.Line.{line_count};
 use columns::{Interval, Reading, Start, State, Upper};
 use interpreter::Ran;
 use stored_cases::{NODE_WORDS, RULE_WORDS, TOKEN_WORDS, byte, load, pair, quad, show_one, zeros};
+use table::Refusal;
 
 // The start of 18 bytes: the flag (0 is clear) and whether the upper end is a column (0 is without end) in one byte each;
 // the node and the mode in two each; the place, the lower end and the upper end in four each.
+#[tactic(auto, unfolding(crate::specs::Runs::start_of))]
 pub fn start(bytes: &[u8]) -> Start
     ensures { result ≡ start_of bytes.now }
 {
@@ -50,11 +52,17 @@ fn upper_end(bounded: usize, column: u32) -> Upper
 fn is_set(flag: usize) -> bool
     ensures { result ≡ flag_of flag }
 {
-    if flag == 0 { false } else { true }
+    flag != 0
 }
 
 // Runs a stored table, of at most 2,100 node words and 200 rule words of two bytes.
-pub fn run(nodes: &[u8], rules: &[u8], tokens: &[u32], start: Start, reading: Reading) -> Ran
+pub fn run(
+    nodes: &[u8],
+    rules: &[u8],
+    tokens: &[u32],
+    start: Start,
+    reading: Reading,
+) -> Result<Ran, Refusal>
     ensures { StoredAnswers reading nodes.now rules.now tokens.now start result }
 {
     let mut node_words = zeros::<u16, NODE_WORDS>();
@@ -81,7 +89,7 @@ fn run_in(
     reading: Reading,
     first: &mut [u16],
     second: &mut [u16],
-) -> Ran
+) -> Result<Ran, Refusal>
     ensures { Answers reading (first_pairs (length first.old) nodes.now)
         (first_pairs (length second.old) rules.now) tokens.now start result }
 {
@@ -91,7 +99,13 @@ fn run_in(
 }
 
 // The same over stored tokens, of at most 16,500 words of four bytes.
-pub fn run_stored(nodes: &[u8], rules: &[u8], tokens: &[u8], start: Start, reading: Reading) -> Ran
+pub fn run_stored(
+    nodes: &[u8],
+    rules: &[u8],
+    tokens: &[u8],
+    start: Start,
+    reading: Reading,
+) -> Result<Ran, Refusal>
     ensures { StoredAnswers reading nodes.now rules.now (quads 16500 tokens.now) start result }
 {
     let mut token_words = zeros::<u32, TOKEN_WORDS>();
@@ -107,7 +121,7 @@ fn run_over(
     start: Start,
     reading: Reading,
     words: &mut [u32],
-) -> Ran
+) -> Result<Ran, Refusal>
     ensures { StoredAnswers reading nodes.now rules.now
         (first_quads (length words.old) tokens.now) start result }
 {
@@ -117,20 +131,20 @@ fn run_over(
 
 // Prints `success` with the tokens read, the interval's ends, the flag and the farthest place, `failure` with the farthest
 // place, or `refused` with the number, and for 7 the node. The answer is how many numbers that were.
-pub fn show(ran: Ran) -> usize
+pub fn show(ran: Result<Ran, Refusal>) -> usize
     ensures { result ≡ shown_count ran }
 {
     match ran {
-        Ran::Success(read, state) => show_success(read, state),
-        Ran::Failure(farthest) => show_one(b"failure", farthest as u64),
-        Ran::Refused(n) => show_one(b"refused", n as u64),
-        Ran::IllFormed(node) => show_one(b"refused 7", node as u64),
+        Ok(Ran::Success(read, state)) => show_success(read, state),
+        Ok(Ran::Failure(farthest)) => show_one(b"failure", farthest as u64),
+        Err(Refusal::IllFormed(node)) => show_one(b"refused 7", node as u64),
+        Err(refusal) => show_one(b"refused", refusal.number() as u64),
     }
 }
 
 // Prints `success` with the tokens read and the state.
 fn show_success(read: u32, state: State) -> usize
-    ensures { result ≡ shown_count (Success read state) }
+    ensures { result ≡ shown_count (Ok (Success read state)) }
 {
     let interval = state.interval;
     let upper = interval.upper;

@@ -7,9 +7,11 @@ ghost use Rattle.stored_runs.specs.Remembered.{slot_word, lent_word, holds, Reme
 use columns::{Reading, Start};
 use interpreter::Ran;
 use stored_cases::{NODE_WORDS, RULE_WORDS, TOKEN_WORDS, load, zeros};
+use table::Refusal;
 
 // A word of what looks like slots that remember an outcome of a node: 1 for a failure, 2 for a success. They are for mode
 // equal, place 0, from 0 without end, flag clear, and the success leaves that state.
+#[tactic(auto, unfolding(crate::specs::Remembered::slot_word))]
 fn slot_word(outcome: u32, node: u32, i: usize) -> u32
     ensures { result ≡ slot_word outcome node i }
 {
@@ -19,6 +21,7 @@ fn slot_word(outcome: u32, node: u32, i: usize) -> u32
 
 // What a lent word holds before a run, by the number of the contents: 0, ones in all bits, numbers from 0 to 511, slots of
 // failures of a node, slots of its successes.
+#[tactic(auto, unfolding(crate::specs::Remembered::lent_word))]
 fn lent_word(contents: usize, node: u32, i: usize) -> u32
     ensures { result ≡ lent_word contents node i }
 {
@@ -35,10 +38,8 @@ fn lent_word(contents: usize, node: u32, i: usize) -> u32
 pub fn lend(words: &mut [u32], contents: usize, node: u32)
     ensures { words.new ≡ tabulate (length words.old) (lent_word contents node) }
 {
-    let mut i = 0;
-    while i < words.len() {
-        words[i] = lent_word(contents, node, i);
-        i += 1;
+    for (i, word) in words.iter_mut().enumerate() {
+        *word = lent_word(contents, node, i);
     }
 }
 
@@ -46,13 +47,10 @@ pub fn lend(words: &mut [u32], contents: usize, node: u32)
 pub fn kept(words: &[u32], contents: usize, node: u32) -> bool
     ensures { result ≡ holds (lent_word contents node) 0 words.now }
 {
-    let mut i = 0;
-    while i < words.len() {
-        let word = lent_word(contents, node, i);
-        if words[i] != word {
+    for (i, word) in words.iter().enumerate() {
+        if *word != lent_word(contents, node, i) {
             return false;
         }
-        i += 1;
     }
     true
 }
@@ -65,7 +63,7 @@ pub fn remember_stored(
     start: Start,
     reading: Reading,
     memory: &mut [u32],
-) -> Ran
+) -> Result<Ran, Refusal>
     ensures { StoredRemembers reading nodes.now rules.now (quads 16500 tokens.now) start
         memory.old result memory.new }
 {
@@ -99,7 +97,7 @@ fn remember_in(
     second: &mut [u16],
     words: &mut [u32],
     memory: &mut [u32],
-) -> Ran
+) -> Result<Ran, Refusal>
     ensures { Remembers reading (first_pairs (length first.old) nodes.now)
         (first_pairs (length second.old) rules.now)
         (first_quads (length words.old) tokens.now) start memory.old result memory.new }
