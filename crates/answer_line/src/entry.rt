@@ -10,9 +10,9 @@ use shown_text::ShownPart;
 // Room enough for every line, in bytes.
 pub const ROOM: usize = 65664;
 
-#[tactic(auto, unfolding(crate::specs::EntryLine::entry_count, crate::specs::EntryLine::entry_after, crate::specs::InternalPut::pasted))]
 // Writes the line, and says how many bytes it has: none where the shown text is refused. A slice of fewer than 65,664 bytes
 // is left as it is, and the answer is 0.
+#[tactic(auto, unfolding(crate::specs::EntryLine::entry_count, crate::specs::EntryLine::entry_after, crate::specs::InternalPut::pasted))]
 pub fn write(file: &[u8], report: &[u8], tokens: &[u32], capture: Capture, out: &mut [u8]) -> usize
     ensures value { result
         ≡ entry_count file.now report.now tokens.now capture

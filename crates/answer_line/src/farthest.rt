@@ -11,9 +11,9 @@ use crate::text::{put, put_number, put_word};
 use interpreter::Ran;
 use table::Refusal;
 
-#[tactic(auto, unfolding(crate::specs::FarthestLine::farthest_bytes, crate::specs::FarthestLine::farthest_count, crate::specs::FarthestLine::farthest_after, crate::specs::InternalPut::pasted))]
 // Writes the line, and says how many bytes it has: none where the run read every token or was refused, or where 8 refuses the
 // report or 11 the tokens. A slice of fewer than 64 bytes is left as it is, and the answer is 0.
+#[tactic(auto, unfolding(crate::specs::FarthestLine::farthest_bytes, crate::specs::FarthestLine::farthest_count, crate::specs::FarthestLine::farthest_after, crate::specs::InternalPut::pasted))]
 pub fn write(report: &[u8], tokens: &[u32], x: Result<Ran, Refusal>, out: &mut [u8]) -> usize
     ensures value { result ≡ farthest_count report.now tokens.now (numbers 0 x) (length out.old) }
     ensures out_after { out.new ≡ farthest_after report.now tokens.now (numbers 0 x) out.old }
@@ -24,8 +24,8 @@ pub fn write(report: &[u8], tokens: &[u32], x: Result<Ran, Refusal>, out: &mut [
     put_said(out, report, tokens, x)
 }
 
-#[tactic(auto, using(crate::proofs::PutLaws::put_none))]
 // Puts the line for an answer.
+#[tactic(auto, using(crate::proofs::PutLaws::put_none))]
 fn put_said(out: &mut [u8], report: &[u8], tokens: &[u32], x: Result<Ran, Refusal>) -> usize
     requires { (64 ≤ length out.old) × (length report.now ≤ 65535) × (fails11 tokens.now ≡ false) }
     ensures { Puts out.old 0 (said_bytes report.now tokens.now (numbers 0 x)) result out.new }

@@ -21,8 +21,8 @@ use text::{put, put_number, put_word};
 // The room that every line has enough of.
 pub const ROOM: usize = 64;
 
-#[tactic(auto, unfolding(crate::specs::AnswerLine::written_count, crate::specs::AnswerLine::written_after, crate::specs::InternalPut::pasted))]
 // Writes the line, and says how many bytes it has. A slice of fewer than 64 bytes is left as it is, and the answer is 0.
+#[tactic(auto, unfolding(crate::specs::AnswerLine::written_count, crate::specs::AnswerLine::written_after, crate::specs::InternalPut::pasted))]
 pub fn write(x: Result<Ran, Refusal>, out: &mut [u8]) -> usize
     ensures value { result ≡ written_count (numbers 0 x) (length out.old) }
     ensures out_after { out.new ≡ written_after (numbers 0 x) out.old }
@@ -33,8 +33,8 @@ pub fn write(x: Result<Ran, Refusal>, out: &mut [u8]) -> usize
     put_answer(out, x)
 }
 
-#[tactic(auto, unfolding(crate::specs::AnswerLine::decimal_to))]
 // Puts the line of an answer, which has 58 bytes at most.
+#[tactic(auto, unfolding(crate::specs::AnswerLine::decimal_to))]
 fn put_answer(out: &mut [u8], x: Result<Ran, Refusal>) -> usize
     requires { 58 ≤ length out.old }
     ensures { Puts out.old 0 (line_bytes (numbers 0 x)) result out.new }

@@ -38,8 +38,8 @@ fn head_at(file: &[u8], at: usize) -> Option<Head<'_>>
     }
 }
 
-#[tactic(auto, unfolding(crate::specs::Offsets::value_at))]
 // The value of the field at an offset, as a part of the file; what is cut short ends with the file.
+#[tactic(auto, unfolding(crate::specs::Offsets::value_at))]
 pub fn value_at(file: &[u8], at: usize) -> &[u8]
     ensures { result.now ≡ value_at file.now at }
 {
@@ -49,8 +49,8 @@ pub fn value_at(file: &[u8], at: usize) -> &[u8]
     }
 }
 
-#[tactic(auto, unfolding(crate::specs::Offsets::next_at))]
 // The offset of the field behind the one at an offset, or the file's end.
+#[tactic(auto, unfolding(crate::specs::Offsets::next_at))]
 pub fn next_at(file: &[u8], at: usize) -> usize
     ensures { result ≡ next_at file.now at }
 {
@@ -60,8 +60,8 @@ pub fn next_at(file: &[u8], at: usize) -> usize
     }
 }
 
-#[tactic(auto, unfolding(crate::specs::Offsets::right_at))]
 // Whether a whole field of a tag, its value of the tag's length, stands at an offset.
+#[tactic(auto, unfolding(crate::specs::Offsets::right_at))]
 pub fn right_at(file: &[u8], at: usize, tag: u8) -> bool
     ensures { result ≡ right_at file.now at tag }
 {
@@ -73,8 +73,8 @@ pub fn right_at(file: &[u8], at: usize, tag: u8) -> bool
     }
 }
 
-#[tactic(auto, unfolding(crate::specs::Fields::right_length))]
 // The length that number 1 asks of a tag's value.
+#[tactic(auto, unfolding(crate::specs::Fields::right_length))]
 fn right_length(tag: u8, n: usize) -> bool
     ensures { result ≡ right_length tag n }
 {
@@ -88,8 +88,8 @@ fn right_length(tag: u8, n: usize) -> bool
     }
 }
 
-#[tactic(auto, unfolding(crate::specs::Offsets::offset_of))]
 // The offset of the field that is k fields behind the one at an offset.
+#[tactic(auto, unfolding(crate::specs::Offsets::offset_of))]
 pub fn offset_of(file: &[u8], first: usize, k: usize) -> usize
     ensures { result ≡ offset_of file.now first k }
 {

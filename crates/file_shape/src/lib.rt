@@ -36,8 +36,8 @@ pub struct Contents {
 // The offset of the first keyword, where there is one: behind tag 1's four bytes.
 pub const FIRST_KEYWORD: usize = 4;
 
-#[tactic(auto, using(crate::proofs::PartLaws::by_names), unfolding(crate::specs::Contents::file_answer))]
 // The shape of a file that passes numbers 1 to 5, or the first that fails.
+#[tactic(auto, using(crate::proofs::PartLaws::by_names), unfolding(crate::specs::Contents::file_answer))]
 pub fn inspect(file: &[u8]) -> Result<Shape, Refusal>
     ensures { Inspects file.now result }
 {

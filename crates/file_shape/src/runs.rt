@@ -30,8 +30,8 @@ fn run_of(file: &[u8], at: usize, tag: u8) -> Run
     Run { count, end }
 }
 
-#[tactic(auto, using(crate::proofs::ShapeLaws::unframed, crate::proofs::ShapeLaws::many_keywords, crate::proofs::ShapeLaws::framed_parts))]
 // Number 1: tag 1, then runs of tags 2, 3 and 4, then tag 5, which ends the file.
+#[tactic(auto, using(crate::proofs::ShapeLaws::unframed, crate::proofs::ShapeLaws::many_keywords, crate::proofs::ShapeLaws::framed_parts))]
 pub(crate) fn shape_of(file: &[u8]) -> Option<Shape>
     ensures { Shaped file.now result }
 {
@@ -55,8 +55,8 @@ pub(crate) fn shape_of(file: &[u8]) -> Option<Shape>
     })
 }
 
-#[tactic(auto, unfolding(crate::specs::InternalShape::framed_by))]
 // Whether the file is not over length, begins with tag 1 and its byte, and ends with tag 5 at an offset.
+#[tactic(auto, unfolding(crate::specs::InternalShape::framed_by))]
 fn framed(file: &[u8], start: usize) -> bool
     ensures { result ≡ framed_by file.now start }
 {

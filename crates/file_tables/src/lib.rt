@@ -17,8 +17,8 @@ pub fn first_number(value: &[u8]) -> u16
     number_in(value, 0)
 }
 
-#[tactic(auto, using(crate::proofs::TableLaws::many_nodes, crate::proofs::TableLaws::many_rules, crate::proofs::TableLaws::count_nodes, crate::proofs::TableLaws::length_nodes, crate::proofs::TableLaws::length_rules))]
 // Whether the node fields and the rule fields stand for a table, or the first of 3, 4 and 5 that fails.
+#[tactic(auto, using(crate::proofs::TableLaws::many_nodes, crate::proofs::TableLaws::many_rules, crate::proofs::TableLaws::count_nodes, crate::proofs::TableLaws::length_nodes, crate::proofs::TableLaws::length_rules))]
 pub fn check_tables(file: &[u8], nodes: Group, rules: Group) -> Result<(), Refusal>
     ensures { numbers result
         ≡ table_answer (node_words file.now nodes) (rule_nodes file.now rules) }
@@ -33,8 +33,8 @@ pub fn check_tables(file: &[u8], nodes: Group, rules: Group) -> Result<(), Refus
     table::check(&words[..nodes.count * 4], &list[..rules.count])
 }
 
-#[tactic(auto, using(crate::proofs::TableLaws::length_nodes, crate::proofs::TableLaws::length_rules), unfolding(crate::specs::Tables::too_short))]
 // Writes the table and the rules that fields stand for; where a slice is too short, nothing is written.
+#[tactic(auto, using(crate::proofs::TableLaws::length_nodes, crate::proofs::TableLaws::length_rules), unfolding(crate::specs::Tables::too_short))]
 pub fn write_tables(
     file: &[u8],
     nodes: Group,
@@ -58,8 +58,8 @@ pub fn write_tables(
     Ok(())
 }
 
-#[tactic(auto, unfolding(file_fields::specs::Offsets::fields_from, file_fields::specs::Offsets::offset_of, table::specs::Words::each_words))]
 // Writes the words of node fields.
+#[tactic(auto, unfolding(file_fields::specs::Offsets::fields_from, file_fields::specs::Offsets::offset_of, table::specs::Words::each_words))]
 fn write_nodes(file: &[u8], nodes: Group, out: &mut [u16])
     requires { nodes.count * 4 ≤ length out.old }
     ensures { out.new
@@ -77,8 +77,8 @@ fn write_nodes(file: &[u8], nodes: Group, out: &mut [u16])
     }
 }
 
-#[tactic(auto, unfolding(file_fields::specs::Offsets::fields_from, file_fields::specs::Offsets::offset_of))]
 // Writes the nodes of rule fields.
+#[tactic(auto, unfolding(file_fields::specs::Offsets::fields_from, file_fields::specs::Offsets::offset_of))]
 fn write_rules(file: &[u8], rules: Group, out: &mut [u16])
     requires { rules.count ≤ length out.old }
     ensures { out.new

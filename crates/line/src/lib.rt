@@ -79,8 +79,8 @@ pub fn list(file: &[u8], report: &[u8], tokens: &mut [u32], captures: &mut [u32]
     }
 }
 
-#[tactic(auto, unfolding(crate::specs::Entries::capture_at))]
 // The capture at a place of a list; zeros where there is no such place.
+#[tactic(auto, unfolding(crate::specs::Entries::capture_at))]
 pub fn capture_at(captures: &[u32], n: usize) -> Capture
     ensures { result ≡ capture_at captures.now n }
 {

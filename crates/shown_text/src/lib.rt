@@ -21,8 +21,8 @@ pub enum ShownPart {
     InFile { offset: usize, length: usize },
 }
 
-#[tactic(auto, using(crate::proofs::PartLaws::rules_are, crate::proofs::PartLaws::from_file, crate::proofs::PartLaws::reads, crate::proofs::PartLaws::ordered, crate::proofs::PartLaws::from_report), unfolding(crate::specs::Shown::shown_answer, report_checks::specs::FirstChecks::first_answer))]
 // Where a shown text lies, or the first check that fails: 1 to 5 of the file, 8 of the report, 11 of the tokens, then 14.
+#[tactic(auto, using(crate::proofs::PartLaws::rules_are, crate::proofs::PartLaws::from_file, crate::proofs::PartLaws::reads, crate::proofs::PartLaws::ordered, crate::proofs::PartLaws::from_report), unfolding(crate::specs::Shown::shown_answer, report_checks::specs::FirstChecks::first_answer))]
 pub fn shown(
     file: &[u8],
     report: &[u8],
@@ -47,8 +47,8 @@ pub fn shown(
     Ok(in_report(tokens, capture))
 }
 
-#[tactic(auto, using(crate::proofs::PartLaws::report_inside, crate::proofs::PartLaws::report_cut, crate::proofs::PartLaws::file_inside, crate::proofs::PartLaws::file_cut))]
 // The text itself, as a part of the report or of the grammar file; empty where the call is turned down.
+#[tactic(auto, using(crate::proofs::PartLaws::report_inside, crate::proofs::PartLaws::report_cut, crate::proofs::PartLaws::file_inside, crate::proofs::PartLaws::file_cut))]
 pub fn text<'a>(file: &'a [u8], report: &'a [u8], tokens: &[u32], capture: Capture) -> &'a [u8]
     ensures { result.now ≡ shown_bytes file.now report.now tokens.now capture }
 {

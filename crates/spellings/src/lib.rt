@@ -42,8 +42,8 @@ pub fn same(s: &[u8], t: &[u8]) -> bool
     s.last() == t.last() && s == t
 }
 
-#[tactic(auto, using(table::proofs::Every::every_next), unfolding(crate::specs::Spellings::spelled, table::specs::Every::every))]
 // 1 to 32 bytes, each of them visible.
+#[tactic(auto, using(table::proofs::Every::every_next), unfolding(crate::specs::Spellings::spelled, table::specs::Every::every))]
 fn spelled(s: &[u8]) -> bool
     ensures { result ≡ is_spelled s.now }
 {
@@ -63,8 +63,8 @@ fn is_visible(b: u8) -> bool
     b > 32 && b != 127
 }
 
-#[tactic(auto, using(table::proofs::Every::every_next), unfolding(crate::specs::Spellings::single_alone, table::specs::Every::every))]
 // None of the bytes is a single byte, or there is one byte only.
+#[tactic(auto, using(table::proofs::Every::every_next), unfolding(crate::specs::Spellings::single_alone, table::specs::Every::every))]
 fn single_alone(s: &[u8]) -> bool
     ensures { result ≡ single_alone s.now }
 {
@@ -85,16 +85,16 @@ fn is_single(b: u8) -> bool
     class_of(b) == Class::Single
 }
 
-#[tactic(auto, unfolding(crate::specs::Spellings::right_spellings))]
 // Whether the spellings of fields are right and distinct.
+#[tactic(auto, unfolding(crate::specs::Spellings::right_spellings))]
 pub fn right_spellings(file: &[u8], group: Group, skip: usize) -> bool
     ensures { result ≡ right_spellings (spellings_from file.now group.at group.count skip) }
 {
     all_spelled(file, group, skip) && distinct(file, group, skip)
 }
 
-#[tactic(auto, unfolding(table::specs::Every::every, file_fields::specs::Offsets::offset_of))]
 // Whether a test holds of each of the spellings of fields.
+#[tactic(auto, unfolding(table::specs::Every::every, file_fields::specs::Offsets::offset_of))]
 fn each_spelling<F: Fn(&[u8]) -> bool>(file: &[u8], group: Group, skip: usize, test: F) -> bool
     requires { F.IsAlwaysCallable test }
     ensures { (p : List ℕ → Bool) → ((s : List ℕ) (b : Bool) → FnReturnsAt F.Fn test s b → b ≡ p s)
@@ -126,8 +126,8 @@ pub fn singles_alone(file: &[u8], group: Group) -> bool
     each_spelling(file, group, 0, single_alone)
 }
 
-#[tactic(auto, unfolding(crate::specs::Spellings::distinct))]
 // Each spelling differs from those before it. A key that none before it has tells so at once.
+#[tactic(auto, unfolding(crate::specs::Spellings::distinct))]
 fn distinct(file: &[u8], group: Group, skip: usize) -> bool
     ensures { result ≡ are_distinct (spellings_from file.now group.at group.count skip) }
 {

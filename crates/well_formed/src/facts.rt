@@ -9,8 +9,8 @@ ghost use Rattle.well_formed.specs.InternalPasses.{known, FactsReady, FactsPass,
 use crate::cells::{cell, node_at};
 use form_facts::{Facts, facts_by_form};
 
-#[tactic(auto, using(crate::proofs::PassLaws::last_pass))]
 // Every fact of every node: passes until one finds nothing.
+#[tactic(auto, using(crate::proofs::PassLaws::last_pass))]
 pub(crate) fn find(nodes: &[u16], rules: &[u16], cells: &mut [Facts])
     requires { FactsReady nodes.now rules.now cells.old }
     ensures { FactsFinished nodes.now rules.now cells.new }

@@ -24,8 +24,8 @@ pub fn check(nodes: &[u16], rules: &[u16]) -> Result<(), Refusal>
     judge(nodes, rules)
 }
 
-#[tactic(auto, using(table::proofs::Inside::counts_inside, crate::proofs::JudgeLaws::well_start, crate::proofs::JudgeLaws::judged))]
 // The verdict on a table that passes 3, 4 and 5: the facts first, then the nodes that are well formed.
+#[tactic(auto, using(table::proofs::Inside::counts_inside, crate::proofs::JudgeLaws::well_start, crate::proofs::JudgeLaws::judged))]
 fn judge(nodes: &[u16], rules: &[u16]) -> Result<(), Refusal>
     requires { table_answer nodes.now rules.now ≡ passed tt }
     ensures { numbers result
@@ -38,8 +38,8 @@ fn judge(nodes: &[u16], rules: &[u16]) -> Result<(), Refusal>
     lowest(nodes.len() / 4, &found)
 }
 
-#[tactic(auto, using(crate::proofs::VerdictLaws::verdict_next, crate::proofs::VerdictLaws::verdict_bad), unfolding(crate::specs::Check::verdict_from))]
 // The lowest of so many nodes that is not among those found, or that the grammar passes.
+#[tactic(auto, using(crate::proofs::VerdictLaws::verdict_next, crate::proofs::VerdictLaws::verdict_bad), unfolding(crate::specs::Check::verdict_from))]
 fn lowest(count: usize, found: &[bool; 512]) -> Result<(), Refusal>
     requires { count ≤ 512 }
     ensures { numbers result ≡ verdict_from (λ (n : ℕ). get_or found.now n false) 0 count }
