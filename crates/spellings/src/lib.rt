@@ -34,8 +34,8 @@ pub fn key(s: &[u8]) -> usize
     sum as usize % KEYS
 }
 
-#[tactic(auto, using(crate::proofs::SpellingLaws::pointwise_same))]
 // Whether two spellings are the same: the last bytes first, since keywords of one list often differ there alone.
+#[tactic(auto, using(crate::proofs::SpellingLaws::pointwise_same))]
 pub fn same(s: &[u8], t: &[u8]) -> bool
     ensures { result ≡ same_bytes s.now t.now }
 {
