@@ -2,7 +2,7 @@
 // the interval inside the state, the state inside the outcome's Success case.
 #![tactic(auto)]
 
-// An upper end.
+// An upper end. Endless lies above every column, where the `None` of an `Option` orders below.
 #[derive(Clone, Copy, Debug, PartialEq, Eq)]
 pub enum Upper {
     At(u32),
@@ -26,7 +26,8 @@ pub struct State {
     pub flag: bool,
 }
 
-// What a run ends in: a failure with the farthest place alone.
+// What a run ends in: a failure with the farthest place alone. A failure is no error to hand on by `?`: a choice, a not and a
+// repeat go on from it.
 #[derive(Clone, Copy, Debug, PartialEq, Eq)]
 pub enum Outcome {
     Success(State),

@@ -14,7 +14,8 @@ fn main(rt: HostRuntime) {
     print(&file[..n], &report[..m]);
 }
 
-// Prints the entries, of which there may be 16,384, the line of the run and where the farthest place is.
+// Prints the entries, of which there may be 16,384, the line of the run and where the farthest place is. Tokens, captures and
+// lines stand in fixed arrays: there is no heap here.
 fn print(file: &[u8], report: &[u8]) {
     let mut tokens = [0u32; 16384];
     let mut captures = [0u32; 65536];

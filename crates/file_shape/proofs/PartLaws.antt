@@ -23,6 +23,7 @@ use Rattle.file_shape.specs.Shape.{Parts}
 use Rattle.file_shape.specs.declared.Shape.{Shape}
 use Rattle.file_fields.proofs.Offsets.{length_spellings}
 use Rattle.file_tables.proofs.TableLaws.{length_rules, count_nodes}
+use Rattle.table.proofs.AnswerLaws.{turned_first}
 
 module _ (file : List ℕ) (s : Shape) (p : Parts file s) where
   pub keywords_are : keywords (fields_of file) ≡ spellings_from file 4 s.keywords 0
@@ -72,10 +73,6 @@ two_more true f4 f5 a b next = refl
 two_more false true f5 a b next = refl
 two_more false false true a b next = refl
 two_more false false false a b next = refl
-
--- A first part that turns down.
-pub turned_first : {A : Type 0} (B : Type 0) (e : Refusal) (next : Answer A) → and_then (turned_down {A = B} e) next ≡ turned_down e
-turned_first B e next = grind arith
 
 -- Numbers 1 to 5 of such a file.
 module _ (file : List ℕ) (s : Shape) (p : Parts file s) where

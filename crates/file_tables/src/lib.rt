@@ -26,7 +26,7 @@ pub fn check_tables(file: &[u8], nodes: Group, rules: Group) -> Result<(), Refus
     if nodes.count > table::NODES || rules.count > table::RULES {
         return Err(Refusal::Counts);
     }
-    let mut words = [0u16; table::NODES * 4];
+    let mut words = [0u16; table::NODES * 4]; // fixed arrays: there is no heap here
     let mut list = [0u16; table::RULES];
     write_nodes(file, nodes, &mut words);
     write_rules(file, rules, &mut list);

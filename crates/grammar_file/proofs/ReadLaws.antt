@@ -17,7 +17,8 @@ use Rattle.file_shape.specs.declared.Shape.{Shape}
 use Rattle.table.specs.Refusals.{turned_down}
 use Rattle.table.specs.declared.refusals.Refusal.{Refusal}
 use Rattle.file_fields.proofs.Offsets.{length_spellings, spelling_from}
-use Rattle.file_shape.proofs.PartLaws.{turned_first, keywords_are, names_are, rules_are, nodes_are, keyword_count}
+use Rattle.file_shape.proofs.PartLaws.{keywords_are, names_are, rules_are, nodes_are, keyword_count}
+use Rattle.table.proofs.AnswerLaws.{turned_first}
 
 part_down : (e : Refusal) (part : List ℕ) → part_of (turned_down e) part ≡ []
 part_down e part = grind arith

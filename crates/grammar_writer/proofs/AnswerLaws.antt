@@ -12,9 +12,10 @@ use Rattle.table.specs.Checks.{fails3, fails4}
 use Rattle.file_shape.specs.Contents.{fails5_with, file_answer}
 use Rattle.file_shape.specs.declared.Contents.{Contents}
 use Rattle.file_shape.specs.declared.Shape.{Shape}
-use Rattle.file_shape.proofs.PartLaws.{turned_first, rule_count}
+use Rattle.file_shape.proofs.PartLaws.{rule_count}
 use Rattle.grammar_writer.specs.Written.{written_file, fails15, write_answer}
 use Rattle.grammar_writer.specs.InternalWriting.{started_answer, lent_answer, Lends}
+use Rattle.table.proofs.AnswerLaws.{turned_first}
 
 -- Three checks in a row, and then what comes behind them.
 three_more : (a b c : Bool) (next : Answer ℕ) → refuse_if a 3 (refuse_if b 4 (refuse_if c 5 next)) ≡ and_then {B = Unit} (refuse_if a 3 (refuse_if b 4 (refuse_if c 5 (given tt)))) next

@@ -15,14 +15,14 @@ use Rattle.table.specs.Form.{node_count}
 use Rattle.table.specs.Every.{every}
 use Rattle.table.specs.Checks.{fails3, fails4, fails5, is_relation, table_answer}
 use Rattle.table.proofs.Every.{and_left, and_right, both_false}
-use Rattle.table.proofs.AnswerLaws.{if_given}
+use Rattle.table.proofs.AnswerLaws.{turned_first, if_given}
 use Rattle.table.proofs.Inside.{unnot, kind_there, relation_there, counts_inside}
 use Rattle.spellings.specs.Spellings.{single_alone, right_spellings}
 use Rattle.file_fields.specs.Fields.{Field}
 use Rattle.file_fields.specs.Offsets.{spellings_from}
 use Rattle.file_shape.specs.Contents.{most_keywords, keywords, rule_names, fields_of, fails1, fails2, fails5_with, file_answer}
 use Rattle.file_shape.specs.declared.Shape.{Shape}
-use Rattle.file_shape.proofs.PartLaws.{two_more, turned_first, keywords_are, names_are}
+use Rattle.file_shape.proofs.PartLaws.{two_more, keywords_are, names_are}
 use Rattle.grammar_file.proofs.CountLaws.{keywords_stand}
 use Rattle.grammar_writer.specs.InternalWriting.{ByteWords, started_answer, Lends}
 

@@ -82,7 +82,7 @@ fn write_named(grammar: Grammar<'_>, out: &mut [u8]) -> Result<usize, Refusal>
     if grammar.rules.len() != grammar.shape.rules.count {
         return Err(Refusal::RuleCount);
     }
-    let mut file = [0u8; MOST_BYTES];
+    let mut file = [0u8; MOST_BYTES]; // a fixed array: there is no heap here
     let n = put_file(grammar, &mut file);
     if out.len() < n {
         return Err(Refusal::Room);

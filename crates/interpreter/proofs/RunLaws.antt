@@ -29,6 +29,7 @@ use Rattle.capture_list.specs.Put.{most_count}
 use Rattle.walk.specs.WalkAnswer.{end_of as walk_end, walk_answer, walk_after}
 use Rattle.interpreter.specs.Numbers.{ran_to, end_of, Looked, Derived, CapturesStand, ListedBy}
 use Rattle.interpreter.specs.InternalRan.{Onward, ran_of}
+use Rattle.table.proofs.AnswerLaws.{turned_first, turned_keeps}
 
 -- What refuses the second of two answers refuses the first, where the second is given; and a refusal goes on as it is.
 refused_first : (A : Type 0) {B : Type 0} (r : Refusal) (first : Answer B) (x : A) → turned_down r ≡ and_then first (given x) → turned_down r ≡ first
@@ -38,12 +39,6 @@ refused_first A r (given b) x e = absurd (not_given r x e)
     not_given r x e = grind arith
 refused_first A r (refused k) x e = grind arith
 refused_first A r (refused_at k n) x e = grind arith
-
-turned_first : {A : Type 0} (B : Type 0) (r : Refusal) (next : Answer A) → and_then (turned_down {A = B} r) next ≡ turned_down r
-turned_first B r next = grind arith
-
-refused_if : (A : Type 0) (r : Refusal) (written lent : List ℕ) → afterwards (turned_down {A = A} r) written lent ≡ lent
-refused_if A r written lent = grind arith
 
 -- Words that stay, whether there is room or not.
 either : (b : Bool) (after lent : List ℕ) → after ≡ lent → cond b after lent ≡ lent
@@ -148,9 +143,9 @@ module _ (reading : Reading) (nodes rules words : List ℕ) (start : Start) wher
     unfolding list_after walk_after
     list_untouched r e =
         let q : lent ≡ afterwards (list_answer reading nodes rules words start (length lent)) (list_words (our_captures reading nodes rules words start) (length lent)) lent =
-        rw (← list_turned r e) (sym (refused_if Listing r _ lent)) in
+        rw (← list_turned r e) (sym (turned_keeps Listing r _ lent)) in
         after
-        ∙ either (leb (length (our_captures reading nodes rules words start)) (length lent / 4)) _ lent (rw (← e) (refused_if Ended r _ lent))
+        ∙ either (leb (length (our_captures reading nodes rules words start)) (length lent / 4)) _ lent (rw (← e) (turned_keeps Ended r _ lent))
         ∙ q
 
     module _ (short : length lent < 2 ^ 64) (m : length l' ≡ length lent) {x : Ended} {n : ℕ} (h : ShownList x n) where

@@ -81,7 +81,7 @@ pub fn list(
         ≡ list_after reading nodes.now rules.now tokens.now start captures.old }
     ensures list_derived { ListDerived reading nodes.now rules.now tokens.now start result captures.new }
 {
-    let mut memory = [0u32; 65536];
+    let mut memory = [0u32; 65536]; // a fixed array: there is no heap here
     let whole = walk::list(nodes, rules, tokens, start, reading, captures, &mut memory)?;
     if captures.len() / 4 < whole.captures {
         return Err(Refusal::CaptureRoom);

@@ -11,7 +11,7 @@ use borrow.Author.Tests.{ltb-false}
 use Rattle.table.specs.Answer.{Answer, given, refused, refused_at, refuse_if, and_then, afterwards}
 use Rattle.table.specs.Refusals.{turned_down}
 use Rattle.table.specs.declared.refusals.Refusal.{Refusal}
-use Rattle.table.proofs.AnswerLaws.{first_passes, second_given}
+use Rattle.table.proofs.AnswerLaws.{turned_first, turned_keeps, first_passes, second_given}
 use Rattle.table.specs.Limits.{most_tokens}
 use Rattle.table.proofs.Every.{both_false}
 use Rattle.table.proofs.Words.{length_words}
@@ -130,10 +130,6 @@ tables file old_nodes old_rules {x} a b e nodes_is rules_is =
       mode_is = read.mode_of;
     }
 
--- A first part that turns down.
-turned_first : {A : Type 0} (B : Type 0) (e : Refusal) (next : Answer A) → and_then (turned_down {A = B} e) next ≡ turned_down e
-turned_first B e next = grind arith
-
 turns_down : {A B : Type 0} {first : Answer B} (e : Refusal) (next : Answer A) → turned_down e ≡ first → turned_down e ≡ and_then first next
 turns_down {B = B} e next d = sym (turned_first B e next) ∙ ap (λ a. and_then a next) d
 
@@ -215,15 +211,11 @@ module _ {A : Type 0} (file report : List ℕ) (room : ℕ) (next : Answer A) wh
   pub parts_pass : given tt ≡ parts_answer file report room → next ≡ after_parts file report room next
   parts_pass d = ap (λ (a : Answer Unit). and_then a next) d ∙ behind_parts
 
--- What a part that turns down leaves.
-pub unchanged : (A : Type 0) (e : Refusal) (written before : List ℕ) → afterwards (turned_down {A = A} e) written before ≡ before
-unchanged A e written before = grind arith
-
 -- The words lent for the tokens.
 module _ (file report before : List ℕ) where
   pub unwritten : (e : Refusal) → turned_down e ≡ parts_answer file report (length before) → before ≡ tokens_after file report before
   unfolding tokens_after
-  unwritten e d = sym (unchanged Unit e (words_of (scan_tokens file report)) before) ∙ ap (λ (a : Answer Unit). afterwards a (words_of (scan_tokens file report)) before) d
+  unwritten e d = sym (turned_keeps Unit e (words_of (scan_tokens file report)) before) ∙ ap (λ (a : Answer Unit). afterwards a (words_of (scan_tokens file report)) before) d
 
   pub written : {after : List ℕ} → given tt ≡ parts_answer file report (length before)
       → after ≡ words_of (scan_tokens file report) ++ drop (length (words_of (scan_tokens file report))) before

@@ -24,7 +24,8 @@ use Rattle.line.specs.Entries.{entries_answer, end_answer, Placed, capture_count
 use Rattle.line.specs.InternalParts.{Stands, ran_of}
 use Rattle.line.specs.declared.Ready.{Ready}
 use Rattle.line.specs.declared.Entries.{Entries}
-use Rattle.line.proofs.PartLaws.{parts_refuse, parts_pass, unchanged}
+use Rattle.line.proofs.PartLaws.{parts_refuse, parts_pass}
+use Rattle.table.proofs.AnswerLaws.{turned_keeps}
 
 -- The line's answer.
 module _ (file report : List ℕ) where
@@ -120,7 +121,7 @@ module _ (file report before : List ℕ) (room : ℕ) (x : Entries) where
         placed = subst Placed (sym d.0) tt;
         tokens = d.1 ∙ sym (given_refused e) ∙ ap given_count (parts_refuse file report room _ e q);
         captures = d.2 ∙ ap capture_count listed;
-        unchanged = sym (unchanged Listing e (list_words (entries file report) (length before)) before) ∙ ap (λ (a : Answer Listing). afterwards a (list_words (entries file report) (length before)) before) listed;
+        unchanged = sym (turned_keeps Listing e (list_words (entries file report) (length before)) before) ∙ ap (λ (a : Answer Listing). afterwards a (list_words (entries file report) (length before)) before) listed;
       }
 
 -- What a run that lists answered, without the number of captures: the same end, and a state that stands where the tokens read end.

@@ -3,7 +3,8 @@
 
 use files::{STDIN, STDOUT};
 
-// A file or report that fills its buffer of 65,536 bytes is over length. A grammar file that cannot be opened gave no bytes.
+// Files and the line stand in fixed arrays: there is no heap here. A file or report that fills its buffer of 65,536 bytes is
+// over length. A grammar file that cannot be opened gave no bytes.
 fn main(rt: HostRuntime) {
     let mut file = io::large_buffer();
     let mut report = io::large_buffer();

@@ -103,8 +103,8 @@ pub extern "C" fn saktroum_check(nodes: &[u16], rules: &[u16]) -> u32
     reported::report_check(x)
 }
 
-// Runs a grammar on tokens from a start, by the reading of 2014 or of 2017. The answer is 0, with success or failure and the
-// farthest place in `res`, or the number that refused the call, for 7 with the node.
+// Runs a grammar on tokens from a start, by the reading of 2014 or of 2017, a flag as C hands it. The answer is 0, with success
+// or failure and the farthest place in `res`, or the number that refused the call, for 7 with the node.
 #[unsafe(no_mangle)]
 pub extern "C" fn saktroum_run(
     nodes: &[u16],

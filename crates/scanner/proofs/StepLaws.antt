@@ -4,7 +4,7 @@ use borrow.Author.Tests.{lt-ltb, le-ltb}
 use Rattle.table.specs.Answer.{Answer, given, refused, refused_at, refuse_if, and_then}
 use Rattle.table.specs.Refusals.{turned_down}
 use Rattle.table.specs.declared.refusals.Refusal.{Refusal}
-use Rattle.table.proofs.AnswerLaws.{first_passes}
+use Rattle.table.proofs.AnswerLaws.{turned_first, first_passes}
 use Rattle.grammar_file.specs.File.{Contents, keywords, fields_of, file_answer}
 use Rattle.report_checks.specs.Report.{fails8}
 use Rattle.report_checks.specs.FirstChecks.{first_answer, Passed}
@@ -28,10 +28,6 @@ step_then (given c) false x y next = refl
 step_then (refused n) b x y next = refl
 step_then (refused_at n node) b x y next = refl
 
--- A first part that turns down, and where a step stands then.
-turned_first : {A : Type 0} (B : Type 0) (r : Refusal) (next : Answer A) → turned_down r ≡ and_then (turned_down {A = B} r) next
-turned_first B r next = grind arith
-
 pub turned_stands : (r : Refusal) (text : List ℕ) (p : Position) → p ≡ standing (turned_down r) text p
 turned_stands r text p = grind arith
 
@@ -43,7 +39,7 @@ module _ (file text : List ℕ) (p : Position) where
       let later =
       refuse_if (ltb (length text) p.offset || ltb 524280 p.column) 8
       (refuse_if (step_fails9 (next_in text p).found) 9 (given (option_map (token_of (keywords (fields_of file)) text) (next_in text p).found))) in
-      turned_first Unit r later ∙ ap (λ (a : Answer Unit). and_then a later) e ∙ step_then (file_answer file) (fails8 text) _ _ _
+      sym (turned_first Unit r later) ∙ ap (λ (a : Answer Unit). and_then a later) e ∙ step_then (file_answer file) (fails8 text) _ _ _
 
   module _ {k : ℕ} (h : Passed file text k) where
     -- Behind the first checks: the offset and the column, then the place that was found.

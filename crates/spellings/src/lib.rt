@@ -131,7 +131,7 @@ pub fn singles_alone(file: &[u8], group: Group) -> bool
 fn distinct(file: &[u8], group: Group, skip: usize) -> bool
     ensures { result ≡ are_distinct (spellings_from file.now group.at group.count skip) }
 {
-    let mut met = [false; KEYS];
+    let mut met = [false; KEYS]; // a fixed array: there is no heap here
     let mut at = group.at;
     for j in 0..group.count {
         let s = spelling_at(file, at, skip);

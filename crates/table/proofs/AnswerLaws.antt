@@ -4,7 +4,9 @@ use mathlib.Core.Path.{◌≡◌, refl}
 use mathlib.Core.Bool.{Bool, true, false}
 use mathlib.Core.List.{List}
 use native.Mathlib.Omega.{arith}
-use Rattle.table.specs.Answer.{Answer, given, refused, refused_at, refuse_if, and_then}
+use Rattle.table.specs.Answer.{Answer, given, refused, refused_at, refuse_if, and_then, afterwards}
+use Rattle.table.specs.Refusals.{turned_down}
+use Rattle.table.specs.declared.refusals.Refusal.{Refusal}
 use Rattle.table.specs.Checks.{fails3, fails4, fails5, table_answer}
 
 module _ {A B : Type 0} {first : Answer B} where
@@ -18,6 +20,14 @@ module _ {A B : Type 0} {first : Answer B} where
   -- A first part that passes.
   pub first_passes : {x : B} (next : Answer A) → given x ≡ first → next ≡ and_then first next
   first_passes next e = rw (← e) refl
+
+-- A first part that turns down.
+pub turned_first : {A : Type 0} (B : Type 0) (r : Refusal) (next : Answer A) → and_then (turned_down {A = B} r) next ≡ turned_down r
+turned_first B r next = grind arith
+
+-- A call that is turned down leaves a lent slice as it was.
+pub turned_keeps : (A : Type 0) (r : Refusal) (written lent : List ℕ) → afterwards (turned_down {A = A} r) written lent ≡ lent
+turned_keeps A r written lent = grind arith
 
 -- Both parts pass where the two together do.
 pub second_given : {A B : Type 0} (first : Answer B) (next : Answer A) (x : A) → given x ≡ and_then first next → given x ≡ next

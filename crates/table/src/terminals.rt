@@ -1,4 +1,4 @@
-// The terminals of tokens (01, "The scanner").
+// The terminals of tokens (01, "The scanner"). They stay numbers, as C is handed them in token words: a keyword's is 3 and its own.
 
 // A number.
 pub const NUMBER: u32 = 0;

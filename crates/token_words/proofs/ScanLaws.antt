@@ -8,7 +8,7 @@ use Rattle.table.specs.Limits.{most_tokens}
 use Rattle.table.specs.Answer.{Answer, given, refused, refused_at, refuse_if, and_then, afterwards}
 use Rattle.table.specs.Refusals.{turned_down}
 use Rattle.table.specs.declared.refusals.Refusal.{Refusal}
-use Rattle.table.proofs.AnswerLaws.{first_passes}
+use Rattle.table.proofs.AnswerLaws.{turned_first, first_passes}
 use Rattle.grammar_file.specs.File.{Contents, keywords, fields_of, file_answer}
 use Rattle.report_checks.specs.FirstChecks.{first_answer, Passed}
 use Rattle.scanner.specs.Tokens.{token_of}
@@ -24,20 +24,13 @@ first_then (given x) false next = refl
 first_then (refused n) b next = refl
 first_then (refused_at n node) b next = refl
 
--- A first part that turns down, and what is written then.
-turned_first : {A : Type 0} (B : Type 0) (r : Refusal) (next : Answer A) → turned_down r ≡ and_then (turned_down {A = B} r) next
-turned_first B r next = grind arith
-
-pub turned_keeps : (r : Refusal) (words old : List ℕ) → old ≡ afterwards (turned_down {A = ℕ} r) words old
-turned_keeps r words old = grind arith
-
 -- A whole scan.
 module _ (file text : List ℕ) (lent : ℕ) where
   pub scan_first : (r : Refusal) → turned_down r ≡ first_answer file text → turned_down r ≡ scan_answer file text lent
   unfolding scan_answer first_answer
   scan_first r e =
       let later = refuse_if (fails9 text) 9 (refuse_if (fails10 text lent) 10 (given (length (places text)))) in
-      turned_first Unit r later ∙ ap (λ (a : Answer Unit). and_then a later) e ∙ first_then (file_answer file) (fails8 text) later
+      sym (turned_first Unit r later) ∙ ap (λ (a : Answer Unit). and_then a later) e ∙ first_then (file_answer file) (fails8 text) later
 
   module _ {k : ℕ} (h : Passed file text k) where
     -- The further checks, by what each says.

@@ -48,6 +48,7 @@ use Rattle.walk.specs.InternalRemembering.{Remembering}
 use Rattle.walk.specs.InternalRun.{Admitted, Counted, WholeWalk, WholeWalkFrom}
 use Rattle.walk.specs.WalkAnswer.{end_of, walk_answer, walk_after}
 use Rattle.walk.proofs.WalkLaws.{weight_most}
+use Rattle.table.proofs.AnswerLaws.{turned_first, turned_keeps}
 
 -- A finite upper end of a start within the limits is at most the last column.
 upper_right : (nodes words : List ℕ) (start : Start) → fails12 nodes words start ≡ false → finite_over start.interval.upper ≡ false
@@ -97,13 +98,6 @@ pub remembers_cleared :
     {reading : Reading} {nodes rules words : List ℕ} (m : List ℕ) {m' : List ℕ} → m' ≡ cleared_from 0 m → Remembering reading nodes rules words m'
 remembers_cleared m e = rw (e, cleared_all m) (nothing_kept _ (length m))
 
--- A refusal goes on as it is, and leaves a lent slice as it was.
-turned_first : {A : Type 0} (B : Type 0) (r : Refusal) (next : Answer A) → and_then (turned_down {A = B} r) next ≡ turned_down r
-turned_first B r next = grind arith
-
-untouched : (A : Type 0) (written lent : List ℕ) (r : Refusal) → afterwards (turned_down {A = A} r) written lent ≡ lent
-untouched A written lent r = grind arith
-
 module _ (reading : Reading) (nodes rules words : List ℕ) (start : Start) where
   abbrev Answered : Answer Ended → Type 0
   Answered v = v ≡ run_answer reading nodes rules words start
@@ -143,11 +137,11 @@ module _ (reading : Reading) (nodes rules words : List ℕ) (start : Start) wher
 
     pub list_refused : lent ≡ walk_after reading nodes rules words start lent
     unfolding walk_after
-    list_refused = unwritten (leb (length (our_captures reading nodes rules words start)) (length lent / 4)) lent _ (rw (← e) (untouched _ _ lent r))
+    list_refused = unwritten (leb (length (our_captures reading nodes rules words start)) (length lent / 4)) lent _ (rw (← e) (turned_keeps _ r _ lent))
 
     pub memory_refused : lent ≡ memory_after reading nodes rules words start lent
     unfolding memory_after
-    memory_refused = rw (← e) (sym (untouched _ _ lent r))
+    memory_refused = rw (← e) (sym (turned_keeps _ r _ lent))
 
   module _ (admitted : Admitted reading nodes rules words start) where
     limits : WithinLimits reading nodes rules words start

@@ -10,7 +10,7 @@ use Rattle.table.proofs.Orders.{le_or_lt}
 use Rattle.table.specs.Answer.{Answer, given, refused, refused_at, and_then}
 use Rattle.table.specs.Refusals.{turned_down}
 use Rattle.table.specs.declared.refusals.Refusal.{Refusal}
-use Rattle.table.proofs.AnswerLaws.{first_passes, table_nameless}
+use Rattle.table.proofs.AnswerLaws.{turned_first, first_passes, table_nameless}
 use Rattle.table.specs.Checks.{table_answer}
 use Rattle.table.specs.Form.{form, node_count}
 use Rattle.well_formed.specs.WellFormed.{WellFormed, Passes, LowestBad}
@@ -155,10 +155,6 @@ check_means nodes rules = by_table (table_answer nodes rules) refl
           named = λ n. (λ p. absurd (let z : ◌≡◌ {A = ℕ} 0 1 = cc in omega arith), λ p. absurd (let q = p.0 in let z : ◌≡◌ {A = ℕ} 0 1 = cc in omega arith));
         })
     by_table (refused_at k m) e = absurd (table_nameless nodes rules k m e)
-
--- A first part that turns down.
-turned_first : {A : Type 0} (B : Type 0) (r : Refusal) (next : Answer A) → and_then (turned_down {A = B} r) next ≡ turned_down r
-turned_first B r next = grind arith
 
 -- An answer that is the check's, with what it means.
 module _ (nodes rules : List ℕ) {v : Answer Unit} where

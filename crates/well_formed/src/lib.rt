@@ -31,7 +31,7 @@ fn judge(nodes: &[u16], rules: &[u16]) -> Result<(), Refusal>
     ensures { numbers result
         ≡ verdict_from (is_well nodes.now rules.now) 0 (node_count nodes.now) }
 {
-    let mut cells = [Facts::default(); 512];
+    let mut cells = [Facts::default(); 512]; // fixed arrays: there is no heap here
     facts::find(nodes, rules, &mut cells);
     let mut found = [false; 512];
     well::find(nodes, rules, &cells, &mut found);

@@ -1,7 +1,8 @@
 -- `line::prepare` meets its contract.
 use Rattle.std.proofs.Common.{ℕ, ◌∙◌, arith}
 use Rattle.std.proofs.lemmas.Result.{err_from_is_err_and}
-use Rattle.line.proofs.PartLaws.{tables, check_refuses, scan_refuses, all_stand, read_refuses, unchanged, unwritten, written, front_length}
+use Rattle.table.proofs.AnswerLaws.{turned_keeps}
+use Rattle.line.proofs.PartLaws.{tables, check_refuses, scan_refuses, all_stand, read_refuses, unwritten, written, front_length}
 use Rattle.line.proofs.prepare.Goals as goal
 
 pub overflow_mul-read : goal.overflow_mul-read
@@ -61,7 +62,7 @@ returns-in_err-count c =
     tables c.args.file.now c.args.nodes.now c.args.rules.now c.requires.0 c.requires.1
     c.in_ok-read.ensures.result_value c.in_ok-read.ensures.nodes_after c.in_ok-read.ensures.rules_after in
     let refuses = scan_refuses stand _ _ c.in_ok-check.ensures.result_value _ c.in_err-count.ensures.result_value in
-    rw (p.1, p.2) (record { said = refuses; written = c.in_err-count.ensures.tokens_after ∙ unchanged ℕ _ _ _ ∙ unwritten _ _ _ _ refuses })
+    rw (p.1, p.2) (record { said = refuses; written = c.in_err-count.ensures.tokens_after ∙ turned_keeps ℕ _ _ _ ∙ unwritten _ _ _ _ refuses })
 
 pub returns : goal.returns
 returns c =
