@@ -226,16 +226,6 @@ module _ (l : List ℕ) (n : ℕ) (c : Capture) where
           rw (← put_nowhere h)
           (record { long = refl; before = λ i b. refl; behind = λ i b. refl; there = λ r i b. absurd (omega arith) })
 
--- There is room for a level less with one more around, and any count that has not passed its end.
-pub room_inside :
-    (levels : ℕ) {c : Counts} {l : List ℕ}
-    → Room (levels + 1) c l
-    → {k n : ℕ}
-    → k ≤ c.around + 1
-    → n ≤ most_count
-    → Room levels (with_counts k n) l
-room_inside levels room h f = record { deep = omega (arith, room.deep); count = f; long = room.long }
-
 -- A rule: with one more around and one more so far inside.
 module _ (levels : ℕ) {c : Counts} {l : List ℕ} (room : Room (levels + 1) c l) {n : ℕ} (more : n ≡ one_more c.so_far) where
   module _ {c' : Counts} {l' : List ℕ} where

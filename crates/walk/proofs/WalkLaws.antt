@@ -448,9 +448,6 @@ module _ {reading : Reading} {nodes rules words : List ℕ} {τ₀ n₀ : ℕ} {
   abbrev r : ℕ
   r = relation_of nodes n
 
-  pub for_node : n * 4 + 3 < length nodes
-  for_node = node_there h.ready
-
   -- The node's kind is one of those there are.
   pub kind_in : 9 < kind_of nodes n → ⊥
   kind_in f = let k = kind_there nodes rules h.ready.checked.table n h.ready.node in omega arith
@@ -578,9 +575,6 @@ module _ {reading : Reading} {nodes rules words : List ℕ} {τ₀ n₀ : ℕ} {
         (d : WalkedFirst kind reading nodes rules words τ (form nodes k) (child_state reading kind r s) c l x c' l') where
       abbrev Child : Kind → ℕ → State → Outcome → Type 0
       Child q m u o = WalkedFirst q reading nodes rules words τ (form nodes m) u c l o c' l'
-
-      pub call_long : length l' ≡ length l₀
-      call_long = d.left.keeps.long ∙ h.long
 
       gave : (q : Kind) → kind ≡ q → {o : Outcome} → x ≡ o → Child q (first_node q n a) (child_state reading q r s) o
       gave q p {o} z =
@@ -824,9 +818,6 @@ module _ {levels : ℕ} {c : Counts} {l : List ℕ} (room : Room levels c l) whe
 
 -- The walk of what is walked first.
 module _ {reading : Reading} {nodes rules words : List ℕ} {n : ℕ} {q : Kind} {r : ℕ} {s : State} (h : ReadyFirst reading nodes rules words n q r s) where
-  pub first_there : n * 4 + 3 < length nodes
-  first_there = node_there h.ready
-
   pub first_token : ReadyToken words
   first_token = token_ready h.ready
 
@@ -949,13 +940,7 @@ module _ {reading : Reading} {nodes rules words : List ℕ} {n : ℕ} {q : Kind}
               let p : puts_back (word_of q) o ≡ false = sym (e ∙ same) ∙ k in
               record { shown = x.shown; gives = given_there x.gives; left = rw w (first_on room (word_of q) x.shown g.farthest v (rw w at p) leaves) }
 
--- The rule walk.
-module _ {nodes rules words : List ℕ} {x : ℕ} {s : State} (h : ReadyRule nodes rules words x s) where
-  -- To the expression walk of its node.
-  pub node_less : {T : ℕ} → 2 * weight nodes rules words (stands_for rules x) s + 2 ≡ T → 2 * weight nodes rules words (stands_for rules x) s + 1 < T
-  node_less q = omega arith
-
--- After it, with one more around and one more so far inside.
+-- After the rule walk, with one more around and one more so far inside.
 module _ {reading : Reading} {nodes rules words : List ℕ} (x : ℕ) {s : State} {c : Counts} {l : List ℕ} (room : Room (weight nodes rules words (stands_for rules x) s + 1) c l) {k : ℕ}
     (more : k ≡ one_more c.so_far) {τ : ℕ} {o : Outcome} {c' : Counts} {l' : List ℕ}
     (d : Walked reading nodes rules words τ (form nodes (stands_for rules x)) s (with_counts (c.around + 1) k) l o c' l') where

@@ -13,26 +13,32 @@ pub(crate) struct Node {
     pub(crate) second: usize,
 }
 
-// Node n of a table. A rule asks its node first, every other form a. Node words and rules stay two slices, as they are lent:
-// with a struct of both, clauses say `table.now.nodes.now` for `nodes.now`.
-pub(crate) fn node_at(nodes: &[u16], rules: &[u16], n: usize) -> Node
-    requires { «n» < node_count nodes.now }
-    ensures kind { result.kind ≡ kind_of nodes.now «n» }
-    ensures first { result.first ≡ first_child rules.now (kind_of nodes.now «n») (a_of nodes.now «n») }
-    ensures second { result.second ≡ b_of nodes.now «n» }
+// A table that is checked, and its rules.
+#[derive(Clone, Copy)]
+pub(crate) struct Table<'a> {
+    pub(crate) nodes: &'a [u16],
+    pub(crate) rules: &'a [u16],
+}
+
+// Node n of a table. A rule asks its node first, every other form a.
+pub(crate) fn node_at(table: &Table, n: usize) -> Node
+    requires { «n» < node_count table.now.nodes.now }
+    ensures kind { result.kind ≡ kind_of table.now.nodes.now «n» }
+    ensures first { result.first ≡ first_child table.now.rules.now (kind_of table.now.nodes.now «n») (a_of table.now.nodes.now «n») }
+    ensures second { result.second ≡ b_of table.now.nodes.now «n» }
 {
     let at = n * 4;
-    let kind = nodes[at];
-    let a = nodes[at + 1] as usize;
+    let kind = table.nodes[at];
+    let a = table.nodes[at + 1] as usize;
     let first = if Kind::try_from(kind) == Ok(Kind::Rule) {
-        cell(rules, a, 0) as usize
+        cell(table.rules, a, 0) as usize
     } else {
         a
     };
     Node {
         kind,
         first,
-        second: nodes[at + 2] as usize,
+        second: table.nodes[at + 2] as usize,
     }
 }
 

@@ -11,6 +11,7 @@ ghost use Rattle.table.specs.Checks.{table_answer};
 ghost use Rattle.table.specs.Form.{node_count};
 ghost use Rattle.well_formed.specs.Check.{numbers, check_answer, Means, is_well, verdict_from};
 
+use cells::Table;
 use form_facts::Facts;
 use table::Refusal;
 
@@ -31,10 +32,11 @@ fn judge(nodes: &[u16], rules: &[u16]) -> Result<(), Refusal>
     ensures { numbers result
         ≡ verdict_from (is_well nodes.now rules.now) 0 (node_count nodes.now) }
 {
-    let mut cells = [Facts::default(); 512]; // fixed arrays: there is no heap here
-    facts::find(nodes, rules, &mut cells);
+    let table = Table { nodes, rules };
+    let mut cells = [Facts::default(); 512];
+    facts::find(&table, &mut cells);
     let mut found = [false; 512];
-    well::find(nodes, rules, &cells, &mut found);
+    well::find(&table, &cells, &mut found);
     lowest(nodes.len() / 4, &found)
 }
 

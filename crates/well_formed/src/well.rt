@@ -5,25 +5,25 @@ ghost use Rattle.well_formed.specs.Facts.{nothing};
 ghost use Rattle.well_formed.specs.Rounds.{passes as passes-by};
 ghost use Rattle.well_formed.specs.InternalPasses.{known, WellReady, WellPass, WellFinished};
 
-use crate::cells::{cell, node_at};
+use crate::cells::{Table, cell, node_at};
 use form_facts::{Facts, well_by_form};
 
 // Every well-formed node: passes until one finds none. The facts of each node are known.
-pub(crate) fn find(nodes: &[u16], rules: &[u16], cells: &[Facts], well: &mut [bool])
-    requires { WellReady nodes.now rules.now cells.now well.old }
-    ensures { WellFinished nodes.now rules.now cells.now well.new }
+pub(crate) fn find(table: &Table, cells: &[Facts], well: &mut [bool])
+    requires { WellReady table.now.nodes.now table.now.rules.now cells.now well.old }
+    ensures { WellFinished table.now.nodes.now table.now.rules.now cells.now well.new }
 {
-    while pass(nodes, rules, cells, well) {}
+    while pass(table, cells, well) {}
 }
 
 // One pass: the nodes that pass by their rules join those found. Whether a node was found.
-fn pass(nodes: &[u16], rules: &[u16], cells: &[Facts], well: &mut [bool]) -> bool
-    requires { WellReady nodes.now rules.now cells.now well.old }
-    ensures { WellPass nodes.now rules.now cells.now (node_count nodes.now) well.old well.new result }
+fn pass(table: &Table, cells: &[Facts], well: &mut [bool]) -> bool
+    requires { WellReady table.now.nodes.now table.now.rules.now cells.now well.old }
+    ensures { WellPass table.now.nodes.now table.now.rules.now cells.now (node_count table.now.nodes.now) well.old well.new result }
 {
     let mut found = false;
-    for n in 0..nodes.len() / 4 {
-        if !well[n] && passes(nodes, rules, cells, well, n) {
+    for n in 0..table.nodes.len() / 4 {
+        if !well[n] && passes(table, cells, well, n) {
             well[n] = true;
             found = true;
         }
@@ -32,13 +32,13 @@ fn pass(nodes: &[u16], rules: &[u16], cells: &[Facts], well: &mut [bool]) -> boo
 }
 
 // Whether node n passes by its rules, from which of its children are found.
-fn passes(nodes: &[u16], rules: &[u16], cells: &[Facts], well: &[bool], n: usize) -> bool
-    requires { «n» < node_count nodes.now }
+fn passes(table: &Table, cells: &[Facts], well: &[bool], n: usize) -> bool
+    requires { «n» < node_count table.now.nodes.now }
     ensures { result
-        ≡ passes-by rules.now (known cells.now nothing) (λ (m : ℕ). get_or well.now m false)
-        (form nodes.now «n») }
+        ≡ passes-by table.now.rules.now (known cells.now nothing) (λ (m : ℕ). get_or well.now m false)
+        (form table.now.nodes.now «n») }
 {
-    let node = node_at(nodes, rules, n);
+    let node = node_at(table, n);
     let facts = cell(cells, node.first, Facts::default());
     let first = cell(well, node.first, false);
     let second = cell(well, node.second, false);

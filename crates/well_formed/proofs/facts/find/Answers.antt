@@ -6,5 +6,5 @@ use Rattle.well_formed.proofs.facts.find.Goals as goal
 
 pub loop-smaller : goal.loop-smaller
 loop-smaller c =
-    fewer _ _ _ (cells_below (node_count c.args.nodes.now))
-    (λ k l Q e. cell_at Q (node_count c.args.nodes.now) e k.node l k.fact) c.loop-test.true c.pass.ensures
+    fewer _ _ _ (cells_below (node_count c.args.table.now.nodes.now))
+    (λ k l Q e. cell_at Q (node_count c.args.table.now.nodes.now) e k.node l k.fact) c.loop-test.true c.pass.ensures

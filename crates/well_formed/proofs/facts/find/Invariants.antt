@@ -7,7 +7,7 @@ use Rattle.well_formed.proofs.DecidedLaws.{cells_below}
 use Rattle.well_formed.proofs.facts.find.Given as goal
 
 abbrev pub invariant-loop : goal.invariant-loop
-invariant-loop l = FactsReady l.nodes l.rules l.cells × (length l.cells ≡ length l.initial.cells)
+invariant-loop l = FactsReady l.table.nodes.now l.table.rules.now l.cells × (length l.cells ≡ length l.initial.cells)
 
 abbrev pub decreases-loop : goal.decreases-loop
-decreases-loop l = missing (known_cells l.nodes l.rules l.cells) (cells_below (node_count l.nodes))
+decreases-loop l = missing (known_cells l.table.nodes.now l.table.rules.now l.cells) (cells_below (node_count l.table.nodes.now))

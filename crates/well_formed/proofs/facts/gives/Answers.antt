@@ -11,7 +11,7 @@ pub returns : goal.returns
 returns c =
     λ x.
     c.facts_by_form.ensures x
-    ∙ node_gives c.args.nodes.now c.args.rules.now c.args.n (known c.args.cells.now) (fact_of c.cell-first.result) (fact_of c.cell-second.result)
+    ∙ node_gives c.args.table.now.nodes.now c.args.table.now.rules.now c.args.n (known c.args.cells.now) (fact_of c.cell-first.result) (fact_of c.cell-second.result)
     c.node_at-node.ensures.kind
     (λ y.
     ap (λ (f : Facts). fact_of f y) (cell_is c.args.cells.now c.node_at-node.result.first c.cell-first.ensures (none_is _ c.default.ensures))

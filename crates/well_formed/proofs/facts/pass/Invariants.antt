@@ -4,4 +4,4 @@ use Rattle.well_formed.specs.InternalPasses.{FactsPass}
 use Rattle.well_formed.proofs.facts.pass.Given as goal
 
 abbrev pub invariant-loop-n : goal.invariant-loop-n
-invariant-loop-n l = (length l.cells ≡ length l.initial.cells) × FactsPass l.nodes l.rules l.n l.initial.cells l.cells l.found
+invariant-loop-n l = (length l.cells ≡ length l.initial.cells) × FactsPass l.table.nodes.now l.table.rules.now l.n l.initial.cells l.cells l.found

@@ -8,7 +8,7 @@ use Rattle.well_formed.proofs.DecidedLaws.{nodes_below}
 use Rattle.well_formed.proofs.well.find.Given as goal
 
 abbrev pub invariant-loop : goal.invariant-loop
-invariant-loop l = WellReady l.nodes l.rules l.cells l.well × (length l.well ≡ length l.initial.well)
+invariant-loop l = WellReady l.table.nodes.now l.table.rules.now l.cells l.well × (length l.well ≡ length l.initial.well)
 
 abbrev pub decreases-loop : goal.decreases-loop
-decreases-loop l = missing (well_cells l.nodes l.rules l.well) (nodes_below (node_count l.nodes))
+decreases-loop l = missing (well_cells l.table.nodes.now l.table.rules.now l.well) (nodes_below (node_count l.table.nodes.now))
