@@ -2,6 +2,5 @@ pub mod Every
 pub mod Inside
 pub mod Orders
 pub mod Words
-pub mod NodeKinds
 pub mod Cells
 pub mod AnswerLaws

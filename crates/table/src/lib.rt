@@ -29,8 +29,8 @@ pub const TOKENS: usize = 4096;
 
 pub const LAST_COLUMN: u32 = 65535;
 
-// Whether node words and rules are a table, or the first of 3, 4 and 5 that fails. The two stay parameters of their own, here
-// and above, as C lends them: with a struct of both, clauses say `table.now.nodes.now` for `nodes.now`.
+// Whether node words and rules are a table, or the first of 3, 4 and 5 that fails. The two stay parameters of their own in
+// all that users call, as C lends them.
 #[tactic(auto, unfolding(crate::specs::Checks::table_answer))]
 pub fn check(nodes: &[u16], rules: &[u16]) -> Result<(), Refusal>
     ensures { numbers result ≡ table_answer nodes.now rules.now }

@@ -33,7 +33,7 @@ fn judge(nodes: &[u16], rules: &[u16]) -> Result<(), Refusal>
         ≡ verdict_from (is_well nodes.now rules.now) 0 (node_count nodes.now) }
 {
     let table = Table { nodes, rules };
-    let mut cells = [Facts::default(); 512];
+    let mut cells = [Facts::default(); 512]; // fixed arrays: there is no heap here
     facts::find(&table, &mut cells);
     let mut found = [false; 512];
     well::find(&table, &cells, &mut found);
