@@ -1,29 +1,12 @@
--- What a function says of a class it says of a byte that has it; and the class of a continuation byte.
+-- The class of a continuation byte.
 use Prim.Native.Nat.{ℕ, ◌≤◌}
-use mathlib.Core.Path.{◌≡◌, refl, sym, ap, ◌∙◌}
+use mathlib.Core.Path.{◌≡◌, refl}
 use mathlib.Core.Bool.{Bool, true, false, ◌&&◌}
 use lib.Dec.{leb}
 use native.Mathlib.Omega.{arith}
 use borrow.Author.Tests.{leb-true, le-ltb, le-leb, lt-leb, ne_eqb}
 use Rattle.byte_class.specs.Bytes.{is_single, is_continuation, class_of}
-use Rattle.byte_class.specs.declared.Class.{Class}
-use Rattle.byte_class.specs.declared.Class.TheVariants.{Break, Tab, Blank, Single, Digit, Run, Continuation, Refused}
-
--- What holds of each of the eight holds of every class.
-pub each_class :
-    (P : Class → Type 0) → P Break → P Tab → P Blank → P Single → P Digit → P Run → P Continuation → P Refused → (k : Class) → P k
-each_class P a b c d e f g h Break = a
-each_class P a b c d e f g h Tab = b
-each_class P a b c d e f g h Blank = c
-each_class P a b c d e f g h Single = d
-each_class P a b c d e f g h Digit = e
-each_class P a b c d e f g h Run = f
-each_class P a b c d e f g h Continuation = g
-each_class P a b c d e f g h Refused = h
-
--- A byte whose class was found to be k.
-pub by_class : (b : ℕ) {r k : Class} → r ≡ class_of b → r ≡ k → {A : Type 0} (f : Class → A) {v : A} → f k ≡ v → v ≡ f (class_of b)
-by_class b e told f w = sym w ∙ ap f (sym told ∙ e)
+use Rattle.byte_class.specs.declared.Class.TheVariants.{Continuation}
 
 -- No other test holds of a continuation byte.
 pub continuation_class : (b : ℕ) → is_continuation b ≡ true → class_of b ≡ Continuation

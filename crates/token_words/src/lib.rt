@@ -14,7 +14,7 @@ ghost use Rattle.token_words.specs.Scan.{token_words, words_of, scan_tokens, sca
 ghost use Rattle.token_words.specs.Numbers.{numbers as scan_numbers};
 ghost use Rattle.token_words.specs.InternalScan.{written, Measured};
 
-use index::Index;
+use index::{Index, KEYS, KEYWORDS, link, starts};
 use places::{Place, Position, bytes_at, find};
 use report_checks::first_checks;
 use table::{Refusal, terminals};
@@ -60,7 +60,17 @@ fn write(file: &[u8], keywords: usize, report: &[u8], tokens: &mut [u32])
     requires report_in_bounds { length (places report.now) * 4 ≤ length tokens.old }
     ensures { tokens.new ≡ written file.now keywords report.now tokens.old }
 {
-    let index = Index::new(file, keywords);
+    let offsets = starts(file, keywords);
+    let mut firsts = [None; KEYS];
+    let mut nexts = [None; KEYWORDS];
+    link(file, keywords, &offsets, &mut firsts, &mut nexts);
+    let index = Index {
+        file,
+        count: keywords,
+        offsets: &offsets,
+        firsts: &firsts,
+        nexts: &nexts,
+    };
     let mut to = 0;
     let mut next = find(report, Position::START);
     while let Some(place) = next.found {

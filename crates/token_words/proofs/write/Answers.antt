@@ -18,7 +18,7 @@ pub loop-next-preserved : goal.loop-next-preserved
 loop-next-preserved c =
     writing_next c.args.report.now (keywords_from c.args.file.now c.args.keywords) c.args.tokens.now c.loop-next.invariant
     c.in-Some.is c.find-next-in-Some.ensures
-    (c.copy_from_slice.ensures.after ∙ (rw (c.new-index.ensures.0, c.new-index.ensures.1) at c.words_at.ensures)) (omega arith)
+    (c.copy_from_slice.ensures.after ∙ c.words_at.ensures) (omega arith)
 
 pub returns : goal.returns
 returns c =

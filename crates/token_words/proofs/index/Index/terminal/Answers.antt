@@ -1,10 +1,19 @@
 -- `Index::terminal` meets its contract.
-use Rattle.std.proofs.Common.{sym, ◌∙◌}
-use Rattle.token_words.proofs.IndexLaws.{search_start, search_here, search_less, search_next}
+use Rattle.std.proofs.Common.{sym, ◌∙◌, arith}
+use Rattle.token_words.proofs.IndexLaws.{search_start, search_inside, search_here, search_less, search_next}
 use Rattle.token_words.proofs.index.Index.terminal.Goals as goal
 
 pub loop-next-init : goal.loop-next-init
 loop-next-init c = search_start c.args.self.now.indexed c.args.s.now c.key.ensures.value c.key.ensures.upper_bound
+
+pub bounds-self-from : goal.bounds-self-from
+bounds-self-from c =
+    omega (
+      arith,
+      c.from.ensures,
+      search_inside c.args.self.now.indexed c.args.s.now c.loop-next.invariant c.in-Some.is,
+      c.args.self.now.indexed.starts.room,
+    )
 
 pub returns-then-same : goal.returns-then-same
 returns-then-same c =
