@@ -10,6 +10,7 @@ use crate::cells::{Table, cell, node_at};
 use form_facts::{Facts, facts_by_form};
 
 // Every fact of every node: passes until one finds nothing.
+#[tactic(auto, using(crate::proofs::PassLaws::last_pass))]
 pub(crate) fn find(table: &Table, cells: &mut [Facts])
     requires { FactsReady table.now.nodes.now table.now.rules.now cells.old }
     ensures { FactsFinished table.now.nodes.now table.now.rules.now cells.new }
