@@ -1,18 +1,13 @@
 -- Bytes put one behind the other.
-use Prim.Native.Nat.{ℕ, zero, suc, ◌+◌, ◌*◌, ◌/◌, ◌%◌, ◌^◌, ◌≤◌, ◌<◌}
+use Prim.Native.Nat.{ℕ, zero, suc, ◌+◌, ◌-◌, ◌/◌, ◌%◌, ◌≤◌, ◌<◌}
 use mathlib.Core.Path.{◌≡◌, refl, sym, ap, ◌∙◌}
 use mathlib.Core.Bool.{Bool}
-use mathlib.Core.Logic.{inl, inr}
 use mathlib.Core.List.{List, [], ◌∷◌, ◌++◌, append_assoc}
 use lib.ListN.{length, drop, set, take, length-append}
 use lib.Seq.{drop-nil}
 use borrow.Author.Tests.{lt-ltb, le-ltb}
 use native.Mathlib.Nat.{zero-add, suc-add}
-use native.Mathlib.Numerals.{unary_clauses}
 use native.Mathlib.Omega.{arith}
-use Rattle.std.specs.Fmt.{decimal as std_decimal}
-use Rattle.std.proofs.lemmas.Bool.{cases_lt}
-use Rattle.std.proofs.lemmas.Fmt.{decimal_digit, decimal_step}
 use Rattle.columns.specs.Intervals.{to}
 use Rattle.columns.specs.declared.Upper.{Upper}
 use Rattle.clauses.specs.Clauses.{success}
@@ -76,23 +71,28 @@ put_then {o} {at} {w} {v} p q =
 pub put_same : {o : List ℕ} {at : ℕ} {w v : List ℕ} {r : ℕ} {o' : List ℕ} → w ≡ v → Puts o at w r o' → Puts o at v r o'
 put_same e p = rw (← e) p
 
--- std's digits of a number.
-pub digits : (most n : ℕ) → 0 < most → n < 10 ^ most → n < 2 ^ 64 → std_decimal n ≡ decimal_to most n
+-- The digits of a number: none, where none are asked for; of one below 10; of any other.
+pub digits_none : (o : List ℕ) (at : ℕ) {most : ℕ} (n : ℕ) → at ≤ length o → most ≡ 0 → Puts o at (decimal_to most n) at o
 unfolding decimal_to
-digits zero n p h l = absurd (omega arith)
-digits (suc k) n p h l =
-    elim (cases_lt n 10) [
-      | inl d ↦ decimal_digit n d ∙ rw (lt-ltb n 10 d) refl
-      | inr d ↦
-          let e : 10 ^ suc k ≡ 10 ^ k * 10 = simp unary_clauses in
-          let q : n / 10 < 10 ^ k = omega arith in
-          let one : 0 < k = positive k (omega arith) in
-          decimal_step n d l ∙ rw (le-ltb n 10 d) (ap (λ ds. ds ++ ((48 + n % 10) ∷ [])) (digits k (n / 10) one q (omega arith)))
-    ]
-  where
-    positive : (k : ℕ) → 1 < 10 ^ k → 0 < k
-    positive zero h = absurd (omega arith)
-    positive (suc k) h = omega arith
+digits_none o at n h e = rw e (put_none o at h)
+
+pub digits_last : {o o' : List ℕ} {at most n r : ℕ} → (most ≡ 0 → ⊥) → n < 10 → Puts o at ((48 + n) ∷ []) r o' → Puts o at (decimal_to most n) r o'
+unfolding decimal_to
+digits_last {most = zero} h l p = absurd (h refl)
+digits_last {most = suc k} {n = n} h l p = rw (lt-ltb n 10 l) p
+
+pub digits_more :
+    {o o' o'' : List ℕ} {at most n r s : ℕ}
+    → (most ≡ 0 → ⊥)
+    → 10 ≤ n
+    → Puts o at (decimal_to (most - 1) (n / 10)) r o'
+    → Puts o' r ((48 + n % 10) ∷ []) s o''
+    → Puts o at (decimal_to most n) s o''
+unfolding decimal_to
+digits_more {most = zero} h l p q = absurd (h refl)
+digits_more {most = suc k} {n = n} h l p q =
+    let e : suc k - 1 ≡ k = omega arith in
+    rw (le-ltb n 10 l) (put_then (put_same (ap (λ (m : ℕ). decimal_to m (n / 10)) e) p) q)
 
 -- A word of two parts behind what was put.
 put_more :

@@ -1,7 +1,7 @@
 // Bytes of a line, put one behind the other into a lent slice. Not by `write!`, since std doesn't promise which bytes that
 // leaves in a slice.
 ghost use Rattle.std.specs.Prelude.{[], ◌∷◌, ◌++◌, ◌+◌, ◌≤◌, ◌<◌, length};
-ghost use Rattle.answer_line.specs.AnswerLine.{decimal};
+ghost use Rattle.answer_line.specs.AnswerLine.{decimal, decimal_to};
 ghost use Rattle.answer_line.specs.InternalPut.{Puts};
 
 // Puts a byte at a place, and says where the next one goes.
@@ -23,12 +23,28 @@ pub(crate) fn put_word(out: &mut [u8], at: usize, word: &[u8]) -> usize
     next
 }
 
-// Puts a word and a number behind it, in decimal digits.
+// Puts a number in decimal digits, at most so many. Not by the kit's `itoa`: nothing but std is to be trusted here.
+pub(crate) fn put_decimal(out: &mut [u8], at: usize, most: usize, n: u32) -> usize
+    requires { «at» + «most» ≤ length out.old }
+    ensures puts { Puts out.old «at» (decimal_to «most» n) result out.new }
+    ensures upper_bound { result ≤ «at» + «most» }
+{
+    if most == 0 {
+        return at;
+    }
+    if n < 10 {
+        return put(out, at, 48 + n as u8);
+    }
+    let next = put_decimal(out, at, most - 1, n / 10);
+    put(out, next, 48 + (n % 10) as u8)
+}
+
+// Puts a word and a number behind it.
 pub(crate) fn put_number(out: &mut [u8], at: usize, word: &[u8], n: u32) -> usize
     requires { «at» + length word.now + 10 ≤ length out.old }
     ensures puts { Puts out.old «at» (word.now ++ decimal n) result out.new }
     ensures upper_bound { result ≤ «at» + length word.now + 10 }
 {
     let next = put_word(out, at, word);
-    put_word(out, next, itoa::Buffer::new().format(n).as_bytes())
+    put_decimal(out, next, 10, n)
 }

@@ -107,10 +107,17 @@ module _ (file report words : List ℕ) (c : Capture) {p : Part} (e : given p �
       (λ (h : c.first < c.after). bytes_are (ap (cut file report) (with_tokens h) ∙ rw (lt-ltb c.first c.after h) refl))
       (le_or_lt c.after c.first)
 
+-- Where a number refuses, no bytes are shown.
+pub none_shown : (file report words : List ℕ) (c : Capture) {n : ℕ} → refused n ≡ shown_answer file report words c → [] ≡ shown_bytes file report words c
+unfolding shown_bytes
+none_shown file report words c e =
+    ap (λ (a : Answer Part). unless_refused a (cond (reads_tokens c)
+    (take (token_end words (last_token c) - token_offset words c.first) (drop (token_offset words c.first) report)) (name_bytes file c.rule))) e
+
 -- Where the call is turned down, no bytes are shown.
 none_down : (r : Refusal) (l : List ℕ) → [] ≡ unless_refused (turned_down r) l
 none_down r l = grind arith
 
-pub none_shown : (file report words : List ℕ) (c : Capture) (r : Refusal) → turned_down r ≡ shown_answer file report words c → [] ≡ shown_bytes file report words c
+pub none_turned_down : (file report words : List ℕ) (c : Capture) (r : Refusal) → turned_down r ≡ shown_answer file report words c → [] ≡ shown_bytes file report words c
 unfolding shown_bytes
-none_shown file report words c r e = rw (← e) (none_down r _)
+none_turned_down file report words c r e = rw (← e) (none_down r _)
