@@ -7,7 +7,8 @@ pub mod farthest;
 mod text;
 
 ghost use Rattle.std.specs.Prelude.{◌≡◌, ◌++◌, ◌≤◌, ◌+◌, length};
-ghost use Rattle.interpreter.specs.Numbers.{numbers};
+ghost use Rattle.refusal_numbers.specs.Numbers.{answered_by};
+ghost use Rattle.interpreter.specs.Numbers.{numbers, ran_to};
 ghost use Rattle.interpreter.specs.declared.Ran.TheVariants.{Success};
 ghost use Rattle.answer_line.specs.AnswerLine.{line_bytes, decimal, upper_word, flag_word, space, break};
 ghost use Rattle.answer_line.specs.AnswerLine.{written_count, written_after};
@@ -15,7 +16,7 @@ ghost use Rattle.answer_line.specs.InternalPut.{Puts};
 
 use columns::{State, Upper};
 use interpreter::Ran;
-use table::Refusal;
+use refusal_numbers::{Refuses, Told};
 use text::{put, put_number, put_word};
 
 // The room that every line has enough of.
@@ -23,9 +24,9 @@ pub const ROOM: usize = 64;
 
 // Writes the line, and says how many bytes it has. A slice of fewer than 64 bytes is left as it is, and the answer is 0.
 #[tactic(auto, unfolding(crate::specs::AnswerLine::written_count, crate::specs::AnswerLine::written_after, crate::specs::InternalPut::pasted))]
-pub fn write(x: Result<Ran, Refusal>, out: &mut [u8]) -> usize
-    ensures value { result ≡ written_count (numbers 0 x) (length out.old) }
-    ensures out_after { out.new ≡ written_after (numbers 0 x) out.old }
+pub fn write<E: Refuses>(x: Result<Ran, E>, out: &mut [u8]) -> usize
+    ensures value { result ≡ written_count (answered_by E.told (ran_to 0) x) (length out.old) }
+    ensures out_after { out.new ≡ written_after (answered_by E.told (ran_to 0) x) out.old }
 {
     if out.len() < ROOM {
         return 0;
@@ -35,15 +36,17 @@ pub fn write(x: Result<Ran, Refusal>, out: &mut [u8]) -> usize
 
 // Puts the line of an answer, which has 58 bytes at most.
 #[tactic(auto, unfolding(crate::specs::AnswerLine::decimal_to))]
-fn put_answer(out: &mut [u8], x: Result<Ran, Refusal>) -> usize
+fn put_answer<E: Refuses>(out: &mut [u8], x: Result<Ran, E>) -> usize
     requires { 58 ≤ length out.old }
-    ensures { Puts out.old 0 (line_bytes (numbers 0 x)) result out.new }
+    ensures { Puts out.old 0 (line_bytes (answered_by E.told (ran_to 0) x)) result out.new }
 {
     match x {
         Ok(Ran::Success(read, s)) => put_success(out, read, s),
         Ok(Ran::Failure(farthest)) => put_line(out, b"failure ", farthest),
-        Err(Refusal::IllFormed(node)) => put_line(out, b"refused 7 ", node as u32),
-        Err(refusal) => put_line(out, b"refused ", refusal.number() as u32),
+        Err(refusal) => match refusal.told() {
+            Told::Number(number) => put_line(out, b"refused ", number as u32),
+            Told::IllFormed(node) => put_line(out, b"refused 7 ", node as u32),
+        },
     }
 }
 

@@ -8,7 +8,7 @@
 #![tactic(auto)]
 
 use columns::{Interval, Reading, Start, Upper};
-use interpreter::Ran;
+use interpreter::Listed;
 use stored_cases::{NODE_WORDS, RULE_WORDS, TOKEN_WORDS, load, pair, part, zeros};
 
 fn main(rt: HostRuntime) {
@@ -68,8 +68,8 @@ fn list_in(
     load(nodes, first);
     load(rules, second);
     match interpreter::list(first, second, tokens, start, reading, captures) {
-        Ok(listed) if matches!(listed.ran, Ran::Success(..)) => {
-            stored_cases::show_one(b"captures", listed.captures as u64);
+        Ok(Listed::Success(_, _, count)) => {
+            stored_cases::show_one(b"captures", count as u64);
         }
         _ => {
             io::write_all(1, b"no list");

@@ -1,35 +1,36 @@
 -- What a run answers and lists, over plain values: from what the walk answers, and from the words that it left.
-use Prim.Native.Nat.{ℕ, ◌-◌, ◌*◌, ◌/◌, ◌≤◌, ◌<◌, ◌^◌, min}
+use Prim.Native.Nat.{ℕ, ◌+◌, ◌-◌, ◌*◌, ◌/◌, ◌≤◌, ◌<◌, ◌^◌, min}
 use mathlib.Core.Path.{◌≡◌, refl, sym, ap, subst, ◌∙◌}
-use mathlib.Core.Bool.{Bool, true, false, cond}
+use mathlib.Core.Bool.{Bool, false, cond}
 use mathlib.Core.List.{List, ◌++◌}
 use lib.ListN.{length, drop}
-use lib.Dec.{leb}
+use lib.Dec.{leb, ltb}
 use native.Mathlib.Omega.{arith}
-use borrow.Author.Tests.{lt-ltb, le-ltb, lt-leb, le-leb}
-use Rattle.std.proofs.Common.{Ok}
-use Rattle.table.specs.Answer.{Answer, given, refused, refused_at, and_then, afterwards}
+use borrow.Author.Tests.{lt-ltb, le-ltb}
+use Rattle.std.proofs.lemmas.Bool.Decides.{nat_tests}
+use Rattle.table.specs.Answer.{Answer, given, refused, refused_at, refuse_if, and_then, afterwards}
 use Rattle.table.specs.Refusals.{turned_down}
 use Rattle.table.specs.declared.refusals.Refusal.{Refusal}
 use Rattle.columns.specs.declared.Outcome.{Outcome}
 use Rattle.columns.specs.declared.Outcome.TheVariants as columns
 use Rattle.columns.specs.Intervals.{ends}
+use Rattle.columns.specs.declared.Interval.{Interval}
 use Rattle.columns.specs.declared.State.{State}
 use Rattle.columns.specs.declared.Start.{Start}
 use Rattle.columns.specs.declared.Reading.{Reading}
 use Rattle.well_formed.specs.WellFormed.{Passes}
-use Rattle.clauses.specs.Clauses.{success}
+use Rattle.clauses.specs.Clauses.{Outcome as Ending, success, failure}
 use Rattle.clauses.specs.Limits.{tokens_of, WithinLimits}
-use Rattle.clauses.specs.RunAnswer.{Ended, our_end, run_answer, Reads}
+use Rattle.clauses.specs.Trace.{listed}
+use Rattle.clauses.specs.RunAnswer.{our_outcome, our_trace, Ended, our_end, run_answer, Reads}
 use Rattle.clauses.specs.ListAnswer.{our_captures, fails13, Listing, list_answer, list_words, list_after}
 use Rattle.clauses.proofs.ListWords.{list_fills}
 use Rattle.theorems.proofs.Narrows.{onward}
 use Rattle.theorems.proofs.Agreement.{run_given, farthest_only, captures_only, outcome_answered, answered_within}
 use Rattle.capture_list.specs.Put.{most_count}
 use Rattle.walk.specs.WalkAnswer.{end_of as walk_end, walk_answer, walk_after}
-use Rattle.interpreter.specs.Numbers.{ran_to, end_of, Looked, Derived, CapturesStand, ListedBy}
-use Rattle.interpreter.specs.InternalRan.{Onward, ran_of}
-use Rattle.table.proofs.AnswerLaws.{turned_first, turned_keeps}
+use Rattle.interpreter.specs.Numbers.{failing, end_of, Looked, CapturesStand}
+use Rattle.table.proofs.AnswerLaws.{turned_first}
 
 -- What refuses the second of two answers refuses the first, where the second is given; and a refusal goes on as it is.
 refused_first : (A : Type 0) {B : Type 0} (r : Refusal) (first : Answer B) (x : A) → turned_down r ≡ and_then first (given x) → turned_down r ≡ first
@@ -40,14 +41,25 @@ refused_first A r (given b) x e = absurd (not_given r x e)
 refused_first A r (refused k) x e = grind arith
 refused_first A r (refused_at k n) x e = grind arith
 
--- Words that stay, whether there is room or not.
-either : (b : Bool) (after lent : List ℕ) → after ≡ lent → cond b after lent ≡ lent
-either true after lent e = e
-either false after lent e = refl
+-- The lent words afterwards, by whether there are places for so many captures: as a run that lists says, and as the walk does.
+in_room :
+    (n places : ℕ) (x : Listing) (written lent : List ℕ)
+    → afterwards (refuse_if (ltb places n) 13 (given x)) written lent ≡ cond (leb n places) (written ++ drop (length written) lent) lent
+in_room n places x written lent = grind (arith, nat_tests)
+
+either_way : (b : Bool) (lent : List ℕ) → lent ≡ cond b lent lent
+either_way b lent = grind arith
+
+by_room :
+    (r : Answer Ended) (n places : ℕ) (x : Listing) (written lent : List ℕ)
+    → afterwards (and_then r (refuse_if (ltb places n) 13 (given x))) written lent ≡ cond (leb n places) (afterwards r written lent) lent
+by_room (given ours) n places x written lent = in_room n places x written lent
+by_room (refused k) n places x written lent = either_way (leb n places) lent
+by_room (refused_at k m) n places x written lent = either_way (leb n places) lent
 
 module _ (reading : Reading) (nodes rules words : List ℕ) (start : Start) where
   -- What refuses a walk refuses a run.
-  pub run_refused : (r : Refusal) → turned_down r ≡ walk_answer reading nodes rules words start → turned_down r ≡ run_answer reading nodes rules words start
+  run_refused : (r : Refusal) → turned_down r ≡ walk_answer reading nodes rules words start → turned_down r ≡ run_answer reading nodes rules words start
   unfolding walk_answer
   run_refused r e = refused_first Listing r (run_answer reading nodes rules words start) _ e
 
@@ -61,7 +73,7 @@ module _ (reading : Reading) (nodes rules words : List ℕ) (start : Start) wher
     pub shows : Shown x
     pub counted : n ≡ min (length (our_captures reading nodes rules words start)) most_count
 
-  pub shown : {x : Ended} → given x ≡ run_answer reading nodes rules words start → Shown x
+  shown : {x : Ended} → given x ≡ run_answer reading nodes rules words start → Shown x
   shown {x} e =
       let l = answered_within reading nodes rules words start x (sym e) in
       let p : given x ≡ given (our_end reading nodes rules words start) = e ∙ outcome_answered reading nodes rules words start l.0 l.1 in
@@ -87,7 +99,7 @@ module _ (reading : Reading) (nodes rules words : List ℕ) (start : Start) wher
   shown_by x (refused k) p e = absurd (let z : ◌≡◌ {A = ℕ} 0 1 = cc in omega arith)
   shown_by x (refused_at k m) p e = absurd (let z : ◌≡◌ {A = ℕ} 0 1 = cc in omega arith)
 
-  pub shown_list :
+  shown_list :
       {x : Ended} {n : ℕ}
       → given (record { ended = x; count = n }) ≡ walk_answer reading nodes rules words start
       → ShownList x n
@@ -109,59 +121,58 @@ module _ (reading : Reading) (nodes rules words : List ℕ) (start : Start) wher
   reached u w = record { outcome = success (w, u.interval, u.flag); farthest = u.farthest }
 
   module _ (u : State) (h : Shown (end_of u)) where
-    pub success_onward : start.place ≤ u.place
-    success_onward = onward ends reading nodes rules (tokens_of words) (derived h).run
+    onward_to : start.place ≤ u.place
+    onward_to = onward ends reading nodes rules (tokens_of words) (derived h).run
 
     -- The tokens read end at the walk's place.
     read : Reads start.place (u.place - start.place) u.place
-    read = let l = success_onward in omega arith
+    read = let l = onward_to in omega arith
 
-  -- What a run ends in, by the walk's outcome.
-  pub onward_by : (o : Outcome) → Shown (walk_end o) → Onward start.place o
-  onward_by (columns.Success u) h = success_onward u h
-  onward_by (columns.Failure m) h = tt
+  -- What a run answers, by the case of the walk's outcome.
+  module _ {o : Outcome} (e : given (walk_end o) ≡ run_answer reading nodes rules words start) where
+    pub run_failed : {m : ℕ} → o ≡ columns.Failure m → Looked reading nodes rules words start (failing m)
+    run_failed i = derived (shown (rw i at e))
 
-  ran_as : (o : Outcome) → Shown (walk_end o) → ran_to start.place (ran_of start.place o) ≡ walk_end o
-  ran_as (columns.Success u) h = ap (reached u) (read u h)
-  ran_as (columns.Failure m) h = refl
+    pub run_succeeded : {u : State} → o ≡ columns.Success u
+        → Looked reading nodes rules words start (end_of u) × Reads start.place (u.place - start.place) u.place
+    run_succeeded {u} i = let h : Shown (end_of u) = shown (rw i at e) in (derived h, read u h)
 
-  pub ran_answered : (o : Outcome) → Shown (walk_end o) → given (ran_to start.place (ran_of start.place o)) ≡ run_answer reading nodes rules words start
-  ran_answered o h = ap given (ran_as o h ∙ h.end) ∙ sym (answered h)
+    pub run_onward : {u : State} → o ≡ columns.Success u → start.place ≤ u.place
+    run_onward {u} i = onward_to u (shown (rw i at e))
 
-  pub ran_derived : (o : Outcome) → Shown (walk_end o) → Derived reading nodes rules words start (Ok (ran_of start.place o))
-  ran_derived (columns.Success u) h = (derived h, read u h)
-  ran_derived (columns.Failure m) h = derived h
+  -- A failure lists none.
+  failed_none :
+      {x : Ended} {n : ℕ}
+      → Shown x
+      → x.outcome ≡ failure
+      → n ≡ min (length (our_captures reading nodes rules words start)) most_count
+      → n ≡ 0
+  failed_none {x} h e c =
+      let q : our_outcome reading nodes rules words start ≡ failure = sym (ap (λ (v : Ended). v.outcome) h.end) ∙ e in
+      let z : length (our_captures reading nodes rules words start) ≡ 0 = ap (λ (o : Ending Interval). length (listed o (our_trace reading nodes rules words start))) q in
+      omega arith
 
-  -- The lent words, and those that the walk left.
-  module _ (lent : List ℕ) {l' : List ℕ} (after : l' ≡ walk_after reading nodes rules words start lent) where
-    -- What refuses a run refuses one that lists, and the words are as they were.
-    pub list_turned : (r : Refusal) → turned_down r ≡ run_answer reading nodes rules words start → turned_down r ≡ list_answer reading nodes rules words start (length lent)
+  -- So many lent words.
+  module _ (lent : List ℕ) where
+    -- A run that lists leaves in them what the walk does.
+    pub list_leaves : list_after reading nodes rules words start lent ≡ walk_after reading nodes rules words start lent
+    unfolding list_after walk_after list_answer fails13
+    list_leaves = by_room (run_answer reading nodes rules words start) _ _ _ _ lent
+
+    -- What refuses a walk refuses a run that lists.
+    pub list_refused : (r : Refusal) → turned_down r ≡ walk_answer reading nodes rules words start → list_answer reading nodes rules words start (length lent) ≡ turned_down r
     unfolding list_answer
-    list_turned r e = rw (← e) (sym (turned_first Ended r _))
+    list_refused r e = rw (← run_refused r e) (turned_first Ended r _)
 
-    pub list_untouched : (r : Refusal) → turned_down r ≡ run_answer reading nodes rules words start → l' ≡ list_after reading nodes rules words start lent
-    unfolding list_after walk_after
-    list_untouched r e =
-        let q : lent ≡ afterwards (list_answer reading nodes rules words start (length lent)) (list_words (our_captures reading nodes rules words start) (length lent)) lent =
-        rw (← list_turned r e) (sym (turned_keeps Listing r _ lent)) in
-        after
-        ∙ either (leb (length (our_captures reading nodes rules words start)) (length lent / 4)) _ lent (rw (← e) (turned_keeps Ended r _ lent))
-        ∙ q
-
-    module _ (short : length lent < 2 ^ 64) (m : length l' ≡ length lent) {x : Ended} {n : ℕ} (h : ShownList x n) where
-      -- 13.
-      pub list_13 :
-          length l' / 4 < n
-          → (refused 13 ≡ list_answer reading nodes rules words start (length lent)) × (l' ≡ list_after reading nodes rules words start lent)
-      unfolding list_answer list_after fails13 walk_after
-      list_13 k =
+    module _ (short : length lent < 2 ^ 64) {x : Ended} {n : ℕ} (h : ShownList x n) where
+      thirteen : length lent / 4 < n → list_answer reading nodes rules words start (length lent) ≡ refused 13
+      unfolding list_answer fails13
+      thirteen k =
           let c = h.counted in
           let l : length lent / 4 < length (our_captures reading nodes rules words start) = omega arith in
-          let f = lt-ltb (length lent / 4) (length (our_captures reading nodes rules words start)) l in
-          let g = lt-leb (length (our_captures reading nodes rules words start)) (length lent / 4) l in
-          (rw (answered h.shows, f) refl, rw (answered h.shows, f) (rw g at after))
+          rw (answered h.shows, lt-ltb (length lent / 4) (length (our_captures reading nodes rules words start)) l) refl
 
-      module _ (k : n ≤ length l' / 4) where
+      module _ (k : n ≤ length lent / 4) where
         exact : n ≡ length (our_captures reading nodes rules words start)
         exact = let c = h.counted in omega arith
 
@@ -172,46 +183,56 @@ module _ (reading : Reading) (nodes rules words : List ℕ) (start : Start) wher
         unfolding fails13
         passes = le-ltb (length lent / 4) (length (our_captures reading nodes rules words start)) (let e = exact in omega arith)
 
-        given_list :
-            given (record { ended = x; count = n })
-            ≡ list_answer reading nodes rules words start (length lent)
+        given_list : list_answer reading nodes rules words start (length lent) ≡ given (record { ended = x; count = n })
         unfolding list_answer
         given_list = rw (answered h.shows, passes, exact, h.shows.end) refl
 
-        room : leb (length (our_captures reading nodes rules words start)) (length lent / 4) ≡ true
-        room = le-leb (length (our_captures reading nodes rules words start)) (length lent / 4) (let e = exact in omega arith)
-
         -- The words are the list's.
-        written :
-            l'
-            ≡ (list_words (our_captures reading nodes rules words start) (length lent)
-            ++ drop (length (list_words (our_captures reading nodes rules words start) (length lent))) lent)
-        unfolding walk_after
-        written = rw (room, answered h.shows) at after
-
-        slice : l' ≡ list_words (our_captures reading nodes rules words start) (length lent)
-        slice = written ∙ list_fills (our_captures reading nodes rules words start) lent fits
-
-        left : l' ≡ list_after reading nodes rules words start lent
+        slice : list_after reading nodes rules words start lent ≡ list_words (our_captures reading nodes rules words start) (length lent)
         unfolding list_after
-        left = rw (← given_list) written
+        slice = rw given_list (list_fills (our_captures reading nodes rules words start) lent fits)
 
-        stands : CapturesStand reading nodes rules words start x n l'
-        stands =
+        stands : {l' : List ℕ} → l' ≡ walk_after reading nodes rules words start lent → length l' ≡ length lent → CapturesStand reading nodes rules words start x n l'
+        stands after m =
             let f = derived h.shows in
             let c = captures_only reading nodes rules words start h.shows.limits h.shows.well x.outcome f.run in
-            record { derived = f; counted = exact ∙ ap length (sym c); stands = rw (c, m) slice }
+            record { derived = f; counted = exact ∙ ap length (sym c); stands = rw (c, m) (after ∙ sym list_leaves ∙ slice) }
 
-    -- The answer that lists.
-    module _ (short : length lent < 2 ^ 64) (m : length l' ≡ length lent) (o : Outcome) {n : ℕ} (h : ShownList (walk_end o) n) (k : n ≤ length l' / 4) where
-      pub list_answered :
-          given (record { ended = ran_to start.place (ran_of start.place o); count = n }) ≡ list_answer reading nodes rules words start (length lent)
-      list_answered = ap (λ (x : Ended). given (record { ended = x; count = n })) (ran_as o h.shows) ∙ given_list short m h k
+    -- What a run that lists answers, by the walk's outcome and count.
+    module _ (short : length lent < 2 ^ 64) (o : Outcome) {n : ℕ}
+        (e : given (record { ended = walk_end o; count = n }) ≡ walk_answer reading nodes rules words start) where
+      pub list_13 : length lent / 4 < n → list_answer reading nodes rules words start (length lent) ≡ refused 13
+      list_13 k = thirteen short (shown_list e) k
 
-      pub list_left : l' ≡ list_after reading nodes rules words start lent
-      list_left = left short m h k
+      -- A failure lists none, so it has room.
+      module _ {f : ℕ} (i : o ≡ columns.Failure f) where
+        none : ShownList (failing f) 0
+        none =
+            let h : ShownList (failing f) n = shown_list (rw i at e) in
+            let z : n ≡ 0 = failed_none h.shows refl h.counted in
+            subst (ShownList (failing f)) z h
 
-    module _ (short : length lent < 2 ^ 64) (m : length l' ≡ length lent) where
-      pub list_by : (o : Outcome) {n : ℕ} → ShownList (walk_end o) n → n ≤ length l' / 4 → ListedBy reading nodes rules words start (ran_of start.place o) n l'
-      list_by (columns.Success u) h k = (stands short m h k, read u h.shows)
-      list_by (columns.Failure f) h k = stands short m h k
+        pub list_failed : list_answer reading nodes rules words start (length lent) ≡ given (record { ended = failing f; count = 0 })
+        list_failed = given_list short none (omega arith)
+
+        pub list_failed_stands :
+            {l' : List ℕ} → l' ≡ walk_after reading nodes rules words start lent → length l' ≡ length lent → CapturesStand reading nodes rules words start (failing f) 0 l'
+        list_failed_stands after m = stands short none (omega arith) after m
+
+      module _ {u : State} (i : o ≡ columns.Success u) where
+        some : ShownList (end_of u) n
+        some = shown_list (rw i at e)
+
+        pub list_onward : start.place ≤ u.place
+        list_onward = onward_to u some.shows
+
+        module _ (k : n ≤ length lent / 4) where
+          pub list_succeeded :
+              list_answer reading nodes rules words start (length lent)
+              ≡ given (record { ended = reached u (start.place + (u.place - start.place)); count = n })
+          list_succeeded = given_list short some k ∙ ap (λ (v : ℕ). given (record { ended = reached u v; count = n })) (sym (read u some.shows))
+
+          pub list_succeeded_stands :
+              {l' : List ℕ} → l' ≡ walk_after reading nodes rules words start lent → length l' ≡ length lent
+              → CapturesStand reading nodes rules words start (end_of u) n l' × Reads start.place (u.place - start.place) u.place
+          list_succeeded_stands after m = (stands short some k after m, read u some.shows)

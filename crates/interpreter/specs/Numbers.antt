@@ -13,6 +13,7 @@ use Rattle.clauses.specs.ListAnswer.{ends_captures, Listing, list_words}
 use Rattle.interpreter.specs.declared.Ran.{Ran}
 use Rattle.interpreter.specs.declared.Ran.TheVariants.{Success, Failure}
 use Rattle.interpreter.specs.declared.Listed.{Listed}
+use Rattle.interpreter.specs.declared.Listed.TheVariants as listed
 
 -- What a failure with a farthest place says a run ends in.
 abbrev pub failing : ℕ → Ended
@@ -44,9 +45,18 @@ Derived reading nodes rules words start (Ok (Success read s)) =
 Derived reading nodes rules words start (Ok (Failure farthest)) = Looked reading nodes rules words start (failing farthest)
 Derived reading nodes rules words start (Err refusal) = Unit
 
--- The same for each answer of a run that lists, with the number of captures, since a capture may be four zeros.
+-- The same for each case of `Listed`; a success also has the number of captures, since a capture may be four zeros.
+abbrev pub listed_to : ℕ → Listed → Listing
+listed_to place (listed.Success read s n) =
+    record {
+      ended = record { outcome = success (place + read, s.interval, s.flag); farthest = s.farthest };
+      count = n;
+    }
+listed_to place (listed.Failure farthest) = record { ended = failing farthest; count = 0 }
+
+-- 01's number and values for each answer of a run that lists.
 abbrev pub list_numbers : ℕ → Result Listed Refusal → Answer Listing
-list_numbers place = answer_by (λ x. record { ended = ran_to place x.ran; count = x.captures })
+list_numbers place = answer_by (listed_to place)
 
 -- A run's end has a derivation whose captures, so many, stand in the slice.
 pub record CapturesStand (reading : Reading) (nodes rules words : List ℕ) (start : Start) (x : Ended) (n : ℕ)
@@ -55,14 +65,10 @@ pub record CapturesStand (reading : Reading) (nodes rules words : List ℕ) (sta
   pub counted : n ≡ length (ends_captures reading nodes rules words start x.outcome derived.run)
   pub stands : slice ≡ list_words (ends_captures reading nodes rules words start x.outcome derived.run) (length slice)
 
--- The same for each case of `Ran`, with so many captures.
-abbrev pub ListedBy : Reading → List ℕ → List ℕ → List ℕ → Start → Ran → ℕ → List ℕ → Type 0
-ListedBy reading nodes rules words start (Success read s) n slice =
-    CapturesStand reading nodes rules words start (end_of s) n slice × Reads start.place read s.place
-ListedBy reading nodes rules words start (Failure farthest) n slice =
-    CapturesStand reading nodes rules words start (failing farthest) n slice
-
 -- The outcome of a run that lists, its farthest place and its captures come from one and the same derivation.
 abbrev pub ListDerived : Reading → List ℕ → List ℕ → List ℕ → Start → Result Listed Refusal → List ℕ → Type 0
-ListDerived reading nodes rules words start (Ok x) slice = ListedBy reading nodes rules words start x.ran x.captures slice
+ListDerived reading nodes rules words start (Ok (listed.Success read s n)) slice =
+    CapturesStand reading nodes rules words start (end_of s) n slice × Reads start.place read s.place
+ListDerived reading nodes rules words start (Ok (listed.Failure farthest)) slice =
+    CapturesStand reading nodes rules words start (failing farthest) 0 slice
 ListDerived reading nodes rules words start (Err refusal) slice = Unit

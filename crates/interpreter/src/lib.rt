@@ -7,7 +7,6 @@ ghost use Rattle.clauses.specs.RunAnswer.{run_answer};
 ghost use Rattle.clauses.specs.Remembering.{memory_after};
 ghost use Rattle.clauses.specs.ListAnswer.{list_answer, list_after};
 ghost use Rattle.interpreter.specs.Numbers.{numbers, Derived, list_numbers, ListDerived};
-ghost use Rattle.interpreter.specs.InternalRan.{Onward, ran_of};
 
 use columns::{Outcome, Reading, Start, State};
 use table::Refusal;
@@ -19,11 +18,11 @@ pub enum Ran {
     Failure(u32),
 }
 
-// What a run that lists ends in: the same, with the number of its captures, 0 where it failed.
+// What a run that lists ends in: the same, a success with the number of its captures.
 #[derive(Clone, Copy, Debug, PartialEq, Eq)]
-pub struct Listed {
-    pub ran: Ran,
-    pub captures: usize,
+pub enum Listed {
+    Success(u32, State, usize),
+    Failure(u32),
 }
 
 // The node words, the rules and the tokens are parameters of their own, as C lends them.
@@ -46,6 +45,7 @@ pub fn run(
 
 // Runs a grammar in the same way, and remembers outcomes in the lent words, which are 0 afterwards. A refused call leaves them
 // as they were.
+#[tactic(auto, using(crate::proofs::RunLaws::run_failed, crate::proofs::RunLaws::run_succeeded, crate::proofs::RunLaws::run_onward))]
 pub fn remember(
     nodes: &[u16],
     rules: &[u16],
@@ -61,11 +61,18 @@ pub fn remember(
     ensures derived { Derived reading nodes.now rules.now tokens.now start result }
 {
     let outcome = walk::run(nodes, rules, tokens, start, reading, memory)?;
-    Ok(ran_from(start.place, outcome))
+    match outcome {
+        Outcome::Failure(farthest) => Ok(Ran::Failure(farthest)),
+        Outcome::Success(u) => {
+            let read = u.place - start.place;
+            Ok(Ran::Success(read, u))
+        }
+    }
 }
 
 // Runs a grammar and lists its captures in the lent words, four words each, with zeros behind them. A refused call writes
 // nothing. What it remembers stands in words of its own, since 13 refuses a call that has run.
+#[tactic(auto, using(crate::proofs::RunLaws::list_leaves, crate::proofs::RunLaws::list_refused, crate::proofs::RunLaws::list_13, crate::proofs::RunLaws::list_failed, crate::proofs::RunLaws::list_onward, crate::proofs::RunLaws::list_succeeded))]
 pub fn list(
     nodes: &[u16],
     rules: &[u16],
@@ -83,23 +90,14 @@ pub fn list(
 {
     let mut memory = [0u32; 65536]; // a fixed array: there is no heap here
     let whole = walk::list(nodes, rules, tokens, start, reading, captures, &mut memory)?;
-    if captures.len() / 4 < whole.captures {
-        return Err(Refusal::CaptureRoom);
-    }
-    let ran = ran_from(start.place, whole.outcome);
-    Ok(Listed {
-        ran,
-        captures: whole.captures,
-    })
-}
-
-// What a run ends in that began at a place, by the walk's outcome.
-fn ran_from(place: u32, outcome: Outcome) -> Ran
-    requires { Onward place outcome }
-    ensures { result ≡ ran_of place outcome }
-{
-    match outcome {
-        Outcome::Failure(farthest) => Ran::Failure(farthest),
-        Outcome::Success(u) => Ran::Success(u.place - place, u),
+    match whole.outcome {
+        Outcome::Failure(farthest) => Ok(Listed::Failure(farthest)),
+        Outcome::Success(u) => {
+            if captures.len() / 4 < whole.captures {
+                return Err(Refusal::CaptureRoom);
+            }
+            let read = u.place - start.place;
+            Ok(Listed::Success(read, u, whole.captures))
+        }
     }
 }

@@ -15,7 +15,7 @@
 #![tactic(auto)]
 
 use columns::{Reading, Start};
-use interpreter::Ran;
+use interpreter::{Listed, Ran};
 use slices::filled;
 use stored_cases::{
     CASES, MEMORY_WORDS, MOST_RECORDS, NODE_WORDS, PART, RULE_WORDS, TOKEN_WORDS, byte, fill,
@@ -240,12 +240,14 @@ fn show_list(
     captures: &mut [u32],
 ) {
     match interpreter::list(nodes, rules, tokens, start, reading, captures) {
-        Ok(listed) => {
-            show_run(Ok(listed.ran));
-            if let Ran::Success(..) = listed.ran {
-                show_one(b" | captures", listed.captures as u64);
-            }
-            show_listed(captures, listed.captures);
+        Ok(Listed::Success(read, state, count)) => {
+            show_run(Ok(Ran::Success(read, state)));
+            show_one(b" | captures", count as u64);
+            show_listed(captures, count);
+        }
+        Ok(Listed::Failure(farthest)) => {
+            show_run(Ok(Ran::Failure(farthest)));
+            show_listed(captures, 0);
         }
         Err(refusal) => {
             show_run(Err(refusal));

@@ -15,10 +15,10 @@ use Rattle.columns.specs.declared.Reading.{Reading}
 use Rattle.columns.specs.declared.Reading.TheVariants.{By2017}
 use Rattle.clauses.specs.RunAnswer.{run_answer}
 use Rattle.clauses.specs.ListAnswer.{Listing, list_answer, list_after, list_words}
-use Rattle.interpreter.specs.Numbers.{numbers, list_numbers, ListedBy, ListDerived}
+use Rattle.interpreter.specs.Numbers.{numbers, list_numbers, ListDerived}
 use Rattle.interpreter.specs.declared.Ran.{Ran}
-use Rattle.interpreter.specs.declared.Ran.TheVariants.{Success, Failure}
 use Rattle.interpreter.specs.declared.Listed.{Listed}
+use Rattle.interpreter.specs.declared.Listed.TheVariants.{Success, Failure}
 use Rattle.line.specs.Line.{start_at, file_start, parts_answer, line_answer}
 use Rattle.line.specs.Entries.{entries_answer, end_answer, Placed, capture_count, given_count, token_count, captures_after, entries}
 use Rattle.line.specs.InternalParts.{Stands, ran_of}
@@ -126,11 +126,8 @@ module _ (file report before : List ℕ) (room : ℕ) (x : Entries) where
 
 -- What a run that lists answered, without the number of captures: the same end, and a state that stands where the tokens read end.
 pub ran_numbers : (x : Result Listed Refusal) → numbers 0 (ran_of x) ≡ end_answer (list_numbers 0 x)
-ran_numbers (Ok x) = by_end x.ran x.captures
-  where
-    by_end : (x : Ran) (n : ℕ) → numbers 0 (Ok x) ≡ end_answer (list_numbers 0 (Ok (record { ran = x; captures = n })))
-    by_end (Success read s) n = refl
-    by_end (Failure farthest) n = refl
+ran_numbers (Ok (Success read s n)) = refl
+ran_numbers (Ok (Failure farthest)) = refl
 ran_numbers (Err e) = end_refused e
 
 pub ran_placed :
@@ -138,9 +135,6 @@ pub ran_placed :
     → start.place ≡ 0
     → ListDerived reading nodes rules words start x slice
     → Placed (ran_of x)
-ran_placed reading nodes rules words start slice (Ok x) e d = by_end x.ran x.captures d
-  where
-    by_end : (x : Ran) (n : ℕ) → ListedBy reading nodes rules words start x n slice → Placed (Ok x)
-    by_end (Success read s) n h = rw e at h.1
-    by_end (Failure farthest) n h = tt
+ran_placed reading nodes rules words start slice (Ok (Success read s n)) e d = rw e at d.1
+ran_placed reading nodes rules words start slice (Ok (Failure farthest)) e d = tt
 ran_placed reading nodes rules words start slice (Err f) e d = tt

@@ -6,7 +6,9 @@ use Rattle.table.specs.declared.refusals.Refusal.{Refusal}
 use Rattle.grammar_file.specs.File.{fields_of, node_table, rule_list, start_node, start_mode}
 use Rattle.token_words.specs.Scan.{words_of, scan_tokens}
 use Rattle.interpreter.specs.declared.Ran.{Ran}
+use Rattle.interpreter.specs.declared.Ran.TheVariants.{Success, Failure}
 use Rattle.interpreter.specs.declared.Listed.{Listed}
+use Rattle.interpreter.specs.declared.Listed.TheVariants as listed
 use Rattle.line.specs.Line.{parts_answer}
 use Rattle.line.specs.Entries.{tokens_after}
 use Rattle.line.specs.declared.Ready.{Ready}
@@ -38,5 +40,6 @@ pub record PartsGive (file report before : List ℕ) (x : Result Ready Refusal) 
 
 -- What a run that lists answered, without the number of captures.
 abbrev pub ran_of : Result Listed Refusal → Result Ran Refusal
-ran_of (Ok x) = Ok x.ran
+ran_of (Ok (listed.Success read s n)) = Ok (Success read s)
+ran_of (Ok (listed.Failure farthest)) = Ok (Failure farthest)
 ran_of (Err refusal) = Err refusal

@@ -33,6 +33,7 @@ struct Ready {
 }
 
 // Writes the line, and says how many bytes it has. A slice of fewer than 64 bytes is left as it is, and the answer is 0.
+#[tactic(auto, using(refusal_numbers::proofs::ToldLaws::answers_as), unfolding(crate::specs::Line::line_count, crate::specs::Line::line_after, answer_line::specs::AnswerLine::written_count, answer_line::specs::AnswerLine::written_after))]
 pub fn write(file: &[u8], report: &[u8], out: &mut [u8]) -> usize
     ensures value { result ≡ line_count file.now report.now (length out.old) }
     ensures out_after { out.new ≡ line_after file.now report.now out.old }
@@ -166,10 +167,15 @@ fn counted(x: Result<Listed, Refusal>, tokens: usize) -> Entries
     ensures { (result.answer ≡ ran_of x) × (result.tokens ≡ tokens) × (result.captures ≡ capture_count (list_numbers 0 x)) }
 {
     match x {
-        Ok(listed) => Entries {
-            answer: Ok(listed.ran),
+        Ok(Listed::Success(read, s, captures)) => Entries {
+            answer: Ok(Ran::Success(read, s)),
             tokens,
-            captures: listed.captures,
+            captures,
+        },
+        Ok(Listed::Failure(farthest)) => Entries {
+            answer: Ok(Ran::Failure(farthest)),
+            tokens,
+            captures: 0,
         },
         Err(refusal) => Entries {
             answer: Err(refusal),

@@ -27,6 +27,11 @@ pub record Room (text : List ℕ) (at column : ℕ) : Type 0 where
   pub within : at ≤ length text
   pub fits : column + 8 * (length text - at) < 2 ^ 32
 
+-- A position behind bytes that are passed over: the same place follows.
+pub record Past (text : List ℕ) (from s : Position) : Type 0 where
+  pub room : Room text s.offset s.column
+  pub same : next_in text from ≡ next_in text s
+
 -- The first byte from a position on that is not passed over, or the end.
 pub record Skipped (text : List ℕ) (from s : Position) : Type 0 where
   pub room : Room text s.offset s.column

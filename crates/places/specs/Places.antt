@@ -4,7 +4,6 @@ use Rattle.std.specs.Prelude.{ℕ, suc, Bool, true, false, cond, List, [], ◌�
 use Rattle.byte_class.specs.Bytes.{class_of}
 use Rattle.byte_class.specs.declared.Class.{Class}
 use Rattle.byte_class.specs.declared.Class.TheVariants.{Break, Tab, Blank, Single, Digit, Run, Continuation, Refused}
-use Rattle.places.specs.declared.Place.{Place}
 
 -- "other tokens are longest runs of the remaining bytes": the classes of these bytes.
 abbrev pub run_class : Class → Bool

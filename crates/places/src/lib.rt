@@ -5,7 +5,7 @@ mod classes;
 
 ghost use Rattle.std.specs.Prelude.{◌≡◌, true, false, ◌-◌, ◌≤◌, take, drop};
 ghost use Rattle.places.specs.Moves.{position, move, next_in, next_within};
-ghost use Rattle.places.specs.InternalFind.{Room, RunEnd, Skipped};
+ghost use Rattle.places.specs.InternalFind.{Room, RunEnd, Past, Skipped};
 
 use byte_class::{Class, class_of};
 use classes::{column_by, passed_by, run_class, run_width};
@@ -43,19 +43,43 @@ pub struct Move {
     pub reached: Position,
 }
 
+// Behind the blanks at a position. A line of an indented report begins with many, so they have a loop of their own.
+fn past_blanks(report: &[u8], from: Position) -> Position
+    requires { Room report.now from.offset from.column }
+    ensures { Past report.now from result }
+{
+    let mut column = from.column;
+    for offset in from.offset..report.len() {
+        if report[offset] != b' ' {
+            return Position {
+                offset,
+                column,
+                ..from
+            };
+        }
+        column += 1;
+    }
+    Position {
+        offset: report.len(),
+        column,
+        ..from
+    }
+}
+
 // The first position from one on whose byte is not passed over, or the end.
 fn skip(report: &[u8], from: Position) -> Position
     requires { Room report.now from.offset from.column }
     ensures { Skipped report.now from result }
 {
-    let mut column = from.column;
-    for offset in from.offset..report.len() {
+    let start = past_blanks(report, from);
+    let mut column = start.column;
+    for offset in start.offset..report.len() {
         let class = class_of(report[offset]);
-        if !passed_by(class, from.mark) {
+        if !passed_by(class, start.mark) {
             return Position {
                 offset,
                 column,
-                ..from
+                ..start
             };
         }
         column = column_by(class, column);
@@ -63,7 +87,7 @@ fn skip(report: &[u8], from: Position) -> Position
     Position {
         offset: report.len(),
         column,
-        ..from
+        ..start
     }
 }
 
@@ -104,6 +128,7 @@ pub fn find(report: &[u8], from: Position) -> Move
 }
 
 // The next token's place where there is room.
+#[tactic(auto, using(crate::proofs::FindLaws::found_end, crate::proofs::FindLaws::found_run))]
 fn find_within(report: &[u8], from: Position) -> Move
     requires { Room report.now from.offset from.column }
     ensures { result ≡ next_in report.now from }

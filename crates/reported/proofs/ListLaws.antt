@@ -1,16 +1,16 @@
 -- What is reported of a run that lists and is refused, and that it is reported in one way.
-use Rattle.std.proofs.Common.{ℕ, ◌≡◌, refl, ap, Bool, List, ◌++◌, [], ◌∷◌, get_or, Ok, arith}
-use Rattle.table.specs.Answer.{Answer}
-use Rattle.table.specs.Refusals.{turned_down}
-use Rattle.table.specs.declared.refusals.Refusal.{Refusal}
-use Rattle.table.specs.declared.refusals.Refusal.TheVariants.{IllFormed}
+use Rattle.std.proofs.Common.{ℕ, ◌≡◌, refl, ap, Bool, List, ◌++◌, [], ◌∷◌, get_or, arith}
+use Rattle.table.specs.Answer.{Answer, given}
+use Rattle.refusal_numbers.specs.declared.Told.{Told}
+use Rattle.refusal_numbers.specs.declared.Told.TheVariants.{Number, IllFormed}
+use Rattle.refusal_numbers.specs.Numbers.{answer_of}
 use Rattle.columns.specs.Intervals.{to}
 use Rattle.columns.specs.declared.State.{State}
 use Rattle.columns.specs.declared.Upper.{Upper}
 use Rattle.columns.specs.declared.Upper.TheVariants.{At, Endless}
 use Rattle.clauses.specs.ListAnswer.{Listing}
-use Rattle.interpreter.specs.Numbers.{list_numbers}
-use Rattle.interpreter.specs.declared.Ran.TheVariants.{Success}
+use Rattle.interpreter.specs.Numbers.{listed_to}
+use Rattle.interpreter.specs.declared.Listed.TheVariants.{Success}
 use Rattle.reported.specs.Reported.{success_words}
 use Rattle.reported.specs.Reported.{ListReported, list_success, list_failure, list_refused, list_refused_at}
 
@@ -27,13 +27,13 @@ by_upper read lower Endless flag farthest n = refl
 pub listed :
     {w : List ℕ} (read : ℕ) (s : State) (n place : ℕ) (before : List ℕ)
     → w ≡ success_words read s.interval s.flag s.farthest
-    → ListReported place before (list_numbers place (Ok (record { ran = Success read s; captures = n }))) (eight_words w n)
+    → ListReported place before (given (listed_to place (Success read s n))) (eight_words w n)
 listed read s n place before e = rw (e, by_upper read s.interval.lower s.interval.upper s.flag s.farthest n) (list_success refl)
 
 -- A run that is refused: the lent words are as they were.
-pub list_is_refused : (e : Refusal) (place : ℕ) (before : List ℕ) → ListReported place before (turned_down e) before
+pub list_is_refused : (told : Told) (place : ℕ) (before : List ℕ) → ListReported place before (answer_of told) before
+list_is_refused (Number number) place before = list_refused
 list_is_refused (IllFormed node) place before = list_refused_at
-list_is_refused e place before = list_refused
 
 -- The relation fixes every word, as that of a run without a list does.
 pub one_report :

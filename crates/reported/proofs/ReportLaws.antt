@@ -1,17 +1,17 @@
 -- What is reported of a refusal, and that a run is reported in one way.
 use Rattle.std.proofs.Common.{ℕ, ◌≡◌, refl, ap, List, arith}
 use Rattle.table.specs.Answer.{Answer}
-use Rattle.table.specs.Refusals.{turned_down}
-use Rattle.table.specs.declared.refusals.Refusal.{Refusal}
-use Rattle.table.specs.declared.refusals.Refusal.TheVariants.{IllFormed}
+use Rattle.refusal_numbers.specs.declared.Told.{Told}
+use Rattle.refusal_numbers.specs.declared.Told.TheVariants.{Number, IllFormed}
+use Rattle.refusal_numbers.specs.Numbers.{answer_of}
 use Rattle.clauses.specs.RunAnswer.{Ended}
 use Rattle.reported.specs.Reported.{success_words}
 use Rattle.reported.specs.Reported.{RunReported, of_success, of_failure, of_refused, of_refused_at}
 
 -- A run that is refused: the lent words are as they were.
-pub run_refused : (e : Refusal) (place : ℕ) (before : List ℕ) → RunReported place before (turned_down e) before
+pub run_refused : (told : Told) (place : ℕ) (before : List ℕ) → RunReported place before (answer_of told) before
+run_refused (Number number) place before = of_refused
 run_refused (IllFormed node) place before = of_refused_at
-run_refused e place before = of_refused
 
 -- The relation fixes every word: from the same words before, an answer is reported in one way.
 pub one_report :

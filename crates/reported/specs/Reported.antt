@@ -1,8 +1,8 @@
 -- What the C interface reports of an answer: a number, and words in a lent array.
 use Rattle.std.specs.Prelude.{ℕ, ◌+◌, ◌*◌, Bool, cond, List, [], ◌∷◌, ◌++◌, set, Result}
 use Rattle.table.specs.Answer.{Answer, given, refused, refused_at}
-use Rattle.table.specs.Refusals.{answer_by}
-use Rattle.table.specs.declared.refusals.Refusal.{Refusal}
+use Rattle.refusal_numbers.specs.declared.Told.{Told}
+use Rattle.refusal_numbers.specs.Numbers.{answered_by}
 use Rattle.columns.specs.Intervals.{to}
 use Rattle.columns.specs.declared.Upper.{Upper}
 use Rattle.columns.specs.declared.Upper.TheVariants.{At, Endless}
@@ -32,8 +32,8 @@ abbrev pub contents_words : Contents → List ℕ
 contents_words c = c.nodes ∷ c.rules ∷ c.keywords ∷ c.start ∷ c.mode ∷ []
 
 -- What a scan or a write answers: a number of tokens or of bytes.
-abbrev pub count_numbers : Result ℕ Refusal → Answer ℕ
-count_numbers = answer_by (λ n. n)
+abbrev pub count_numbers : {E : Type 0} → (E → Told) → Result ℕ E → Answer ℕ
+count_numbers told = answered_by told (λ n. n)
 
 -- The number of tokens of a scan, or of bytes of a written file: one word.
 abbrev pub count_words : ℕ → List ℕ
@@ -73,8 +73,8 @@ pub data ListReported (place : ℕ) (before : List ℕ) : Answer Listing → Lis
       → ListReported place before
       (given (record { ended = record { outcome = success (end, c, flag); farthest = farthest }; count = count }))
       (success_words read c flag farthest ++ (count ∷ []))
-  list_failure : {farthest count : ℕ}
-      → ListReported place before (given (record { ended = record { outcome = failure; farthest = farthest }; count = count }))
+  list_failure : {farthest : ℕ}
+      → ListReported place before (given (record { ended = record { outcome = failure; farthest = farthest }; count = 0 }))
       (failure_words before farthest)
   list_refused : {n : ℕ} → ListReported place before (refused n) before
   list_refused_at : {n node : ℕ} → ListReported place before (refused_at n node) before

@@ -3,24 +3,22 @@
 #![tactic(auto)]
 
 ghost use Rattle.std.specs.Prelude.{◌≡◌, ℕ, ◌+◌, ◌*◌};
-ghost use Rattle.table.specs.Refusals.{turned_down};
-ghost use Rattle.grammar_file.specs.File.{numbers as file_numbers};
-ghost use Rattle.well_formed.specs.Check.{numbers as check_numbers};
-ghost use Rattle.interpreter.specs.Numbers.{numbers, list_numbers};
-ghost use Rattle.shown_text.specs.Shown.{numbers as shown_numbers};
+ghost use Rattle.refusal_numbers.specs.Numbers.{answer_of, answered_by};
+ghost use Rattle.interpreter.specs.Numbers.{ran_to, listed_to};
+ghost use Rattle.shown_text.specs.Shown.{lies_at};
 ghost use Rattle.reported.specs.Reported.{number, reported, contents_words, count_words, part_words};
 ghost use Rattle.reported.specs.Reported.{count_numbers, success_words, RunReported, ListReported};
 
 use columns::{State, Upper};
 use grammar_file::Contents;
 use interpreter::{Listed, Ran};
+use refusal_numbers::{Refuses, Told};
 use shown_text::ShownPart;
-use table::Refusal;
 
 // Reports what a read of a grammar file answered: the five words where it was read.
-pub fn report_read(x: Result<Contents, Refusal>, res: &mut [usize; 5]) -> u32
-    ensures value { result ≡ number (file_numbers x) }
-    ensures res_after { res.new ≡ reported contents_words (file_numbers x) res.old }
+pub fn report_read<E: Refuses>(x: Result<Contents, E>, res: &mut [usize; 5]) -> u32
+    ensures value { result ≡ number (answered_by E.told (λ c. c) x) }
+    ensures res_after { res.new ≡ reported contents_words (answered_by E.told (λ c. c) x) res.old }
 {
     match x {
         Ok(c) => {
@@ -33,38 +31,39 @@ pub fn report_read(x: Result<Contents, Refusal>, res: &mut [usize; 5]) -> u32
             ];
             0
         }
-        Err(refusal) => refusal_number(refusal),
+        Err(refused_read) => refusal_number(refused_read),
     }
 }
 
 // Reports what a write of a grammar file or a scan answered: the number of bytes that were written, or of tokens.
-pub fn report_count(x: Result<usize, Refusal>, res: &mut [usize; 1]) -> u32
-    ensures value { result ≡ number (count_numbers x) }
-    ensures res_after { res.new ≡ reported count_words (count_numbers x) res.old }
+pub fn report_count<E: Refuses>(x: Result<usize, E>, res: &mut [usize; 1]) -> u32
+    ensures value { result ≡ number (count_numbers E.told x) }
+    ensures res_after { res.new ≡ reported count_words (count_numbers E.told x) res.old }
 {
     match x {
         Ok(count) => {
             *res = [count];
             0
         }
-        Err(refusal) => refusal_number(refusal),
+        Err(refused_count) => refusal_number(refused_count),
     }
 }
 
 // Reports a verdict, for 7 with the node.
-pub fn report_check(x: Result<(), Refusal>) -> u32
-    ensures { result ≡ number (check_numbers x) }
+pub fn report_check<E: Refuses>(x: Result<(), E>) -> u32
+    ensures { result ≡ number (answered_by E.told (λ u. u) x) }
 {
     match x {
         Ok(()) => 0,
-        Err(refusal) => refusal_number(refusal),
+        Err(refused_check) => refusal_number(refused_check),
     }
 }
 
 // Reports what a run answered, wherever it began.
-pub fn report(x: Result<Ran, Refusal>, res: &mut [usize; 7]) -> u32
-    ensures by_index { (place : ℕ) → result ≡ number (numbers place x) }
-    ensures by_index_2 { (place : ℕ) → RunReported place res.old (numbers place x) res.new }
+#[tactic(auto, using(crate::proofs::ReportLaws::run_refused))]
+pub fn report<E: Refuses>(x: Result<Ran, E>, res: &mut [usize; 7]) -> u32
+    ensures by_index { (place : ℕ) → result ≡ number (answered_by E.told (ran_to place) x) }
+    ensures by_index_2 { (place : ℕ) → RunReported place res.old (answered_by E.told (ran_to place) x) res.new }
 {
     match x {
         Ok(Ran::Success(read, s)) => {
@@ -76,36 +75,35 @@ pub fn report(x: Result<Ran, Refusal>, res: &mut [usize; 7]) -> u32
             res[6] = farthest as usize;
             0
         }
-        Err(refusal) => refusal_number(refusal),
+        Err(refused_run) => refusal_number(refused_run),
     }
 }
 
 // Reports what a run that lists answered, wherever it began.
-pub fn report_list(x: Result<Listed, Refusal>, res: &mut [usize; 8]) -> u32
-    ensures by_index { (place : ℕ) → result ≡ number (list_numbers place x) }
-    ensures by_index_2 { (place : ℕ) → ListReported place res.old (list_numbers place x) res.new }
+#[tactic(auto, using(crate::proofs::ListLaws::list_is_refused))]
+pub fn report_list<E: Refuses>(x: Result<Listed, E>, res: &mut [usize; 8]) -> u32
+    ensures by_index { (place : ℕ) → result ≡ number (answered_by E.told (listed_to place) x) }
+    ensures by_index_2 { (place : ℕ) → ListReported place res.old (answered_by E.told (listed_to place) x) res.new }
 {
     match x {
-        Ok(listed) => match listed.ran {
-            Ran::Success(read, s) => {
-                let w = success_words(read, s);
-                *res = [w[0], w[1], w[2], w[3], w[4], w[5], w[6], listed.captures];
-                0
-            }
-            Ran::Failure(farthest) => {
-                res[0] = 0;
-                res[6] = farthest as usize;
-                0
-            }
-        },
-        Err(refusal) => refusal_number(refusal),
+        Ok(Listed::Success(read, s, count)) => {
+            let w = success_words(read, s);
+            *res = [w[0], w[1], w[2], w[3], w[4], w[5], w[6], count];
+            0
+        }
+        Ok(Listed::Failure(farthest)) => {
+            res[0] = 0;
+            res[6] = farthest as usize;
+            0
+        }
+        Err(refused_list) => refusal_number(refused_list),
     }
 }
 
 // Reports where a shown text lies: its offset, its length and which slice, 0 for the report and 1 for the grammar file.
-pub fn report_shown(x: Result<ShownPart, Refusal>, res: &mut [usize; 3]) -> u32
-    ensures value { result ≡ number (shown_numbers x) }
-    ensures res_after { res.new ≡ reported part_words (shown_numbers x) res.old }
+pub fn report_shown<E: Refuses>(x: Result<ShownPart, E>, res: &mut [usize; 3]) -> u32
+    ensures value { result ≡ number (answered_by E.told lies_at x) }
+    ensures res_after { res.new ≡ reported part_words (answered_by E.told lies_at x) res.old }
 {
     match x {
         Ok(ShownPart::InReport { offset, length }) => {
@@ -116,19 +114,18 @@ pub fn report_shown(x: Result<ShownPart, Refusal>, res: &mut [usize; 3]) -> u32
             *res = [offset, length, 1];
             0
         }
-        Err(refusal) => refusal_number(refusal),
+        Err(refused_text) => refusal_number(refused_text),
     }
 }
 
 // The number of a refusal, for 7 with the node.
-fn refusal_number(refusal: Refusal) -> u32
-    ensures { result ≡ number (turned_down {A = Unit} refusal) }
+fn refusal_number<E: Refuses>(refusal: E) -> u32
+    ensures { result ≡ number (answer_of {A = Unit} (E.told refusal)) }
 {
-    let node = match refusal {
-        Refusal::IllFormed(node) => node,
-        _ => 0,
-    };
-    refusal.number() as u32 + 65536 * (node as u32)
+    match refusal.told() {
+        Told::Number(number) => number as u32,
+        Told::IllFormed(node) => 7 + 65536 * (node as u32),
+    }
 }
 
 // The words of a success.

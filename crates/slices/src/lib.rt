@@ -29,12 +29,15 @@ pub fn copy(bytes: &[u8], out: &mut [u8]) -> usize
     bytes.len()
 }
 
-// Puts bytes into a lent slice from an index on. A slice that is too short for them is left as it is.
+// Puts bytes into a lent slice from an index on. A slice that is too short for them is left as it is. A loop, since the
+// library's copy has the archive for C ask for memmove.
 pub fn put(bytes: &[u8], out: &mut [u8], at: usize)
     ensures { out.new ≡ placed at bytes.now out.old }
 {
     if bytes.len() <= out.len() && at <= out.len() - bytes.len() {
-        out[at..at + bytes.len()].copy_from_slice(bytes);
+        for i in 0..bytes.len() {
+            out[at + i] = bytes[i];
+        }
     }
 }
 

@@ -1,9 +1,6 @@
 -- Spellings one by one, and what it means that two are the same.
 use Rattle.std.specs.Prelude.{Option, None, Some, slice_get}
 use Rattle.std.specs.Option.{option_copied, option_eq}
-use Rattle.std.specs.Cmp.Lexicographic.{pointwise}
-use Rattle.std.proofs.lemmas.Bool.Decides.{Decides-eqb, same_from_decides}
-use Rattle.std.proofs.lemmas.Slice.Eq.{slice_eq-Decides}
 use denote.Ref.{Bor}
 use Prim.Native.Nat.{◌-◌, ℕ, zero, suc, ◌<◌}
 use mathlib.Core.Path.{◌≡◌, refl, sym, ap, ap₂, ◌∙◌}
@@ -47,10 +44,6 @@ same_self s =
 -- Two spellings that are the same byte for byte are equal, and equal ones are the same.
 pub same_exactly : (s t : List ℕ) → (same_bytes s t ≡ true) ↔ (s ≡ t)
 same_exactly s t = (same_equal s t, λ e. rw e (same_self t))
-
--- What slices are compared by.
-pub pointwise_same : (s t : List ℕ) → pointwise eqb s t ≡ same_bytes s t
-pointwise_same s t = same_from_decides _ _ (slice_eq-Decides Decides-eqb s t _ refl) (same_exactly s t)
 
 -- Values that are there alike are the same.
 copied_same : (x y : Option (Bor ℕ)) → option_copied x ≡ option_copied y → option_eq (λ a b. eqb a.now b.now) x y ≡ true

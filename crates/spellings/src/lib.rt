@@ -34,12 +34,22 @@ pub fn key(s: &[u8]) -> usize
     sum as usize % KEYS
 }
 
-// Whether two spellings are the same: the last bytes first, since keywords of one list often differ there alone.
-#[tactic(auto, using(crate::proofs::SpellingLaws::pointwise_same))]
+// Whether two spellings are the same: the lengths first, then the last bytes, since keywords of one list often differ there
+// alone, then all bytes, without a way out of the loop.
 pub fn same(s: &[u8], t: &[u8]) -> bool
     ensures { result ≡ same_bytes s.now t.now }
 {
-    s.last() == t.last() && s == t
+    if s.len() != t.len() {
+        return false;
+    }
+    if s.last() != t.last() {
+        return false;
+    }
+    let mut equal = true;
+    for (a, b) in s.iter().zip(t) {
+        equal &= a == b;
+    }
+    equal
 }
 
 // 1 to 32 bytes, each of them visible.

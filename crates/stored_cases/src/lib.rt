@@ -111,9 +111,12 @@ fn rest_of(bytes: &[u8], at: usize) -> &[u8]
 fn bytes_at<const N: usize>(bytes: &[u8], at: usize) -> [u8; N]
     ensures { (k : ℕ) → k < N → get_or result k 0 ≡ get_or bytes.now (at + k) 0 }
 {
+    let rest = rest_of(bytes, at);
+    if let Some(found) = rest.first_chunk::<N>() {
+        return *found;
+    }
     let mut found = [0; N];
-    let there = part(bytes, at, N);
-    found[..there.len()].copy_from_slice(there);
+    found[..rest.len()].copy_from_slice(rest);
     found
 }
 
@@ -300,19 +303,21 @@ pub fn show(text: &[u8], numbers: &[u64]) -> usize
 pub fn show_each<W: Copy + Into<u64>>(words: &[W]) -> usize
     ensures { result ≡ length words.now }
 {
+    let mut shown = 0;
     for word in words {
-        show_one(b"", (*word).into());
+        shown += show_one(b"", (*word).into());
     }
-    words.len()
+    shown
 }
 
 // Prints words of tokens or captures, a bar before each four. The answer is how many there were.
 pub fn show_fours(words: &[u32]) -> usize
     ensures { result ≡ length words.now }
 {
+    let mut shown = 0;
     for four in words.chunks(4) {
         io::write_all(STDOUT, b" |");
-        show_each(four);
+        shown += show_each(four);
     }
-    words.len()
+    shown
 }

@@ -47,7 +47,7 @@ shown_upper (At column) = 4
 shown_upper Endless = 3
 
 -- How many numbers are printed of what a run ended in.
-abbrev pub shown_count : Result Ran Refusal → ℕ
+abbrev pub shown_count : {E : Type 0} → Result Ran E → ℕ
 shown_count (Ok (Success read state)) = shown_upper state.interval.upper
 shown_count (Ok (Failure farthest)) = 1
 shown_count (Err refusal) = 1

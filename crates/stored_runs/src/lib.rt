@@ -5,13 +5,13 @@
 pub mod remembering;
 
 ghost use Rattle.std.specs.Prelude.{◌≡◌, length};
-ghost use Rattle.interpreter.specs.declared.Ran.TheVariants.{Success};
 ghost use Rattle.stored_runs.specs.Runs.{start_of, upper_of, flag_of, Answers, StoredAnswers, shown_count, shown_upper};
 ghost use Rattle.stored_cases.specs.Numbers.{first_pairs, first_quads, quads};
 ghost use Rattle.line.specs.Line.{line_count};
 
 use columns::{Interval, Reading, Start, State, Upper};
 use interpreter::Ran;
+use refusal_numbers::{Refuses, Told};
 use stored_cases::{NODE_WORDS, RULE_WORDS, TOKEN_WORDS, byte, load, pair, quad, show_one, zeros};
 use table::Refusal;
 
@@ -131,20 +131,22 @@ fn run_over(
 
 // Prints `success` with the tokens read, the interval's ends, the flag and the farthest place, `failure` with the farthest
 // place, or `refused` with the number, and for 7 the node. The answer is how many numbers that were.
-pub fn show(ran: Result<Ran, Refusal>) -> usize
+pub fn show<E: Refuses>(ran: Result<Ran, E>) -> usize
     ensures { result ≡ shown_count ran }
 {
     match ran {
         Ok(Ran::Success(read, state)) => show_success(read, state),
         Ok(Ran::Failure(farthest)) => show_one(b"failure", farthest as u64),
-        Err(Refusal::IllFormed(node)) => show_one(b"refused 7", node as u64),
-        Err(refusal) => show_one(b"refused", refusal.number() as u64),
+        Err(refusal) => match refusal.told() {
+            Told::Number(number) => show_one(b"refused", number as u64),
+            Told::IllFormed(node) => show_one(b"refused 7", node as u64),
+        },
     }
 }
 
 // Prints `success` with the tokens read and the state.
 fn show_success(read: u32, state: State) -> usize
-    ensures { result ≡ shown_count (Ok (Success read state)) }
+    ensures { result ≡ shown_upper state.interval.upper }
 {
     let interval = state.interval;
     let upper = interval.upper;

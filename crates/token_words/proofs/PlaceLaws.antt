@@ -1,5 +1,5 @@
 -- The places of a text, one by one: the definition by offsets, a walk through the bytes, and the next place from a position.
-use Prim.Native.Nat.{ℕ, zero, suc, ◌+◌, ◌-◌, ◌*◌, ◌≤◌}
+use Prim.Native.Nat.{ℕ, zero, suc, ◌+◌, ◌-◌, ◌*◌, ◌≤◌, ◌<◌}
 use mathlib.Core.Path.{◌≡◌, refl, sym, ap, ap₂, ◌∙◌}
 use mathlib.Core.Bool.{Bool, true, false, true≢false, false≢true}
 use mathlib.Core.List.{List, [], ◌∷◌, ◌++◌, append_assoc}
@@ -163,14 +163,29 @@ abbrev pub listed : Option Place → List Place → List Place
 listed None ps = []
 listed (Some p) ps = p ∷ ps
 
+abbrev pub bit : Bool → ℕ
+bit true = 1
+bit false = 0
+
+-- A number falls where a place was found.
+abbrev pub falls_of : Option Place → ℕ → ℕ → Type 0
+falls_of None less more = Unit
+falls_of (Some p) less more = less < more
+
 -- What a move through some bytes from a position on is: it goes some bytes on, and the places of the bytes are what it
--- found and those of the bytes that are left. Columns grow by 8 a byte at most.
+-- found and those of the bytes that are left. Columns grow by 8 a byte at most, and fewer bytes or a mark less are left
+-- behind a place.
 pub record Goes (bytes : List ℕ) (o c : ℕ) (m : Bool) (v : Move) : Type 0 where
   pub steps : ℕ
   pub reached : v.reached.offset ≡ o + steps
   pub within : steps ≤ length bytes
   pub wide : v.reached.column + 8 * (length bytes - steps) ≤ c + 8 * length bytes
   pub list : places_of bytes o c m false ≡ listed v.found (places_of (drop steps bytes) (o + steps) v.reached.column v.reached.mark false)
+  pub falls : falls_of v.found (2 * (length bytes - steps) + bit v.reached.mark) (2 * length bytes + bit m)
+
+falls_more : (f : Option Place) (a b x y : ℕ) → a ≡ b → x ≤ y → falls_of f a x → falls_of f b y
+falls_more None a b x y e l h = tt
+falls_more (Some p) a b x y e l h = omega arith
 
 -- A byte that is passed over.
 goes_over :
@@ -198,6 +213,9 @@ goes_over b bytes o c m e g =
           (λ (j : ℕ).
           listed v.found (places_of (drop g.steps bytes) j v.reached.column v.reached.mark false))
           on;
+      falls = falls_more v.found (2 * (length bytes - g.steps) + bit v.reached.mark)
+          (2 * (suc (length bytes) - suc g.steps) + bit v.reached.mark) (2 * length bytes + bit m)
+          (2 * suc (length bytes) + bit m) (omega arith) (omega arith) g.falls;
     })
 
 -- The columns of a run grow by 8 a byte at most.
@@ -229,6 +247,7 @@ goes_run b bytes o c m e =
           (run_skip bytes (o + 1) (column_after b c)
           ∙ ap (λ (j : ℕ). places_of (drop n bytes) j (column_over (take n bytes) (column_after b c)) true false)
           on);
+      falls = omega (arith, w);
     })
 
 -- A line's end by a break, and a single byte.
@@ -249,6 +268,7 @@ goes_break b bytes o c m e p =
       list =
           ap₂ (λ (l : List Place) (k : Bool). l ++ places_of bytes (o + 1) (column_after b c) k (in_run b)) q.0 q.1
           ∙ ap₂ (λ (t : Bool) (d : ℕ). line_end true c o ++ places_of bytes (o + 1) d false t) q.2 q.3;
+      falls = omega arith;
     })
 
 goes_single :
@@ -269,13 +289,14 @@ goes_single b bytes o c m e k p =
       list =
           ap₂ (λ (l : List Place) (t : Bool). l ++ places_of bytes (o + 1) (column_after b c) t (in_run b)) q.0 q.1
           ∙ ap (λ (t : Bool). spelling c o 1 ++ places_of bytes (o + 1) (column_after b c) true t) e;
+      falls = omega arith;
     })
 
 -- The end of the text.
 goes_end : (o c : ℕ) (m : Bool) → Goes [] o c m (next_place [] o c m)
 unfolding places_of next_place
-goes_end o c true = record { steps = 0; reached = sym (add-zero o); within = omega arith; wide = omega arith; list = refl }
-goes_end o c false = record { steps = 0; reached = sym (add-zero o); within = omega arith; wide = omega arith; list = refl }
+goes_end o c true = record { steps = 0; reached = sym (add-zero o); within = omega arith; wide = omega arith; list = refl; falls = omega arith }
+goes_end o c false = record { steps = 0; reached = sym (add-zero o); within = omega arith; wide = omega arith; list = refl; falls = tt }
 
 -- Every move goes so.
 goes_first : (b : ℕ) (bytes : List ℕ) (o c : ℕ) (m : Bool) (over run brk : Bool) → passed_over b m ≡ over → in_run b ≡ run → passed_over b false ≡ brk
@@ -289,18 +310,22 @@ goes : (bytes : List ℕ) (o c : ℕ) (m : Bool) → Goes bytes o c m (next_plac
 goes [] o c m = goes_end o c m
 goes (b ∷ bytes) o c m = goes_first b bytes o c m (passed_over b m) (in_run b) (passed_over b false) refl refl refl (goes bytes (o + 1) (column_after b c) m)
 
--- The places of a text from a position on.
+-- The places of a text from a position on, and how much is left there.
 unfoldable pub places_from : List ℕ → Position → List Place
 places_from text p = places_of (drop p.offset text) p.offset p.column p.mark false
+
+unfoldable pub left : List ℕ → Position → ℕ
+left text p = 2 * (length text - p.offset) + bit p.mark
 
 -- A move from a position in a text with room.
 pub record Onward (text : List ℕ) (p : Position) (v : Move) : Type 0 where
   pub room : Room text v.reached.offset v.reached.column
   pub wide : v.reached.column + 8 * (length text - v.reached.offset) ≤ p.column + 8 * (length text - p.offset)
   pub list : places_from text p ≡ listed v.found (places_from text v.reached)
+  pub falls : falls_of v.found (left text v.reached) (left text p)
 
 pub onward : (text : List ℕ) (p : Position) → Room text p.offset p.column → Onward text p (next_in text p)
-unfolding places_from
+unfolding places_from left
 onward text p r =
     let o : ℕ = p.offset in
     let v : Move = next_in text p in
@@ -321,6 +346,9 @@ onward text p r =
           (drop-drop g.steps o text)
           ∙ ap (λ (j : ℕ). listed v.found (places_of (drop j text) j v.reached.column v.reached.mark false))
           (sym at);
+      falls = falls_more v.found (2 * (length (drop o text) - g.steps) + bit v.reached.mark)
+          (2 * (length text - v.reached.offset) + bit v.reached.mark) (2 * length (drop o text) + bit p.mark)
+          (2 * (length text - o) + bit p.mark) (omega (arith, r.within, g.within)) (omega arith) g.falls;
     }
 
 -- From the start a text has its places.

@@ -44,18 +44,16 @@ impl<'a> Index<'a> {
     }
 }
 
-// Where each of so many keywords stands.
-pub(crate) fn starts(file: &[u8], count: usize) -> [usize; KEYWORDS]
+// Where each of so many keywords stands. The array is lent, so that none is copied.
+pub(crate) fn starts(file: &[u8], count: usize, offsets: &mut [usize; KEYWORDS])
     requires { count ≤ most_keywords }
-    ensures { Starts file.now count result }
+    ensures { Starts file.now count offsets.new }
 {
-    let mut offsets = [0; KEYWORDS];
     let mut at = grammar_file::FIRST_KEYWORD;
     for k in 0..count {
         offsets[k] = at;
         at = next_at(file, at);
     }
-    offsets
 }
 
 // The first keyword of each key, and behind each keyword the next one of its key, from the last keyword to the first.

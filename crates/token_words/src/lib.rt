@@ -60,7 +60,8 @@ fn write(file: &[u8], keywords: usize, report: &[u8], tokens: &mut [u32])
     requires report_in_bounds { length (places report.now) * 4 ≤ length tokens.old }
     ensures { tokens.new ≡ written file.now keywords report.now tokens.old }
 {
-    let offsets = starts(file, keywords);
+    let mut offsets = [0; KEYWORDS];
+    starts(file, keywords, &mut offsets);
     let mut firsts = [None; KEYS];
     let mut nexts = [None; KEYWORDS];
     link(file, keywords, &offsets, &mut firsts, &mut nexts);

@@ -1,10 +1,7 @@
 -- `places::find_within` meets its contract.
 use Rattle.std.proofs.Common.{◌∙◌, arith}
-use Rattle.places.proofs.FindLaws.{found_end, found_none, found_break, found_single, found_run}
+use Rattle.places.proofs.FindLaws.{found_none, found_break, found_single}
 use Rattle.places.proofs.find_within.Goals as goal
-
-pub returns-then-here : goal.returns-then-here
-returns-then-here c = c.line_end.ensures ∙ found_end c.args.report.now c.skip-here.ensures c.if-here-report.true c.if-here.true
 
 pub returns-else-here : goal.returns-else-here
 returns-else-here c = c.nothing.ensures ∙ found_none c.args.report.now c.skip-here.ensures c.if-here-report.true c.if-here.false
@@ -18,9 +15,3 @@ pub returns-in-Single : goal.returns-in-Single
 returns-in-Single c =
     rw (c.spelling.ensures, c.column_by.ensures, c.in-Single.is)
     (found_single c.args.report.now c.skip-here.ensures (omega (arith, c.skip-here.ensures.room.within)) c.class_of-class.ensures c.in-Single.is)
-
-pub returns-in_default : goal.returns-in_default
-returns-in_default c =
-    c.spelling-in_default.ensures
-    ∙ found_run c.args.report.now c.skip-here.ensures (omega (arith, c.skip-here.ensures.room.within)) c.class_of-class.ensures
-    c.in_default.not-Break c.in_default.not-Single c.column_by.ensures c.run_end.ensures

@@ -15,9 +15,9 @@ pub loop-offset-preserved : goal.loop-offset-preserved
 unfolding passed_over column_after
 loop-offset-preserved c =
     let byte : ℕ = get_or c.args.report.now c.loop-offset.offset 0 in
-    let over : passed_by (class_of byte) c.args.from.mark ≡ true = cc in
+    let over : passed_by (class_of byte) c.past_blanks-start.result.mark ≡ true = cc in
     let column : c.column_by-column.result ≡ column_by (class_of byte) c.loop-offset.column = cc in (
       room_next c.loop-offset.invariant.0 c.loop-offset-test.true byte column,
       c.loop-offset.invariant.1
-          ∙ skip_on c.args.report.now c.loop-offset.offset c.loop-offset.column c.args.from.mark c.loop-offset-test.true over column,
+          ∙ skip_on c.args.report.now c.loop-offset.offset c.loop-offset.column c.past_blanks-start.result.mark c.loop-offset-test.true over column,
     )

@@ -1,14 +1,17 @@
 -- `reported::report_list` meets its contract.
 use Rattle.reported.specs.Reported.{list_failure}
-use Rattle.reported.proofs.ListLaws.{listed, list_is_refused}
+use Rattle.reported.proofs.ListLaws.{listed}
 use Rattle.reported.proofs.report_list.Goals as goal
 
-pub returns-in-Success-clause-by_index_2 : goal.returns-in-Success-clause-by_index_2
-returns-in-Success-clause-by_index_2 c = λ place. rw (c.in-Ok.is, c.in-Success.is)
-    (listed c.in-Success.read c.in-Success.s c.in-Ok.listed.captures place c.args.res.now c.success_words-w.ensures)
+pub returns-in-Ok-Success-clause-by_index_2 : goal.returns-in-Ok-Success-clause-by_index_2
+returns-in-Ok-Success-clause-by_index_2 g c =
+    λ place.
+    let list = rw c.in-Ok-Success.is at c.in-Ok-Success.field-0-is in
+    rw (c.in-Ok-Success.is, list)
+    (listed c.in-Ok-Success.read c.in-Ok-Success.s c.in-Ok-Success.count place c.args.res.now c.success_words-w.ensures)
 
-pub returns-in-Failure-clause-by_index_2 : goal.returns-in-Failure-clause-by_index_2
-returns-in-Failure-clause-by_index_2 c = λ place. rw (c.in-Ok.is, c.in-Failure.is) list_failure
-
-pub returns-in-Err-clause-by_index_2 : goal.returns-in-Err-clause-by_index_2
-returns-in-Err-clause-by_index_2 c = λ place. rw c.in-Err.is (list_is_refused c.in-Err.refusal place c.args.res.now)
+pub returns-in-Ok-Failure-clause-by_index_2 : goal.returns-in-Ok-Failure-clause-by_index_2
+returns-in-Ok-Failure-clause-by_index_2 g c =
+    λ place.
+    let list = rw c.in-Ok-Failure.is at c.in-Ok-Failure.field-0-is in
+    rw (c.in-Ok-Failure.is, list) list_failure

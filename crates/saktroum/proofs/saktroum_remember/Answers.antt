@@ -1,10 +1,15 @@
 -- `saktroum::saktroum_remember` meets its contract.
+use mathlib.Core.Path.{◌∙◌}
+use Rattle.interpreter.specs.Numbers.{ran_to}
+use Rattle.refusal_numbers.proofs.ToldLaws.{answers_as}
 use Rattle.saktroum.proofs.saktroum_remember.Goals as goal
 
 pub returns : goal.returns
 returns c =
+    let place = c.start_from-start.result.place in
+    let answer = answers_as (ran_to place) c.remember-x.result ∙ c.remember-x.ensures.result_value in
     record {
-      value = rw (c.remember-x.ensures.result_value, c.start_from-start.ensures, c.reading.ensures) at (c.report.ensures.by_index c.start_from-start.result.place);
+      value = rw (answer, c.start_from-start.ensures, c.reading.ensures) at (c.report.ensures.by_index place);
       memory_after = rw (c.start_from-start.ensures, c.reading.ensures) at c.remember-x.ensures.memory_after;
-      run_reported = rw (c.remember-x.ensures.result_value, c.start_from-start.ensures, c.reading.ensures) at (c.report.ensures.by_index_2 c.start_from-start.result.place);
+      run_reported = rw (answer, c.start_from-start.ensures, c.reading.ensures) at (c.report.ensures.by_index_2 place);
     }

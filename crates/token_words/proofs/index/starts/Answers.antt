@@ -8,7 +8,7 @@ use Rattle.token_words.proofs.index.starts.Goals as goal
 
 pub loop-k-init : goal.loop-k-init
 unfolding offset_of
-loop-k-init c = (refl, refl, record { room = omega arith; each = λ i h. absurd (omega arith) })
+loop-k-init c = (omega arith, refl, record { room = omega arith; each = λ i h. absurd (omega arith) })
 
 pub loop-k-preserved : goal.loop-k-preserved
 loop-k-preserved c = (
