@@ -43,11 +43,15 @@ pub struct Move {
     pub reached: Position,
 }
 
-// Behind the blanks at a position. A line of an indented report begins with many, so they have a loop of their own.
+// Behind the blanks that a line begins with; where the line has had a token, the position itself. An indented line begins
+// with many blanks, so they have a loop of their own.
 fn past_blanks(report: &[u8], from: Position) -> Position
     requires { Room report.now from.offset from.column }
     ensures { Past report.now from result }
 {
+    if from.mark {
+        return from;
+    }
     let mut column = from.column;
     for offset in from.offset..report.len() {
         if report[offset] != b' ' {
@@ -67,6 +71,7 @@ fn past_blanks(report: &[u8], from: Position) -> Position
 }
 
 // The first position from one on whose byte is not passed over, or the end.
+#[inline(always)]
 fn skip(report: &[u8], from: Position) -> Position
     requires { Room report.now from.offset from.column }
     ensures { Skipped report.now from result }
@@ -116,7 +121,8 @@ fn run_end(report: &[u8], from: Position) -> Position
 }
 
 // The next token's place from a position on; nothing, and the position itself, where the offset is past the report or its
-// columns have no room.
+// columns have no room. Here and in what it is made of, `inline` keeps a position in registers from token to token.
+#[inline(always)]
 pub fn find(report: &[u8], from: Position) -> Move
     ensures { result ≡ next_within report.now from }
 {
@@ -129,6 +135,7 @@ pub fn find(report: &[u8], from: Position) -> Move
 
 // The next token's place where there is room.
 #[tactic(auto, using(crate::proofs::FindLaws::found_end, crate::proofs::FindLaws::found_run))]
+#[inline(always)]
 fn find_within(report: &[u8], from: Position) -> Move
     requires { Room report.now from.offset from.column }
     ensures { result ≡ next_in report.now from }
