@@ -47,12 +47,8 @@ Derived reading nodes rules words start (Err refusal) = Unit
 
 -- The same for each case of `Listed`; a success also has the number of captures, since a capture may be four zeros.
 abbrev pub listed_to : ℕ → Listed → Listing
-listed_to place (listed.Success read s n) =
-    record {
-      ended = record { outcome = success (place + read, s.interval, s.flag); farthest = s.farthest };
-      count = n;
-    }
-listed_to place (listed.Failure farthest) = record { ended = failing farthest; count = 0 }
+listed_to place (listed.Success read s n) = record { ended = ran_to place (Success read s); count = n }
+listed_to place (listed.Failure farthest) = record { ended = ran_to place (Failure farthest); count = 0 }
 
 -- 01's number and values for each answer of a run that lists.
 abbrev pub list_numbers : ℕ → Result Listed Refusal → Answer Listing
