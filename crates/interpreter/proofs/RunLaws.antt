@@ -59,7 +59,7 @@ by_room (refused_at k m) n places x written lent = either_way (leb n places) len
 
 module _ (reading : Reading) (nodes rules words : List ℕ) (start : Start) where
   -- What refuses a walk refuses a run.
-  run_refused : (r : Refusal) → turned_down r ≡ walk_answer reading nodes rules words start → turned_down r ≡ run_answer reading nodes rules words start
+  pub run_refused : (r : Refusal) → turned_down r ≡ walk_answer reading nodes rules words start → turned_down r ≡ run_answer reading nodes rules words start
   unfolding walk_answer
   run_refused r e = refused_first Listing r (run_answer reading nodes rules words start) _ e
 
@@ -73,7 +73,7 @@ module _ (reading : Reading) (nodes rules words : List ℕ) (start : Start) wher
     pub shows : Shown x
     pub counted : n ≡ min (length (our_captures reading nodes rules words start)) most_count
 
-  shown : {x : Ended} → given x ≡ run_answer reading nodes rules words start → Shown x
+  pub shown : {x : Ended} → given x ≡ run_answer reading nodes rules words start → Shown x
   shown {x} e =
       let l = answered_within reading nodes rules words start x (sym e) in
       let p : given x ≡ given (our_end reading nodes rules words start) = e ∙ outcome_answered reading nodes rules words start l.0 l.1 in
@@ -99,7 +99,7 @@ module _ (reading : Reading) (nodes rules words : List ℕ) (start : Start) wher
   shown_by x (refused k) p e = absurd (let z : ◌≡◌ {A = ℕ} 0 1 = cc in omega arith)
   shown_by x (refused_at k m) p e = absurd (let z : ◌≡◌ {A = ℕ} 0 1 = cc in omega arith)
 
-  shown_list :
+  pub shown_list :
       {x : Ended} {n : ℕ}
       → given (record { ended = x; count = n }) ≡ walk_answer reading nodes rules words start
       → ShownList x n
@@ -121,12 +121,12 @@ module _ (reading : Reading) (nodes rules words : List ℕ) (start : Start) wher
   reached u w = record { outcome = success (w, u.interval, u.flag); farthest = u.farthest }
 
   module _ (u : State) (h : Shown (end_of u)) where
-    onward_to : start.place ≤ u.place
-    onward_to = onward ends reading nodes rules (tokens_of words) (derived h).run
+    pub success_onward : start.place ≤ u.place
+    success_onward = onward ends reading nodes rules (tokens_of words) (derived h).run
 
     -- The tokens read end at the walk's place.
     read : Reads start.place (u.place - start.place) u.place
-    read = let l = onward_to in omega arith
+    read = let l = success_onward in omega arith
 
   -- What a run answers, by the case of the walk's outcome.
   module _ {o : Outcome} (e : given (walk_end o) ≡ run_answer reading nodes rules words start) where
@@ -138,7 +138,7 @@ module _ (reading : Reading) (nodes rules words : List ℕ) (start : Start) wher
     run_succeeded {u} i = let h : Shown (end_of u) = shown (rw i at e) in (derived h, read u h)
 
     pub run_onward : {u : State} → o ≡ columns.Success u → start.place ≤ u.place
-    run_onward {u} i = onward_to u (shown (rw i at e))
+    run_onward {u} i = success_onward u (shown (rw i at e))
 
   -- A failure lists none.
   failed_none :
@@ -159,10 +159,13 @@ module _ (reading : Reading) (nodes rules words : List ℕ) (start : Start) wher
     unfolding list_after walk_after list_answer fails13
     list_leaves = by_room (run_answer reading nodes rules words start) _ _ _ _ lent
 
-    -- What refuses a walk refuses a run that lists.
-    pub list_refused : (r : Refusal) → turned_down r ≡ walk_answer reading nodes rules words start → list_answer reading nodes rules words start (length lent) ≡ turned_down r
+    -- What refuses a run refuses one that lists, and so does what refuses a walk.
+    turned : (r : Refusal) → turned_down r ≡ run_answer reading nodes rules words start → list_answer reading nodes rules words start (length lent) ≡ turned_down r
     unfolding list_answer
-    list_refused r e = rw (← run_refused r e) (turned_first Ended r _)
+    turned r e = rw (← e) (turned_first Ended r _)
+
+    pub list_refused : (r : Refusal) → turned_down r ≡ walk_answer reading nodes rules words start → list_answer reading nodes rules words start (length lent) ≡ turned_down r
+    list_refused r e = turned r (run_refused r e)
 
     module _ (short : length lent < 2 ^ 64) {x : Ended} {n : ℕ} (h : ShownList x n) where
       thirteen : length lent / 4 < n → list_answer reading nodes rules words start (length lent) ≡ refused 13
@@ -201,8 +204,8 @@ module _ (reading : Reading) (nodes rules words : List ℕ) (start : Start) wher
     -- What a run that lists answers, by the walk's outcome and count.
     module _ (short : length lent < 2 ^ 64) (o : Outcome) {n : ℕ}
         (e : given (record { ended = walk_end o; count = n }) ≡ walk_answer reading nodes rules words start) where
-      pub list_13 : length lent / 4 < n → list_answer reading nodes rules words start (length lent) ≡ refused 13
-      list_13 k = thirteen short (shown_list e) k
+      pub list_short : length lent / 4 < n → list_answer reading nodes rules words start (length lent) ≡ refused 13
+      list_short k = thirteen short (shown_list e) k
 
       -- A failure lists none, so it has room.
       module _ {f : ℕ} (i : o ≡ columns.Failure f) where
@@ -224,7 +227,7 @@ module _ (reading : Reading) (nodes rules words : List ℕ) (start : Start) wher
         some = shown_list (rw i at e)
 
         pub list_onward : start.place ≤ u.place
-        list_onward = onward_to u some.shows
+        list_onward = success_onward u some.shows
 
         module _ (k : n ≤ length lent / 4) where
           pub list_succeeded :
@@ -236,3 +239,18 @@ module _ (reading : Reading) (nodes rules words : List ℕ) (start : Start) wher
               {l' : List ℕ} → l' ≡ walk_after reading nodes rules words start lent → length l' ≡ length lent
               → CapturesStand reading nodes rules words start (end_of u) n l' × Reads start.place (u.place - start.place) u.place
           list_succeeded_stands after m = (stands short some k after m, read u some.shows)
+
+    -- The answer, and the words that the walk left, where the run is refused or 13 refuses.
+    module _ {l' : List ℕ} (after : l' ≡ walk_after reading nodes rules words start lent) where
+      pub list_turned : (r : Refusal) → turned_down r ≡ run_answer reading nodes rules words start → turned_down r ≡ list_answer reading nodes rules words start (length lent)
+      list_turned r e = sym (turned r e)
+
+      pub list_untouched : (r : Refusal) → turned_down r ≡ run_answer reading nodes rules words start → l' ≡ list_after reading nodes rules words start lent
+      list_untouched r e = after ∙ sym list_leaves
+
+      module _ (short : length lent < 2 ^ 64) (m : length l' ≡ length lent) {x : Ended} {n : ℕ} (h : ShownList x n) where
+        -- 13.
+        pub list_13 :
+            length l' / 4 < n
+            → (refused 13 ≡ list_answer reading nodes rules words start (length lent)) × (l' ≡ list_after reading nodes rules words start lent)
+        list_13 k = (sym (thirteen short h (rw m at k)), after ∙ sym list_leaves)

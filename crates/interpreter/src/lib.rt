@@ -72,7 +72,7 @@ pub fn remember(
 
 // Runs a grammar and lists its captures in the lent words, four words each, with zeros behind them. A refused call writes
 // nothing. What it remembers stands in words of its own, since 13 refuses a call that has run.
-#[tactic(auto, using(crate::proofs::RunLaws::list_leaves, crate::proofs::RunLaws::list_refused, crate::proofs::RunLaws::list_13, crate::proofs::RunLaws::list_failed, crate::proofs::RunLaws::list_onward, crate::proofs::RunLaws::list_succeeded))]
+#[tactic(auto, using(crate::proofs::RunLaws::list_leaves, crate::proofs::RunLaws::list_refused, crate::proofs::RunLaws::list_short, crate::proofs::RunLaws::list_failed, crate::proofs::RunLaws::list_onward, crate::proofs::RunLaws::list_succeeded))]
 pub fn list(
     nodes: &[u16],
     rules: &[u16],
