@@ -159,14 +159,6 @@ module _ (reading : Reading) (nodes rules words : List ℕ) (start : Start) wher
     unfolding list_after walk_after list_answer fails13
     list_leaves = by_room (run_answer reading nodes rules words start) _ _ _ _ lent
 
-    -- What refuses a run refuses one that lists, and so does what refuses a walk.
-    turned : (r : Refusal) → turned_down r ≡ run_answer reading nodes rules words start → list_answer reading nodes rules words start (length lent) ≡ turned_down r
-    unfolding list_answer
-    turned r e = rw (← e) (turned_first Ended r _)
-
-    pub list_refused : (r : Refusal) → turned_down r ≡ walk_answer reading nodes rules words start → list_answer reading nodes rules words start (length lent) ≡ turned_down r
-    list_refused r e = turned r (run_refused r e)
-
     module _ (short : length lent < 2 ^ 64) {x : Ended} {n : ℕ} (h : ShownList x n) where
       thirteen : length lent / 4 < n → list_answer reading nodes rules words start (length lent) ≡ refused 13
       unfolding list_answer fails13
@@ -242,8 +234,12 @@ module _ (reading : Reading) (nodes rules words : List ℕ) (start : Start) wher
 
     -- The answer, and the words that the walk left, where the run is refused or 13 refuses.
     module _ {l' : List ℕ} (after : l' ≡ walk_after reading nodes rules words start lent) where
-      pub list_turned : (r : Refusal) → turned_down r ≡ run_answer reading nodes rules words start → turned_down r ≡ list_answer reading nodes rules words start (length lent)
-      list_turned r e = sym (turned r e)
+      pub list_turned :
+          (r : Refusal)
+          → turned_down r ≡ run_answer reading nodes rules words start
+          → turned_down r ≡ list_answer reading nodes rules words start (length lent)
+      unfolding list_answer
+      list_turned r e = rw (← e) (sym (turned_first Ended r _))
 
       pub list_untouched : (r : Refusal) → turned_down r ≡ run_answer reading nodes rules words start → l' ≡ list_after reading nodes rules words start lent
       list_untouched r e = after ∙ sym list_leaves
@@ -254,3 +250,10 @@ module _ (reading : Reading) (nodes rules words : List ℕ) (start : Start) wher
             length l' / 4 < n
             → (refused 13 ≡ list_answer reading nodes rules words start (length lent)) × (l' ≡ list_after reading nodes rules words start lent)
         list_13 k = (sym (thirteen short h (rw m at k)), after ∙ sym list_leaves)
+
+    -- What refuses a walk refuses a run that lists.
+    pub list_refused :
+        (r : Refusal)
+        → turned_down r ≡ walk_answer reading nodes rules words start
+        → list_answer reading nodes rules words start (length lent) ≡ turned_down r
+    list_refused r e = sym (list_turned refl r (run_refused r e))
